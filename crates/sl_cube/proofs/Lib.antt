@@ -1,0 +1,4 @@
+pub mod BitLemmas
+pub mod CubeLemmas
+pub mod HalfLemmas
+pub mod OutsideLemmas
