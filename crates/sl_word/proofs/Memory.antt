@@ -1,0 +1,79 @@
+-- Bytes in pages, and numbers laid out in bytes.
+use Rattle.std.proofs.Common.{◌≡◌, ◌≢◌, ℕ, suc, ◌+◌, ◌*◌, ◌%◌, ◌^◌, ◌<◌, get_or, refl, sym, ◌∙◌, ap, inl, inr, eqb, cond, add-one, arith}
+use Rattle.std.specs.Prelude.{replicate}
+use Rattle.std.proofs.lemmas.List.{get_or-replicate, get_or_past, length-replicate}
+use Rattle.std.proofs.lemmas.Bool.{cases_lt}
+use Rattle.std.proofs.lemmas.Nat.{mul-add-lt}
+use Rattle.std.proofs.lemmas.Bool.Decides.{nat_tests}
+use Rattle.std.proofs.Math.Nat.{mod-lt, mod-add-mod, mod-eq_of_lt, pow-suc}
+use Rattle.sl_word.specs.Layout.{Puts, little_endian, big_endian}
+use Rattle.sl_word.proofs.Powers.{bytes-bits, bytes_mono, bytes_pos}
+use Rattle.sl_word.proofs.TwosComplement.{sum-cut}
+
+-- a list of zeros has a 0 at each place, also past its end
+pub get_or-zeros : (n i : ℕ) → get_or {A = ℕ} (replicate n 0) i 0 ≡ 0
+get_or-zeros n i =
+    elim (cases_lt i n) [
+      | inl h ↦ get_or-replicate n i 0 0 h
+      | inr h ↦ get_or_past (replicate n 0) i 0 (omega (arith, length-replicate {A = ℕ} n 0))
+    ]
+
+-- Two places after a base, both below m, differ also round the end.
+pub apart : (base i j m : ℕ) → i < m → j < m → (base + i) % m ≡ (base + j) % m → i ≡ j
+apart base i j m hi hj same =
+    let r : base % m < m = mod-lt base (omega arith) in
+    let at_i = mod-add-mod base m i in
+    let at_j = mod-add-mod base m j in
+    elim (sum-cut (base % m) i m r hi) [
+      | inl p ↦ elim (sum-cut (base % m) j m r hj) [ inl q ↦ omega (arith, at_i, at_j) | inr q ↦ omega (arith, at_i, at_j) ]
+      | inr p ↦ elim (sum-cut (base % m) j m r hj) [ inl q ↦ omega (arith, at_i, at_j) | inr q ↦ omega (arith, at_i, at_j) ]
+    ]
+
+-- what one write leaves at its offset, and at another
+write_here : (a v : ℕ) (mid new : ℕ → ℕ) → ((o : ℕ) → new o ≡ cond (eqb a o) v (mid o)) → new a ≡ v
+write_here a v mid new e = grind (arith, nat_tests, e a)
+
+write_other : (a v o : ℕ) (mid new : ℕ → ℕ) → ((o : ℕ) → new o ≡ cond (eqb a o) v (mid o)) → o ≢ a → new o ≡ mid o
+write_other a v o mid new e apart = grind (arith, nat_tests, e o)
+
+pub Puts-none : (m base : ℕ) (byte old : ℕ → ℕ) → Puts m base 0 byte old old
+Puts-none m base byte old = record { put = λ i h. absurd (omega arith); kept = λ offset h. refl }
+
+-- one more byte is put
+pub Puts-more : (m base i a v : ℕ) (byte old mid new : ℕ → ℕ) → i < m → a ≡ (base + i) % m → v ≡ byte i → Puts m base i byte old mid → ((o : ℕ) → new o ≡ cond (eqb a o) v (mid o)) → Puts m base (i + 1) byte old new
+Puts-more m base i a v byte old mid new h at is before e =
+    record {
+      put = λ k below. elim (cases_lt k i) [
+        | inl less ↦
+            write_other a v ((base + k) % m) mid new e (λ same. absurd (omega (arith, apart base k i m (omega arith) h (same ∙ at))))
+            ∙ before.put k less
+        | inr last ↦
+            let k_is : k ≡ i = omega arith in
+            ap (λ j. new ((base + j) % m)) k_is ∙ ap new (sym at) ∙ write_here a v mid new e ∙ is ∙ ap byte (sym k_is)
+      ];
+      kept = λ offset away.
+          write_other a v offset mid new e (λ same. away i (omega arith) (same ∙ at))
+          ∙ before.kept offset (λ k less. away k (omega arith));
+    }
+
+-- what a byte is worth at a place
+byte_worth_below : (b p : ℕ) → b < 256 → b * 256 ^ p < 256 ^ suc p
+byte_worth_below b p hb = omega (arith, mul-add-lt b (256 ^ p) 0 256 hb (bytes_pos p), pow-suc 256 p)
+
+pub place_worth : (b p : ℕ) → b < 256 → p < 16 → b * 2 ^ (8 * p) % 2 ^ 128 ≡ b * 256 ^ p
+place_worth b p hb hp =
+    let whole : b * 256 ^ p < 2 ^ 128 = omega (arith, byte_worth_below b p hb, bytes_mono (suc p) 16 hp) in
+    rw (← bytes-bits p) (mod-eq_of_lt whole)
+
+-- a number of p bytes, with one more byte above it or below it
+pub byte_above : (n b p : ℕ) → n < 256 ^ p → b < 256 → n + b * 256 ^ p < 256 ^ (p + 1)
+byte_above n b p hn hb = rw add-one (omega (arith, mul-add-lt b (256 ^ p) n 256 hb hn, pow-suc 256 p))
+
+pub byte_below_it : (n b p : ℕ) → n < 256 ^ p → b < 256 → n * 256 + b < 256 ^ (p + 1)
+byte_below_it n b p hn hb = rw add-one (omega (arith, pow-suc 256 p))
+
+pub little_endian-more : (f : ℕ → ℕ) (p : ℕ) → little_endian f (p + 1) ≡ little_endian f p + f p * 256 ^ p
+little_endian-more f p = rw add-one refl
+
+pub big_endian-more : (f : ℕ → ℕ) (p : ℕ) → big_endian f (p + 1) ≡ big_endian f p * 256 + f p
+big_endian-more f p = rw add-one refl

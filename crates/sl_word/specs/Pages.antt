@@ -1,0 +1,22 @@
+use Rattle.std.specs.Prelude.{ℕ, ◌+◌, ◌/◌, ◌%◌, ◌^◌, ◌<◌, slice_index, IsSome}
+use Rattle.std.specs.Option.{option_map_or}
+use Rattle.std.specs.BTreeMap.{get}
+use Rattle.std.specs.Ordering.{nat_cmp}
+use Rattle.sl_word.specs.declared.space.Space.{Space}
+
+-- The byte at an offset of one space. What no page holds is 0.
+abbrev pub byte_in : Space → ℕ → ℕ
+byte_in space offset =
+    option_map_or (λ page. slice_index page.bytes.items (offset % 4096)) (get nat_cmp space.pages (offset / 4096)) 0
+
+-- There is a page of this number.
+abbrev pub HasPage : Space → ℕ → Type 0
+HasPage space number = IsSome (get nat_cmp space.pages number)
+
+-- The byte some places after a base, round the end of the space.
+abbrev pub byte_after : Space → ℕ → ℕ → ℕ
+byte_after space base i = byte_in space ((base + i) % 256 ^ space.size)
+
+-- Each of so many bytes after a base lies in a page that is there.
+abbrev pub HasPages : Space → ℕ → ℕ → Type 0
+HasPages space base count = (i : ℕ) → i < count → HasPage space ((base + i) % 256 ^ space.size / 4096)

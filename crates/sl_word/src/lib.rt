@@ -1,0 +1,15 @@
+//! Words of 1 to 16 bytes, the operations of p-code on them, and the bytes of a machine.
+#![tactic(auto)]
+
+mod arithmetic;
+mod operation;
+mod signed;
+mod space;
+mod state;
+#[cfg(test)]
+mod tests;
+mod word;
+
+pub use operation::{DivideByZero, Op1, Op2, apply1, apply2};
+pub use state::{Change, State};
+pub use word::{Endian, Size, SpaceId, UserId, Word};

@@ -1,0 +1,261 @@
+//! One address space: bytes by their offsets, in pages.
+
+ghost use Rattle.std.specs.Prelude.{◌≡◌, ℕ, ◌+◌, ◌*◌, ◌/◌, ◌%◌, ◌^◌, ◌<◌, ◌≤◌, ◌==◌, if◌then◌else◌, vec_len, IsSome, OnOk, IfOk, slice_index, length, OnErr, ◌⊎◌};
+ghost use Rattle.std.specs.Option.{option_map_or, option_copied};
+ghost use Rattle.sl_word.specs.Layout.{Puts, byte_of, number_of, little_endian, big_endian};
+
+use crate::{Endian, Size, Word};
+use std::alloc::{AllocError, Global};
+use std::collections::BTreeMap;
+
+const PAGE_LENGTH: u64 = 4096;
+
+/// The bytes of one page.
+#[derive(Drop)]
+pub(crate) struct Page {
+    bytes: Vec<u8>,
+    ghost whole: { vec_len bytes ≡ 4096 },
+}
+
+impl Page {
+    fn zeros(alloc: Global) -> Result<Page, AllocError>
+        ensures { IfOk result (λ page. (place : ℕ) → slice_index page.bytes.items place ≡ 0) }
+    {
+        let bytes = vec![in alloc; 0; PAGE_LENGTH as usize]?;
+        Ok(Page { bytes })
+    }
+}
+
+/// Pages by their numbers; what has no page is 0. Addresses have `size` bytes.
+#[derive(Drop)]
+pub(crate) struct Space {
+    alloc: Global,
+    size: u8,
+    pages: BTreeMap<u64, Page>,
+    ghost some: { 1 ≤ size },
+    ghost at_most_8: { size ≤ 8 },
+}
+
+impl Space {
+    ghost use Rattle.sl_word.specs.Pages.{byte_in, byte_after, HasPage, HasPages};
+    ghost use Rattle.sl_word.specs.Differences.{IsFirstDifference, IsFirstPage};
+
+    pub(crate) fn new(alloc: Global, size: u8) -> Space
+        requires some { 1 ≤ size }
+        requires at_most_8 { size ≤ 8 }
+        ensures size { result.size ≡ size }
+        ensures zero { (offset : ℕ) → byte_in result offset ≡ 0 }
+    {
+        let pages = BTreeMap::new(alloc);
+        Space { alloc, size, pages }
+    }
+
+    pub(crate) fn byte(&self, offset: u64) -> u8
+        ensures { result ≡ byte_in self.now offset }
+    {
+        let number = offset / PAGE_LENGTH;
+        let place = (offset % PAGE_LENGTH) as usize;
+        match self.pages.get(&number) {
+            Some(page) => page.bytes[place],
+            None => 0,
+        }
+    }
+
+    // Some offset after the base, round the end of the space.
+    fn address(&self, base: u64, after: u64) -> u64
+        ensures { result ≡ (base + after) % 256 ^ self.now.size }
+    {
+        let mask = u64::MAX >> (64 - 8 * u32::from(self.size));
+        base.wrapping_add(after) & mask
+    }
+
+    fn byte_after(&self, base: u64, place: u8) -> u8
+        ensures { result ≡ byte_after self.now base place }
+    {
+        self.byte(self.address(base, u64::from(place)))
+    }
+
+    fn add_page(&mut self, number: u64) -> Result<(), AllocError>
+        ensures size { self.new.size ≡ self.old.size }
+        ensures same { (offset : ℕ) → byte_in self.new offset ≡ byte_in self.old offset }
+        ensures there { OnOk result (HasPage self.new number) }
+        ensures stay { (other : ℕ) → HasPage self.old other → HasPage self.new other }
+    {
+        if self.pages.contains_key(&number) {
+            return Ok(());
+        }
+        let page = Page::zeros(self.alloc)?;
+        self.pages.insert(number, page)?;
+        Ok(())
+    }
+
+    fn set_byte(&mut self, offset: u64, value: u8)
+        requires { HasPage self.old (offset / 4096) }
+        ensures size { self.new.size ≡ self.old.size }
+        ensures bytes { (other : ℕ) → byte_in self.new other ≡ (if offset == other then value else byte_in self.old other) }
+        ensures stay { (other : ℕ) → HasPage self.old other → HasPage self.new other }
+    {
+        let number = offset / PAGE_LENGTH;
+        let place = (offset % PAGE_LENGTH) as usize;
+        if let Some(page) = self.pages.get_mut(&number) {
+            page.bytes[place] = value;
+        }
+    }
+
+    fn add_pages(&mut self, base: u64, count: u64) -> Result<(), AllocError>
+        ensures size { self.new.size ≡ self.old.size }
+        ensures same { (offset : ℕ) → byte_in self.new offset ≡ byte_in self.old offset }
+        ensures there { OnOk result (HasPages self.new base count) }
+    {
+        for after in 0..count {
+            let number = self.address(base, after) / PAGE_LENGTH;
+            self.add_page(number)?;
+        }
+        Ok(())
+    }
+
+    fn set_word(&mut self, base: u64, endian: Endian, word: Word)
+        requires { HasPages self.old base word.size.bytes }
+        ensures size { self.new.size ≡ self.old.size }
+        ensures put { Puts (256 ^ self.old.size) base word.size.bytes (byte_of endian word.size.bytes word.bits) (byte_in self.old) (byte_in self.new) }
+    {
+        for place in 0..word.size.bytes {
+            let offset = self.address(base, u64::from(place));
+            self.set_byte(offset, word.byte(endian, place));
+        }
+    }
+
+    fn set_bytes(&mut self, base: u64, bytes: &[u8])
+        requires pages { HasPages self.old base (length bytes.now) }
+        requires short { length bytes.now ≤ 256 ^ self.old.size }
+        ensures size { self.new.size ≡ self.old.size }
+        ensures put { Puts (256 ^ self.old.size) base (length bytes.now) (slice_index bytes.now) (byte_in self.old) (byte_in self.new) }
+    {
+        for place in 0..bytes.len() {
+            let offset = self.address(base, place as u64);
+            self.set_byte(offset, bytes[place]);
+        }
+    }
+
+    // The first offset from `from` to the end of its page at which the bytes differ.
+    fn difference_in_page(&self, opening: &Space, from: u64) -> Option<u64>
+        ensures { IsFirstDifference (byte_in opening.now) (byte_in self.now) from ((from / 4096 + 1) * 4096) result }
+    {
+        let number = from / PAGE_LENGTH;
+        let before = opening.pages.get(&number);
+        let now = self.pages.get(&number);
+        for place in from % PAGE_LENGTH..PAGE_LENGTH {
+            if byte_of_page(before, place) != byte_of_page(now, place) {
+                return Some(number * PAGE_LENGTH + place);
+            }
+        }
+        None
+    }
+
+    // The least number of a page that isn't below this one.
+    fn page_from(&self, number: u64) -> Option<u64>
+        ensures { IsFirstPage (HasPage self.now) number result }
+    {
+        let (found, _) = self.pages.range(number..).next()?;
+        Some(*found)
+    }
+
+    // The same of a page of either space.
+    fn either_page_from(&self, opening: &Space, number: u64) -> Option<u64>
+        ensures { IsFirstPage (λ k. HasPage opening.now k ⊎ HasPage self.now k) number result }
+    {
+        match (opening.page_from(number), self.page_from(number)) {
+            (Some(before), Some(now)) => Some(before.min(now)),
+            (before, None) => before,
+            (None, now) => now,
+        }
+    }
+
+    // The first offset that isn't below `from` at which the bytes differ.
+    pub(crate) fn next_difference(&self, opening: &Space, from: u64) -> Option<u64>
+        ensures { IsFirstDifference (byte_in opening.now) (byte_in self.now) from (2 ^ 64) result }
+    {
+        let mut start = from;
+        'pages: loop {
+            if let Some(offset) = self.difference_in_page(opening, start) {
+                return Some(offset);
+            }
+            let number = self.either_page_from(opening, start / PAGE_LENGTH + 1)?;
+            start = number.checked_mul(PAGE_LENGTH)?;
+        }
+    }
+
+    // Puts the word's bytes in memory order. A refusal changes no byte.
+    pub(crate) fn write(&mut self, base: u64, endian: Endian, word: Word) -> Result<(), AllocError>
+        ensures size { self.new.size ≡ self.old.size }
+        ensures put { OnOk result (Puts (256 ^ self.old.size) base word.size.bytes (byte_of endian word.size.bytes word.bits) (byte_in self.old) (byte_in self.new)) }
+        ensures unchanged { OnErr result ((offset : ℕ) → byte_in self.new offset ≡ byte_in self.old offset) }
+    {
+        self.add_pages(base, u64::from(word.size.bytes))?;
+        self.set_word(base, endian, word);
+        Ok(())
+    }
+
+    // Puts the bytes. A refusal changes no byte.
+    pub(crate) fn load(&mut self, base: u64, bytes: &[u8]) -> Result<(), AllocError>
+        requires { length bytes.now ≤ 256 ^ self.old.size }
+        ensures size { self.new.size ≡ self.old.size }
+        ensures put { OnOk result (Puts (256 ^ self.old.size) base (length bytes.now) (slice_index bytes.now) (byte_in self.old) (byte_in self.new)) }
+        ensures unchanged { OnErr result ((offset : ℕ) → byte_in self.new offset ≡ byte_in self.old offset) }
+    {
+        self.add_pages(base, bytes.len() as u64)?;
+        self.set_bytes(base, bytes);
+        Ok(())
+    }
+
+    // The number that the bytes from the base on make.
+    pub(crate) fn number(&self, base: u64, endian: Endian, size: Size) -> u128
+        ensures value { result ≡ number_of endian (byte_after self.now base) size.bytes }
+        ensures below { result < 256 ^ size.bytes }
+    {
+        match endian {
+            Endian::Little => self.little_endian(base, size),
+            Endian::Big => self.big_endian(base, size),
+        }
+    }
+
+    fn little_endian(&self, base: u64, size: Size) -> u128
+        ensures value { result ≡ little_endian (byte_after self.now base) size.bytes }
+        ensures below { result < 256 ^ size.bytes }
+    {
+        let mut number = 0;
+        for place in 0..size.bytes {
+            number += worth(self.byte_after(base, place), place);
+        }
+        number
+    }
+
+    fn big_endian(&self, base: u64, size: Size) -> u128
+        ensures value { result ≡ big_endian (byte_after self.now base) size.bytes }
+        ensures below { result < 256 ^ size.bytes }
+    {
+        let mut number = 0;
+        for place in 0..size.bytes {
+            number = number * 256 + u128::from(self.byte_after(base, place));
+        }
+        number
+    }
+}
+
+// What a byte is worth above so many others.
+fn worth(byte: u8, place: u8) -> u128
+    requires { place < 16 }
+    ensures { result ≡ byte * 256 ^ place }
+{
+    u128::from(byte) << (8 * u32::from(place))
+}
+
+fn byte_of_page(page: Option<&Page>, place: u64) -> u8
+    requires { place < 4096 }
+    ensures { result ≡ option_map_or (λ one. slice_index one.bytes.items place) (option_copied page.entry) 0 }
+{
+    match page {
+        Some(page) => page.bytes[place as usize],
+        None => 0,
+    }
+}
