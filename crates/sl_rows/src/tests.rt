@@ -1,0 +1,9 @@
+//! Worked cases, in tables. What each of them expects was reckoned by hand.
+
+mod calls;
+mod conflicts;
+mod faults;
+mod limits;
+mod listings;
+mod refusals;
+mod words;

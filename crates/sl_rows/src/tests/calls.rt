@@ -1,0 +1,45 @@
+//! One call of the tool.
+
+use sl_outside::{MemFiles, MemSink};
+use sl_tool::{Status, run_tool};
+use std::alloc::Global;
+use std::test::Fail;
+
+/// The program's name, and these words behind it.
+pub fn command(alloc: Global, words: &[&str]) -> Result<Vec<String>, Fail> {
+    let mut all = Vec::new(alloc);
+    all.push(String::from_str(alloc, "sleigh")?)?;
+    for word in words {
+        all.push(String::from_str(alloc, word)?)?;
+    }
+    Ok(all)
+}
+
+/// Calls the tool with these words, and says how it ended and what it wrote.
+pub fn call(
+    alloc: Global,
+    files: &mut MemFiles,
+    words: &[&str],
+) -> Result<(Status, MemSink), Fail> {
+    let all = command(alloc, words)?;
+    let mut out = MemSink::new(alloc);
+    let status = run_tool(alloc, all.as_slice(), files, &mut out);
+    Ok((status, out))
+}
+
+/// Lists the image `i` by the specification `s`.
+pub fn list(alloc: Global, spec: &[u8], image: &[u8]) -> Result<(Status, MemSink), Fail> {
+    let mut files = MemFiles::new(alloc);
+    files.add("s", spec)?;
+    files.add("i", image)?;
+    call(alloc, &mut files, &["list", "s", "i"])
+}
+
+/// The parts, one behind the other.
+pub fn joined(alloc: Global, parts: &[&str]) -> Result<Vec<u8>, Fail> {
+    let mut text = Vec::new(alloc);
+    for part in parts {
+        text.extend_from_slice(part.as_bytes())?;
+    }
+    Ok(text)
+}

@@ -1,0 +1,55 @@
+//! Words that ask for nothing that the tool does.
+
+use super::calls::call;
+use sl_outside::{MemFiles, MemSink};
+use sl_tool::{Status, run_tool};
+use std::test::Fail;
+
+const USAGE: &str =
+    "usage: sleigh check SPEC | list SPEC IMAGE | pcode SPEC IMAGE | run SPEC IMAGE | gen NUMBER\n";
+
+static WORDS: [&[&str]; 25] = [
+    &[],
+    &["list"],
+    &["list", "s"],
+    &["list", "s", "i", "x"],
+    &["list", "s", "i", "--steps", "1"],
+    &["list", "-s", "i"],
+    &["list", "s", "-i"],
+    &["list", "s", "-"],
+    &["list", "--", "s"],
+    &["List", "s", "i"],
+    &["list ", "s", "i"],
+    &["", "s", "i"],
+    &["s", "i", "list"],
+    &["check", "s"],
+    &["check", "s", "t"],
+    &["check", "s", "i"],
+    &["pcode", "s", "i"],
+    &["run", "s", "i"],
+    &["run", "s", "i", "--base", "1", "--base", "1"],
+    &["gen", "1"],
+    &["gen", "0"],
+    &["gen", "30001"],
+    &["help"],
+    &["--help"],
+    &["-h"],
+];
+
+#[test]
+fn other_words_give_the_usage_line(rt: HostRuntime) -> Result<(), Fail> {
+    let alloc = rt.alloc();
+    let mut files = MemFiles::new(alloc);
+    files.add("s", b"")?;
+    files.add("i", b"")?;
+    for words in &WORDS {
+        let (status, out) = call(alloc, &mut files, words)?;
+        assert_eq!(rt; status, Status::Usage, "{words:?}");
+        assert_eq!(rt; out.bytes(), USAGE.as_bytes(), "{words:?}");
+    }
+    let mut out = MemSink::new(alloc);
+    let status = run_tool(alloc, &[], &mut files, &mut out);
+    assert_eq!(rt; status, Status::Usage);
+    assert_eq!(rt; out.bytes(), USAGE.as_bytes());
+    Ok(())
+}

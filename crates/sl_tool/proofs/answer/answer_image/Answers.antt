@@ -1,0 +1,29 @@
+use Rattle.std.proofs.Common.{None, Some, refl, subst, inl}
+use Rattle.std.specs.Prelude.{codes}
+use Rattle.sl_tool.specs.Answers.Answers.{no_image, long_image}
+use Rattle.sl_tool.specs.Fetches.{IsFetched}
+use Rattle.sl_tool.specs.Given.{IsRefusal, IsAnsweredFor}
+use Rattle.sl_tool.specs.Requests.{request}
+use Rattle.sl_tool.specs.declared.files.Fetched.{Fetched}
+use Rattle.sl_tool.proofs.AnswerLemmas.{ok_then, refusal_answers, unambiguous}
+use Rattle.sl_tool.proofs.answer.answer_image.Goals as goal
+
+pub returns-in-Absent-clause-found : goal.returns-in-Absent-clause-found
+returns-in-Absent-clause-found g c =
+    let r = request c.args.request in
+    let text = c.args.text.now in
+    let told = g.F.Files.told c.args.files.now in
+    let clear = unambiguous text c.args.compiled.now c.requires.within c.requires.compiled c.requires.clear in
+    let absent = subst (λ (v : Fetched). IsFetched told r.image v) c.in-Absent.is c.in_ok-image.ensures.found in
+    ok_then (IsRefusal r.image (codes "no such file")) (IsAnsweredFor told r text) c.refused.result
+    (λ a h. (None, absent, refusal_answers r (Some text) None r.image (codes "no such file") a h (no_image clear refl))) c.refused.ensures.refusal
+
+pub returns-in-TooLong-clause-found : goal.returns-in-TooLong-clause-found
+returns-in-TooLong-clause-found g c =
+    let r = request c.args.request in
+    let text = c.args.text.now in
+    let told = g.F.Files.told c.args.files.now in
+    let clear = unambiguous text c.args.compiled.now c.requires.within c.requires.compiled c.requires.clear in
+    let long = subst (λ (v : Fetched). IsFetched told r.image v) c.in-TooLong.is c.in_ok-image.ensures.found in
+    ok_then (IsRefusal r.image (codes "too long")) (IsAnsweredFor told r text) c.refused-in-TooLong.result
+    (λ a h. (Some long.0, long.1, refusal_answers r (Some text) (Some long.0) r.image (codes "too long") a h (long_image clear refl (inl long.2)))) c.refused-in-TooLong.ensures.refusal

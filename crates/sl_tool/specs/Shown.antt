@@ -1,0 +1,35 @@
+-- What a listing shows at a point.
+use Rattle.std.specs.Prelude.{◌≡◌, ℕ, ◌⊎◌, List, Some, length, map, slice_get, codes}
+use Rattle.sl_cube.specs.declared.Cube.{Cube}
+use Rattle.sl_cube.specs.declared.Point.{Point}
+use Rattle.sl_tool.specs.Cubes.{has_cube}
+use Rattle.sl_tool.specs.Scan.{StandsFor}
+use Rattle.sl_tool.specs.Sets.{HasNoConflict, IsChoice, IsUnmatched}
+use Rattle.sl_tool.specs.declared.choice.Chooser.{Chooser}
+use Rattle.sl_tool.specs.declared.description.Constructor.{Constructor}
+
+-- the texts of the constructors
+abbrev pub mnemonics : List Constructor → List (List ℕ)
+mnemonics constructors = map (λ c. c.mnemonic.now) constructors
+
+-- The chooser stands for the cubes, of which no two are in conflict, and there are as many texts.
+pub record Chooses (chooser : Chooser) (cubes : List Cube) (texts : List (List ℕ)) : Type 0 where
+  pub stands : StandsFor chooser cubes
+  pub clear : HasNoConflict has_cube cubes
+  pub counted : length cubes ≡ length texts
+
+-- the text that stands at the place of the choice
+pub record IsChosenText (cubes : List Cube) (texts : List (List ℕ)) (p : Point) (text : List ℕ) : Type 0 where
+  pub index : ℕ
+  pub choice : IsChoice has_cube cubes p index
+  pub text_is : slice_get texts index ≡ Some text
+
+-- No cube has the point, and the mark stands beside one byte.
+pub record IsMark (cubes : List Cube) (p : Point) (count : ℕ) (text : List ℕ) : Type 0 where
+  pub unmatched : IsUnmatched has_cube cubes p
+  pub one : count ≡ 1
+  pub mark : text ≡ codes "??"
+
+-- The chosen text stands beside the bytes of the token, or the mark beside one byte.
+abbrev pub IsShown : List Cube → List (List ℕ) → ℕ → Point → ℕ → List ℕ → Type 0
+IsShown cubes texts token_bytes p count text = ((count ≡ token_bytes) × IsChosenText cubes texts p text) ⊎ IsMark cubes p count text

@@ -1,0 +1,88 @@
+//! Lines of output, each appended to a buffer. Where memory runs out the buffer may have a part of the
+//! line.
+
+ghost use Rattle.std.specs.Prelude.{◌≡◌, ◌++◌, ◌≤◌, OnOk, length};
+ghost use Rattle.hex.specs.Hex.{encode_lower};
+ghost use Rattle.sl_tool.specs.Lines.{address_text, listed_line, point_text, place_text, refusal_line};
+
+use itoa::Buffer;
+use sl_cube::Point;
+use std::alloc::AllocError;
+
+/// The most bytes that are written in hexadecimal at once.
+pub const MOST_BYTES: usize = 16;
+
+/// Appends the bytes in hexadecimal, two digits each.
+pub fn push_hex(out: &mut Vec<u8>, bytes: &[u8]) -> Result<(), AllocError>
+    requires { length bytes.now ≤ MOST_BYTES }
+    ensures { OnOk result (out.new.items ≡ out.old.items ++ encode_lower bytes.now) }
+{
+    let mut buffer = [0; 2 * MOST_BYTES];
+    let digits = &mut buffer[..2 * bytes.len()];
+    hex::encode_to_slice(bytes, digits).unwrap();
+    out.extend_from_slice(digits)
+}
+
+/// Appends the low bytes of an address in hexadecimal, the most significant first.
+pub fn push_address(out: &mut Vec<u8>, address_bytes: usize, address: u64) -> Result<(), AllocError>
+    requires { address_bytes ≤ 8 }
+    ensures { OnOk result (out.new.items ≡ out.old.items ++ address_text address_bytes address) }
+{
+    let bytes = address.to_be_bytes();
+    push_hex(out, &bytes[8 - address_bytes..])
+}
+
+/// Appends the sixteen bytes of a point and its context.
+pub fn push_point(out: &mut Vec<u8>, point: &Point) -> Result<(), AllocError>
+    ensures { OnOk result (out.new.items ≡ out.old.items ++ point_text point.now) }
+{
+    push_hex(out, &point.bytes.to_be_bytes())?;
+    out.extend_from_slice(b" ")?;
+    push_hex(out, &point.context.to_be_bytes())
+}
+
+/// Appends the name of a file and the number of a line, which counts from 1.
+pub fn push_place(out: &mut Vec<u8>, file: &[u8], line: u64) -> Result<(), AllocError>
+    ensures { OnOk result (out.new.items ≡ out.old.items ++ place_text file.now line) }
+{
+    let mut buffer = Buffer::new();
+    out.extend_from_slice(file)?;
+    out.extend_from_slice(b":")?;
+    out.extend_from_slice(buffer.format(line).as_bytes())
+}
+
+/// Appends the line of a refusal: its place, and what is refused.
+pub fn push_refusal(
+    out: &mut Vec<u8>,
+    file: &[u8],
+    line: u64,
+    text: &[u8],
+) -> Result<(), AllocError>
+    ensures { OnOk result (out.new.items ≡ out.old.items ++ refusal_line file.now line text.now) }
+{
+    push_place(out, file, line)?;
+    out.extend_from_slice(b": ")?;
+    out.extend_from_slice(text)?;
+    out.extend_from_slice(b"\n")
+}
+
+/// Appends a line of a listing: an address, the bytes that are there, and what they are.
+pub fn push_listed(
+    out: &mut Vec<u8>,
+    address_bytes: usize,
+    address: u64,
+    shown: &[u8],
+    text: &[u8],
+) -> Result<(), AllocError>
+    requires address_bytes { address_bytes ≤ 8 }
+    requires shown { length shown.now ≤ MOST_BYTES }
+    ensures { OnOk result (out.new.items
+        ≡ out.old.items ++ listed_line address_bytes address shown.now text.now) }
+{
+    push_address(out, address_bytes, address)?;
+    out.extend_from_slice(b": ")?;
+    push_hex(out, shown)?;
+    out.extend_from_slice(b" ")?;
+    out.extend_from_slice(text)?;
+    out.extend_from_slice(b"\n")
+}

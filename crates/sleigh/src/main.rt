@@ -1,0 +1,29 @@
+//! The program `sleigh`: the tool over the files of the machine and its standard output.
+#![tactic(auto)]
+
+use sl_outside::{DiskFiles, StdSink};
+use sl_tool::{Status, run_tool};
+use std::io::{self, ErrorKind};
+use std::process::ExitCode;
+
+fn main(rt: HostRuntime) -> ExitCode {
+    let status = match words(&rt) {
+        Ok(words) => called(&rt, words.as_slice()),
+        Err(error) if error.kind() == ErrorKind::OutOfMemory => Status::NoMemory,
+        // Words that aren't UTF-8 ask for nothing that the tool does.
+        Err(_) => called(&rt, &[]),
+    };
+    ExitCode::from(status as u8)
+}
+
+fn words(rt: &HostRuntime) -> io::Result<Vec<String>> {
+    let words = std::env::args(rt)?.collect(rt.alloc())?;
+    Ok(words)
+}
+
+fn called(rt: &HostRuntime, words: &[String]) -> Status {
+    let alloc = rt.alloc();
+    let mut files = DiskFiles::new(alloc, rt);
+    let mut out = StdSink::new(rt);
+    run_tool(alloc, words, &mut files, &mut out)
+}
