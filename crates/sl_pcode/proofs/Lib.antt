@@ -1,0 +1,2 @@
+mod ByteCounts
+pub mod InRange
