@@ -23,7 +23,7 @@ abbrev pub is_word_byte : ℕ → Bool
 is_word_byte b = is_letter b || is_digit b
 
 abbrev pub is_mark : ℕ → Bool
-is_mark = is_among (codes ";=(),:&{}")
+is_mark = is_among (codes ";=(),:&{}[]+")
 
 -- the number that digits spell after those that spelled the number so far
 abbrev pub decimal_after : ℕ → List ℕ → ℕ

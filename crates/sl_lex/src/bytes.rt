@@ -33,7 +33,7 @@ pub fn is_mark(byte: u8) -> bool
 {
     matches!(
         byte,
-        b';' | b'=' | b'(' | b')' | b',' | b':' | b'&' | b'{' | b'}'
+        b';' | b'=' | b'(' | b')' | b',' | b':' | b'&' | b'{' | b'}' | b'[' | b']' | b'+'
     )
 }
 

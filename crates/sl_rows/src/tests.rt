@@ -6,4 +6,5 @@ mod faults;
 mod limits;
 mod listings;
 mod refusals;
+mod runs;
 mod words;

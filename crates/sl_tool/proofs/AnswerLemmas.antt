@@ -8,25 +8,26 @@ use Rattle.sl_outside.specs.Folder.{Folder, size_limit, HoldsTooLong, IsTooLong}
 use Rattle.sl_lex.specs.Views.{view, views}
 use Rattle.sl_lex.specs.declared.Tok.{Tok}
 use Rattle.sl_cube.specs.declared.Cube.{Cube}
-use Rattle.sl_tool.specs.Symbols.{Symbol, symbols_of}
-use Rattle.sl_tool.specs.Description.{Constructor, Description, spell_constructor, spell_constructors, spell_definitions, AreNumberedFrom, IsSpelled}
-use Rattle.sl_tool.specs.Fields.{Matches}
-use Rattle.sl_tool.specs.Compiled.{AreSetsOf}
-use Rattle.sl_tool.specs.Cubes.{has_cube}
-use Rattle.sl_tool.specs.Sets.{HasNoConflict}
+use Rattle.sl_description.specs.Symbols.{Symbol, symbols_of}
+use Rattle.sl_description.specs.Description.{Constructor, Description, spell_constructor, spell_constructors, spell_definitions, AreNumberedFrom, IsSpelled}
+use Rattle.sl_description.specs.Fields.{Matches}
+use Rattle.sl_description.specs.Compiled.{AreSetsOf}
+use Rattle.sl_sets.specs.Cubes.{has_cube}
+use Rattle.sl_sets.specs.Sets.{HasNoConflict}
 use Rattle.sl_tool.specs.Request.{Request}
 use Rattle.sl_tool.specs.Lines.{refusal_line}
-use Rattle.sl_tool.specs.Answers.{File, IsTold, IsUnambiguous, Answers}
+use Rattle.sl_tool.specs.Answers.{IsTold, Answers}
+use Rattle.sl_tool.specs.Verdicts.{File, IsUnambiguous}
 use Rattle.sl_tool.specs.Fetches.{IsOverlong}
 use Rattle.sl_tool.specs.Given.{IsRefusal}
-use Rattle.sl_tool.specs.Compiles.{IsCompiled}
-use Rattle.sl_tool.specs.Views.{constructor, constructors, description}
-use Rattle.sl_tool.specs.declared.description.Constructor as program
+use Rattle.sl_description.specs.Compiles.{IsCompiled}
+use Rattle.sl_description.specs.Views.{constructor, constructors, description}
+use Rattle.sl_description.specs.declared.description.Constructor as program
 use Rattle.sl_tool.specs.declared.answer.Answer.{Answer}
-use Rattle.sl_tool.specs.declared.compile.Compiled.{Compiled}
+use Rattle.sl_description.specs.declared.compiler.Compiled.{Compiled}
 use Rattle.sl_tool.specs.declared.status.Status.{Status}
 use Rattle.sl_tool.specs.declared.status.Status.TheVariants.{Refused}
-use Rattle.sl_tool.proofs.AlikeLemmas.{AreAlike, all_turned, no_conflict_alike}
+use Rattle.sl_sets.proofs.AlikeLemmas.{AreAlike, all_turned, no_conflict_alike}
 
 pub ok_then : {X E : Type 0} (P Q : X → Type 0) (r : Result X E) → ((x : X) → P x → Q x) → IfOk r P → IfOk r Q
 ok_then P Q (Ok x) f h = f x h

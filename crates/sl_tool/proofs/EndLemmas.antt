@@ -1,10 +1,12 @@
 -- How a call ends, from what was answered and what was written of it.
-use Rattle.std.proofs.Common.{◌≡◌, ◌≢◌, ℕ, ◌⊎◌, inl, inr, List, Option, Some, None, refl, sym, subst}
+use Rattle.std.proofs.Common.{◌≡◌, ◌≢◌, ℕ, ◌⊎◌, inl, inr, Bool, true, false, List, Option, Some, None, refl, sym, subst}
 use Rattle.std.specs.Prelude.{MatchOption}
 use Rattle.std.specs.Io.KnownBytes.{Appends}
 use Rattle.sl_outside.specs.Folder.{Folder}
-use Rattle.sl_tool.specs.Answers.{File, IsTold, Answers, Means, Ends}
-use Rattle.sl_tool.specs.Answers.Answers.{no_spec, long_spec, not_yet, ambiguous, no_image, long_image, listed}
+use Rattle.sl_tool.specs.Answers.{IsTold, Answers, Means, Ends}
+use Rattle.sl_tool.specs.Running.{status_of}
+use Rattle.sl_tool.specs.Verdicts.{File}
+use Rattle.sl_tool.specs.Answers.Answers.{refused, no_image, long_image, listed, ran}
 use Rattle.sl_tool.specs.Request.{Request, request_of, usage_line}
 use Rattle.sl_tool.specs.Writing.{AppendsFront}
 use Rattle.sl_tool.specs.Given.{IsAnswered}
@@ -20,16 +22,18 @@ IsWhole Usage = Unit {0}
 IsWhole ReadFault = ⊥
 IsWhole WriteFault = ⊥
 IsWhole NoMemory = ⊥
-IsWhole Stopped = ⊥
+IsWhole Stopped = Unit {0}
+
+run_is_whole : (has_stopped : Bool) → IsWhole (status_of has_stopped)
+run_is_whole true = tt
+run_is_whole false = tt
 
 answer_is_whole : (r : Request) (spec image : File) (s : Status) (text : List ℕ) → Answers r spec image s text → IsWhole s
-answer_is_whole r spec image s text (no_spec a) = tt
-answer_is_whole r spec image s text (long_spec a b) = tt
-answer_is_whole r spec image s text (not_yet a b) = tt
-answer_is_whole r spec image s text (ambiguous a b c) = tt
+answer_is_whole r spec image s text (refused a) = tt
 answer_is_whole r spec image s text (no_image a b) = tt
 answer_is_whole r spec image s text (long_image a b c) = tt
 answer_is_whole r spec image s text (listed a b c e) = tt
+answer_is_whole r spec image s text (ran a b c e) = subst (λ (x : Status). IsWhole x) (sym e.status_is) (run_is_whole e.has_stopped)
 
 -- what is asked means, where it is this
 abbrev AskedMeans : Option Request → Option Folder → Status → List ℕ → Type 0
@@ -60,7 +64,7 @@ module _ (words : List (List ℕ)) (told : Option Folder) where
   whole_ends old new ReadFault text m h = absurd (means_is_whole ReadFault text m)
   whole_ends old new WriteFault text m h = absurd (means_is_whole WriteFault text m)
   whole_ends old new NoMemory text m h = absurd (means_is_whole NoMemory text m)
-  whole_ends old new Stopped text m h = absurd (means_is_whole Stopped text m)
+  whole_ends old new Stopped text m h = (text, m, h)
 
   -- what was written of a text that the words mean
   pub written_ends : (old new : Option (List ℕ)) (s result : Status) (text : List ℕ) → Means words told s text

@@ -6,8 +6,8 @@ use Rattle.hex.specs.Hex.{encode_lower}
 use Rattle.sl_cube.specs.declared.Point.{Point}
 use Rattle.sl_tool.specs.Lines.{point_text}
 use Rattle.sl_tool.specs.ConflictLines.{point_line, apart_lines}
-use Rattle.sl_tool.specs.declared.conflicts.Apart.{Apart}
-use Rattle.sl_tool.specs.declared.conflicts.Apart.TheVariants.{Two}
+use Rattle.sl_sets.specs.declared.conflicts.Apart.{Apart}
+use Rattle.sl_sets.specs.declared.conflicts.Apart.TheVariants.{Two}
 
 -- three pieces after a text, of which the last came with a result
 three_pieces : {T E : Type 0} (r : Result T E) (start one two whole a b c : List ℕ)

@@ -10,9 +10,9 @@ use Rattle.std.proofs.lemmas.List.{get_or_past}
 use Rattle.sl_cube.specs.Points.{InRange}
 use Rattle.sl_cube.specs.declared.Point.{Point}
 use Rattle.sl_tool.specs.Listing.{Lists, ended, instruction, unmatched, bytes_at, point_at}
-use Rattle.sl_tool.specs.Views.{constructors}
-use Rattle.sl_tool.specs.declared.description.Constructor.{Constructor}
-use Rattle.sl_tool.proofs.AlikeLemmas.{AreAlike, choice_alike, unmatched_alike}
+use Rattle.sl_description.specs.Views.{constructors}
+use Rattle.sl_description.specs.declared.description.Constructor.{Constructor}
+use Rattle.sl_sets.proofs.AlikeLemmas.{AreAlike, choice_alike, unmatched_alike}
 
 -- ---- the point of a place is in range
 

@@ -8,10 +8,10 @@ use Rattle.std.proofs.lemmas.List.{take-append-le, take-replicate, drop-replicat
 use Rattle.std.proofs.lemmas.Option.{slice_get-map, slice_get_read, slice_get_within}
 use Rattle.sl_cube.specs.declared.Cube.{Cube}
 use Rattle.sl_cube.specs.declared.Point.{Point}
-use Rattle.sl_tool.specs.Cubes.{has_cube}
+use Rattle.sl_sets.specs.Cubes.{has_cube}
 use Rattle.sl_tool.specs.Lines.{listed_line}
 use Rattle.sl_tool.specs.Listing.{Lists, ended, instruction, unmatched, bytes_at, point_at}
-use Rattle.sl_tool.specs.Sets.{IsChoice}
+use Rattle.sl_sets.specs.Sets.{IsChoice}
 use Rattle.sl_tool.specs.Shown.{IsShown}
 
 -- ---- bytes with zeros after them

@@ -2,10 +2,10 @@
 use Rattle.std.proofs.Common.{◌≡◌, ℕ, ◌+◌, ◌<◌, ◌≤◌, List, [], ◌++◌, length, Some, refl, sym, ap, subst, ◌∙◌, arith}
 use Rattle.std.specs.Prelude.{slice_get, codes}
 use Rattle.sl_cube.specs.declared.Point.{Point}
-use Rattle.sl_tool.specs.Sets.{IsChoice, IsUnmatched}
+use Rattle.sl_sets.specs.Sets.{IsChoice, IsUnmatched}
 use Rattle.sl_tool.specs.Lines.{listed_line}
 use Rattle.sl_tool.specs.Listing.{Lists, ended, instruction, unmatched, bytes_at, point_at}
-use Rattle.sl_tool.proofs.UniqueSets.{choice_is_one, unmatched_has_no_choice}
+use Rattle.sl_sets.proofs.UniqueSets.{choice_is_one, unmatched_has_no_choice}
 
 module _ {X : Type 0} (has : X → Point → Type 0) (xs : List X) (texts : List (List ℕ)) (address_bytes token_bytes : ℕ) (image : List ℕ) where
   -- a listing from this place

@@ -2,9 +2,9 @@
 use Rattle.std.specs.Prelude.{ℕ, List, ◌++◌, codes}
 use Rattle.sl_cube.specs.declared.Point.{Point}
 use Rattle.sl_tool.specs.Lines.{place_text, point_text, refusal_line}
-use Rattle.sl_tool.specs.declared.conflicts.Apart.{Apart}
-use Rattle.sl_tool.specs.declared.conflicts.Apart.TheVariants.{Same, Two}
-use Rattle.sl_tool.specs.declared.conflicts.Report.{Report}
+use Rattle.sl_sets.specs.declared.conflicts.Apart.{Apart}
+use Rattle.sl_sets.specs.declared.conflicts.Apart.TheVariants.{Same, Two}
+use Rattle.sl_sets.specs.declared.conflicts.Report.{Report}
 
 -- a point after its name
 abbrev pub point_line : List ℕ → Point → List ℕ

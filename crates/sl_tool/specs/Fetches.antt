@@ -1,7 +1,8 @@
 -- What was fetched, against the folder that is told.
 use Rattle.std.specs.Prelude.{ℕ, ◌<◌, List, length, Option, Some, None}
 use Rattle.sl_outside.specs.Folder.{Folder, size_limit}
-use Rattle.sl_tool.specs.Answers.{HasBytes, IsTold}
+use Rattle.sl_tool.specs.Answers.{IsTold}
+use Rattle.sl_tool.specs.Verdicts.{HasBytes}
 use Rattle.sl_tool.specs.declared.files.Fetched.{Fetched}
 use Rattle.sl_tool.specs.declared.files.Fetched.TheVariants.{Bytes, Absent, TooLong}
 

@@ -1,7 +1,8 @@
 -- Answers that the program gives, part by part.
 use Rattle.std.specs.Prelude.{◌≡◌, ℕ, List, Option, Some}
 use Rattle.sl_outside.specs.Folder.{Folder}
-use Rattle.sl_tool.specs.Answers.{File, Answers, IsTold}
+use Rattle.sl_tool.specs.Answers.{Answers, IsTold}
+use Rattle.sl_tool.specs.Verdicts.{File}
 use Rattle.sl_tool.specs.Lines.{refusal_line}
 use Rattle.sl_tool.specs.Request.{Request}
 use Rattle.sl_tool.specs.declared.answer.Answer.{Answer}

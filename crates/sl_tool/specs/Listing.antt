@@ -2,7 +2,7 @@
 use Rattle.std.specs.Prelude.{◌≡◌, ℕ, ◌+◌, ◌<◌, ◌≤◌, List, [], ◌++◌, length, take, drop, replicate, slice_get, Some, codes}
 use Rattle.std.specs.Int.{w128, from_be_bytes}
 use Rattle.sl_cube.specs.declared.Point.{Point}
-use Rattle.sl_tool.specs.Sets.{IsChoice, IsUnmatched}
+use Rattle.sl_sets.specs.Sets.{IsChoice, IsUnmatched}
 use Rattle.sl_tool.specs.Lines.{listed_line}
 
 -- so many bytes from this place of the image, which zeros follow

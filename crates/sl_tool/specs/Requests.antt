@@ -1,6 +1,12 @@
 -- A request as the program keeps it.
 use Rattle.sl_tool.specs.Request as spec
+use Rattle.sl_tool.specs.declared.request.Command.{Command}
+use Rattle.sl_tool.specs.declared.request.Command.TheVariants.{List, Run}
 use Rattle.sl_tool.specs.declared.request.Request.{Request}
 
+abbrev pub command : Command → spec.Command
+command List = spec.ListImage
+command (Run steps) = spec.RunImage steps
+
 abbrev pub request : Request → spec.Request
-request r = record { spec = r.spec.now; image = r.image.now }
+request r = record { command = command r.command; spec = r.spec.now; image = r.image.now }

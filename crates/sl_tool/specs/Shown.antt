@@ -2,11 +2,11 @@
 use Rattle.std.specs.Prelude.{◌≡◌, ℕ, ◌⊎◌, List, Some, length, map, slice_get, codes}
 use Rattle.sl_cube.specs.declared.Cube.{Cube}
 use Rattle.sl_cube.specs.declared.Point.{Point}
-use Rattle.sl_tool.specs.Cubes.{has_cube}
-use Rattle.sl_tool.specs.Scan.{StandsFor}
-use Rattle.sl_tool.specs.Sets.{HasNoConflict, IsChoice, IsUnmatched}
-use Rattle.sl_tool.specs.declared.choice.Chooser.{Chooser}
-use Rattle.sl_tool.specs.declared.description.Constructor.{Constructor}
+use Rattle.sl_sets.specs.Cubes.{has_cube}
+use Rattle.sl_sets.specs.Scan.{StandsFor}
+use Rattle.sl_sets.specs.Sets.{HasNoConflict, IsChoice, IsUnmatched}
+use Rattle.sl_sets.specs.declared.choice.Chooser.{Chooser}
+use Rattle.sl_description.specs.declared.description.Constructor.{Constructor}
 
 -- the texts of the constructors
 abbrev pub mnemonics : List Constructor → List (List ℕ)

@@ -1,33 +1,36 @@
 //! The answer to a request.
 
-ghost use Rattle.std.specs.Prelude.{◌≡◌, ◌↔◌, ◌≤◌, ◌<◌, ◌^◌, Some, IsTrue, IfOk, length, slice_get};
+ghost use Rattle.std.specs.Prelude.{◌≡◌, ◌↔◌, ◌≤◌, ◌<◌, ◌/◌, ◌^◌, Some, IsTrue, IfOk, length, slice_get};
 ghost use Rattle.sl_outside.specs.Folder.{size_limit};
 ghost use Rattle.std.specs.Result.{IsErrOf};
 ghost use Rattle.sl_outside.specs.Causes.{Rose};
 ghost use Rattle.sl_lex.specs.Views.{views};
-ghost use Rattle.sl_tool.specs.Description as spec;
-ghost use Rattle.sl_tool.specs.Answers.{File, Answers};
-ghost use Rattle.sl_tool.specs.Compiles.{IsCompiled};
-ghost use Rattle.sl_tool.specs.Cubes.{has_cube};
-ghost use Rattle.sl_tool.specs.Describes.{IsLineOf, line_of};
+ghost use Rattle.sl_description.specs.Description as spec;
+ghost use Rattle.sl_description.specs.Fields.{Matches};
+ghost use Rattle.sl_tool.specs.Answers.{Answers, mnemonics};
+ghost use Rattle.sl_tool.specs.Listing.{Lists};
+ghost use Rattle.sl_tool.specs.Running.{status_of};
+ghost use Rattle.sl_tool.specs.Verdicts.{File};
+ghost use Rattle.sl_description.specs.Compiles.{IsCompiled};
+ghost use Rattle.sl_sets.specs.Cubes.{has_cube};
+ghost use Rattle.sl_description.specs.Describes.{IsLineOf, line_of};
 ghost use Rattle.sl_tool.specs.Requests.{request as request_view};
-ghost use Rattle.sl_tool.specs.Sets.{HasNoConflict, IsFirstConflict};
-ghost use Rattle.sl_tool.specs.Views.{description};
+ghost use Rattle.sl_sets.specs.Sets.{HasNoConflict, IsFirstConflict};
+ghost use Rattle.sl_description.specs.Views.{description};
 ghost use Rattle.sl_tool.specs.Given.{IsAnswered, IsAnsweredFor, IsRefusal};
 
-use crate::choice;
-use crate::compile::{Compiled, compile};
-use crate::conflicts::{first_conflict, report_on};
 use crate::fault::Fault;
 use crate::files::{Fetched, fetch_whole};
 use crate::lines::push_refusal;
 use crate::listing::listing;
-use crate::refusal::Refusal;
 use crate::reports::conflict_text;
-use crate::request::Request;
+use crate::request::{Command, Request};
+use crate::running::run_image;
 use crate::status::Status;
+use sl_description::{Compiled, Refusal, compile};
 use sl_outside::Files;
-use std::alloc::Global;
+use sl_sets::{Chooser, first_conflict, report_on};
+use std::alloc::{AllocError, Global};
 
 /// The status that a request ends with, and the whole text that is written.
 #[derive(Debug, Drop)]
@@ -176,7 +179,7 @@ fn answer_image<F: Files>(
     ensures never_falls { F.faults files.old ≤ F.faults files.new }
 {
     match fetch_whole(alloc, request.image, files)? {
-        Fetched::Bytes(image) => list_image(alloc, request, text, compiled, image.as_slice()),
+        Fetched::Bytes(image) => { answer_bytes(alloc, request, text, compiled, image.as_slice()) }
         Fetched::Absent => refused(alloc, request.image, "no such file"),
         Fetched::TooLong => refused(alloc, request.image, "too long"),
     }
@@ -189,8 +192,8 @@ fn fits(length: usize, address_bytes: u64) -> bool
     address_bytes >= 8 || length as u64 <= 1 << (8 * address_bytes)
 }
 
-/// The listing of the image, or its refusal where it doesn't fit.
-fn list_image(
+/// The listing or the run of the image, or its refusal where it doesn't fit.
+fn answer_bytes(
     alloc: Global,
     request: Request,
     text: &[u8],
@@ -204,22 +207,59 @@ fn list_image(
     ensures found { IfOk result (λ a. Answers (request_view request.entry) (Some text.now) (Some image.now) a.status a.text.items) }
     ensures no_read { IsErrOf result Fault.Read → ⊥ }
 {
-    let address_bytes = compiled.description.address_bytes;
-    if !fits(image.len(), address_bytes) {
+    if !fits(image.len(), compiled.description.address_bytes) {
         let answer = refused(alloc, request.image, "too long")?;
         return Ok(answer);
     }
-    let chooser = choice::build(alloc, compiled.sets.as_slice())?;
-    let lines = listing(
+    match request.command {
+        Command::List => {
+            let lines = list_image(alloc, text, compiled, image)?;
+            Ok(Answer {
+                status: Status::Done,
+                text: lines,
+            })
+        }
+        Command::Run(steps) => {
+            let (lines, has_stopped) = run_image(alloc, text, compiled, image, steps)?;
+            Ok(Answer {
+                status: status_of(has_stopped),
+                text: lines,
+            })
+        }
+    }
+}
+
+/// The status that a run ends with.
+fn status_of(has_stopped: bool) -> Status
+    ensures { result ≡ status_of has_stopped }
+{
+    if has_stopped {
+        Status::Stopped
+    } else {
+        Status::Done
+    }
+}
+
+/// The listing of an image that fits.
+fn list_image(
+    alloc: Global,
+    text: &[u8],
+    compiled: &Compiled,
+    image: &[u8],
+) -> Result<Vec<u8>, AllocError>
+    requires image { length image.now ≤ size_limit }
+    requires compiled { IsCompiled text.now compiled.now }
+    requires clear { HasNoConflict has_cube compiled.now.sets.items }
+    ensures { IfOk result (λ lines. Lists (Matches (description compiled.now.description)) (description compiled.now.description).constructors
+        (mnemonics (description compiled.now.description)) compiled.now.description.address_bytes (compiled.now.description.token_bits / 8) image.now 0 lines.items) }
+{
+    let chooser = Chooser::build(alloc, compiled.sets.as_slice())?;
+    listing(
         alloc,
         &chooser,
         compiled.description.constructors.as_slice(),
-        address_bytes as usize,
+        compiled.description.address_bytes as usize,
         (compiled.description.token_bits / 8) as usize,
         image,
-    )?;
-    Ok(Answer {
-        status: Status::Done,
-        text: lines,
-    })
+    )
 }

@@ -1,11 +1,6 @@
-//! Laws of the definitions.
+//! A law of the definitions.
 
-ghost use Rattle.sl_tool.specs.Laws.{HasOneDescription, HasOneAnswer};
-
-/// A text has at most one list of tokens that spells a description, and describes at most one.
-pub fn one_description()
-    ensures { HasOneDescription }
-{}
+ghost use Rattle.sl_tool.specs.Laws.{HasOneAnswer};
 
 /// A request has at most one answer, by its status and its text, where its names hold these files.
 /// So the answer that the call gives is the one that there is.

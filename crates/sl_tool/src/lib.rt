@@ -9,27 +9,19 @@
 #![tactic(auto)]
 
 mod answer;
-mod choice;
-mod compile;
-mod conflicts;
-mod cursor;
-mod description;
 mod fault;
-mod fields;
 mod files;
 mod laws;
 mod lines;
 mod listing;
-mod places;
-mod reading;
-mod refusal;
 mod reports;
 mod request;
-mod rules;
+mod run_lines;
+mod running;
 mod status;
 mod tool;
 mod writing;
 
-pub use laws::{one_answer, one_description};
+pub use laws::one_answer;
 pub use status::Status;
 pub use tool::run_tool;

@@ -3,16 +3,16 @@
 ghost use Rattle.std.specs.Prelude.{◌≡◌, ◌<◌, ◌≤◌, ◌^◌, IfOk, MatchOption, List, length, map};
 ghost use Rattle.std.specs.Int.{w128, from_be_bytes};
 ghost use Rattle.sl_cube.specs.declared.Cube.{Cube};
-ghost use Rattle.sl_tool.specs.Cubes.{has_cube};
+ghost use Rattle.sl_sets.specs.Cubes.{has_cube};
 ghost use Rattle.sl_tool.specs.Listing.{Lists, bytes_at};
-ghost use Rattle.sl_tool.specs.Scan.{StandsFor};
-ghost use Rattle.sl_tool.specs.Sets.{HasNoConflict, IsUnmatched};
+ghost use Rattle.sl_sets.specs.Scan.{StandsFor};
+ghost use Rattle.sl_sets.specs.Sets.{HasNoConflict, IsUnmatched};
 ghost use Rattle.sl_tool.specs.Shown.{Chooses, IsChosenText, IsShown, mnemonics};
 
-use crate::choice::Chooser;
-use crate::description::Constructor;
 use crate::lines::push_listed;
 use sl_cube::Point;
+use sl_description::Constructor;
+use sl_sets::Chooser;
 use std::alloc::{AllocError, Global};
 
 /// What is shown where no constructor matches.

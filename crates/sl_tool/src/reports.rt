@@ -3,9 +3,9 @@
 ghost use Rattle.std.specs.Prelude.{◌≡◌, ◌++◌, OnOk, IfOk};
 ghost use Rattle.sl_tool.specs.ConflictLines.{point_line, ambiguity_text, apart_lines, conflict_lines};
 
-use crate::conflicts::{Apart, Report};
 use crate::lines::{push_place, push_point, push_refusal};
 use sl_cube::Point;
+use sl_sets::{Apart, Report};
 use std::alloc::{AllocError, Global};
 
 /// The lines that tell of a conflict between the constructors of these lines of the file: where they

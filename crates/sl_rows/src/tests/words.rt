@@ -8,7 +8,7 @@ use std::test::Fail;
 const USAGE: &str =
     "usage: sleigh check SPEC | list SPEC IMAGE | pcode SPEC IMAGE | run SPEC IMAGE | gen NUMBER\n";
 
-static WORDS: [&[&str]; 25] = [
+static WORDS: [&[&str]; 39] = [
     &[],
     &["list"],
     &["list", "s"],
@@ -26,7 +26,21 @@ static WORDS: [&[&str]; 25] = [
     &["check", "s", "t"],
     &["check", "s", "i"],
     &["pcode", "s", "i"],
-    &["run", "s", "i"],
+    &["run", "s"],
+    &["run", "s", "-i"],
+    &["run", "s", "i", "--steps"],
+    &["run", "s", "i", "--step", "1"],
+    &["run", "s", "i", "--steps=1"],
+    &["run", "s", "i", "--steps", ""],
+    &["run", "s", "i", "--steps", "0x"],
+    &["run", "s", "i", "--steps", "1a"],
+    &["run", "s", "i", "--steps", "0X1"],
+    &["run", "s", "i", "--steps", "+1"],
+    &["run", "s", "i", "--steps", "-1"],
+    &["run", "s", "i", "--steps", "0x+1"],
+    &["run", "s", "i", "--steps", "18446744073709551616"],
+    &["run", "s", "i", "--steps", "0x10000000000000000"],
+    &["run", "s", "i", "--steps", "1", "2"],
     &["run", "s", "i", "--base", "1", "--base", "1"],
     &["gen", "1"],
     &["gen", "0"],

@@ -2,15 +2,17 @@ use Rattle.std.proofs.Common.{◌≡◌, ℕ, List, length, refl, ap, sym, subst
 use Rattle.std.specs.Prelude.{Some, slice_get}
 use Rattle.std.proofs.lemmas.Option.{slice_get_read, slice_get_within}
 use Rattle.sl_lex.specs.Views.{views}
-use Rattle.sl_tool.specs.Answers.{Answers, IsAmbiguous}
-use Rattle.sl_tool.specs.Answers.Answers.{ambiguous}
+use Rattle.sl_tool.specs.Answers.{Answers}
+use Rattle.sl_tool.specs.Verdicts.{IsAmbiguous}
+use Rattle.sl_tool.specs.Answers.Answers.{refused}
+use Rattle.sl_tool.specs.Verdicts.Judges.{ambiguous}
 use Rattle.sl_tool.specs.ConflictLines.{conflict_lines}
-use Rattle.sl_tool.specs.Cubes.{has_cube}
-use Rattle.sl_tool.specs.Fields.{Matches}
+use Rattle.sl_sets.specs.Cubes.{has_cube}
+use Rattle.sl_description.specs.Fields.{Matches}
 use Rattle.sl_tool.specs.Requests.{request}
-use Rattle.sl_tool.specs.Views.{description}
+use Rattle.sl_description.specs.Views.{description}
 use Rattle.sl_tool.specs.declared.status.Status.TheVariants.{Refused}
-use Rattle.sl_tool.proofs.AlikeLemmas.{first_conflict_alike, report_alike, alike_there}
+use Rattle.sl_sets.proofs.AlikeLemmas.{first_conflict_alike, report_alike, alike_there}
 use Rattle.sl_tool.proofs.AnswerLemmas.{alike_sets}
 use Rattle.sl_tool.proofs.answer.ambiguous.Goals as goal
 
@@ -45,4 +47,4 @@ returns-clause-found c = λ image.
     let lines = c.in_ok-lines.ensures
     ∙ ap (λ (file : List ℕ). conflict_lines file c.constructor_line-first_line.result c.constructor_line-second_line.result told) c.as_bytes.ensures.value in
     subst (λ (t : List ℕ). Answers r (Some text) image Refused t) (sym lines)
-    (ambiguous (record { is = refl; within = c.requires.within }) c.requires.compiled.describes here)
+    (refused (ambiguous (record { is = refl; within = c.requires.within }) c.requires.compiled.describes here))

@@ -1,11 +1,12 @@
 use Rattle.std.proofs.Common.{subst}
 use Rattle.std.specs.Prelude.{List, Some}
 use Rattle.sl_cube.specs.declared.Cube.{Cube}
-use Rattle.sl_tool.specs.Answers.{File, Answers}
-use Rattle.sl_tool.specs.Cubes.{has_cube}
+use Rattle.sl_tool.specs.Answers.{Answers}
+use Rattle.sl_tool.specs.Verdicts.{File}
+use Rattle.sl_sets.specs.Cubes.{has_cube}
 use Rattle.sl_tool.specs.Given.{IsAnsweredFor}
 use Rattle.sl_tool.specs.Requests.{request}
-use Rattle.sl_tool.specs.Sets.{HasNoConflict}
+use Rattle.sl_sets.specs.Sets.{HasNoConflict}
 use Rattle.sl_tool.proofs.AnswerLemmas.{ok_then, some_file}
 use Rattle.sl_tool.proofs.answer.answer_compiled.Goals as goal
 

@@ -1,6 +1,7 @@
 use Rattle.std.proofs.Common.{None, Some, refl, subst, inl}
 use Rattle.std.specs.Prelude.{codes}
 use Rattle.sl_tool.specs.Answers.Answers.{no_image, long_image}
+use Rattle.sl_tool.specs.Verdicts.Judges.{accepted}
 use Rattle.sl_tool.specs.Fetches.{IsFetched}
 use Rattle.sl_tool.specs.Given.{IsRefusal, IsAnsweredFor}
 use Rattle.sl_tool.specs.Requests.{request}
@@ -16,7 +17,7 @@ returns-in-Absent-clause-found g c =
     let clear = unambiguous text c.args.compiled.now c.requires.within c.requires.compiled c.requires.clear in
     let absent = subst (λ (v : Fetched). IsFetched told r.image v) c.in-Absent.is c.in_ok-image.ensures.found in
     ok_then (IsRefusal r.image (codes "no such file")) (IsAnsweredFor told r text) c.refused.result
-    (λ a h. (None, absent, refusal_answers r (Some text) None r.image (codes "no such file") a h (no_image clear refl))) c.refused.ensures.refusal
+    (λ a h. (None, absent, refusal_answers r (Some text) None r.image (codes "no such file") a h (no_image (accepted clear) refl))) c.refused.ensures.refusal
 
 pub returns-in-TooLong-clause-found : goal.returns-in-TooLong-clause-found
 returns-in-TooLong-clause-found g c =
@@ -26,4 +27,4 @@ returns-in-TooLong-clause-found g c =
     let clear = unambiguous text c.args.compiled.now c.requires.within c.requires.compiled c.requires.clear in
     let long = subst (λ (v : Fetched). IsFetched told r.image v) c.in-TooLong.is c.in_ok-image.ensures.found in
     ok_then (IsRefusal r.image (codes "too long")) (IsAnsweredFor told r text) c.refused-in-TooLong.result
-    (λ a h. (Some long.0, long.1, refusal_answers r (Some text) (Some long.0) r.image (codes "too long") a h (long_image clear refl (inl long.2)))) c.refused-in-TooLong.ensures.refusal
+    (λ a h. (Some long.0, long.1, refusal_answers r (Some text) (Some long.0) r.image (codes "too long") a h (long_image (accepted clear) refl (inl long.2)))) c.refused-in-TooLong.ensures.refusal

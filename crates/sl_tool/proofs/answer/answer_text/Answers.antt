@@ -1,6 +1,7 @@
 use Rattle.std.proofs.Common.{Some, Err, refl, ap}
 use Rattle.std.specs.Prelude.{codes}
-use Rattle.sl_tool.specs.Answers.Answers.{not_yet}
+use Rattle.sl_tool.specs.Answers.Answers.{refused as refused_answer}
+use Rattle.sl_tool.specs.Verdicts.Judges.{not_yet}
 use Rattle.sl_tool.specs.Given.{IsRefusal, IsAnsweredFor}
 use Rattle.sl_tool.specs.Requests.{request}
 use Rattle.sl_tool.proofs.AnswerLemmas.{ok_then, some_file, refusal_answers}
@@ -18,5 +19,5 @@ returns-in-Err-NotYet-clause-found g c =
       image.0,
       image.1,
       refusal_answers r (Some text) image.0 r.spec (codes "not yet") a h
-          (not_yet (record { is = refl; within = c.requires }) undescribed),
+          (refused_answer (not_yet (record { is = refl; within = c.requires }) undescribed)),
     )) c.refused.ensures.refusal

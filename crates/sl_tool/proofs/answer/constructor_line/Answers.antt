@@ -3,9 +3,9 @@ use Rattle.std.proofs.lemmas.List.Elements.{All-get_or}
 use Rattle.sl_lex.specs.Views.{view, views}
 use Rattle.sl_lex.specs.declared.Tok.{Tok}
 use Rattle.sl_lex.proofs.SliceLemmas.{toks_begin_within}
-use Rattle.sl_tool.specs.Description.{Constructor}
-use Rattle.sl_tool.specs.Describes.{IsLineOf}
-use Rattle.sl_tool.specs.Views.{constructor}
+use Rattle.sl_description.specs.Description.{Constructor}
+use Rattle.sl_description.specs.Describes.{IsLineOf}
+use Rattle.sl_description.specs.Views.{constructor}
 use Rattle.sl_tool.proofs.AnswerLemmas.{constructor_within, token_within, seen, token_at}
 use Rattle.sl_tool.proofs.answer.constructor_line.Goals as goal
 

@@ -2,7 +2,7 @@ use Rattle.std.proofs.Common.{◌≡◌, ℕ, ◌*◌, ◌%◌, ◌^◌, ◌<◌
 use Rattle.std.proofs.Math.Nat.{pow-le-pow_right, mod-eq_of_lt}
 use Rattle.std.proofs.lemmas.Nat.{pow_below}
 use Rattle.std.proofs.lemmas.Bool.{le-leb, leb-true}
-use Rattle.sl_tool.proofs.FieldLemmas.{power_of_bytes}
+use Rattle.sl_description.proofs.FieldLemmas.{power_of_bytes}
 use Rattle.sl_tool.proofs.answer.fits.Goals as goal
 
 pub returns-then-address_bytes-ge8 : goal.returns-then-address_bytes-ge8

@@ -1,0 +1,16 @@
+pub mod Symbols
+pub mod Description
+pub mod Outcomes
+pub mod Views
+pub mod Registers
+pub mod Sections
+pub mod Reading
+pub mod Fields
+pub mod Rules
+pub mod Places
+pub mod Tables
+pub mod Compiled
+pub mod Describes
+pub mod Compiles
+pub mod Refusals
+pub mod Laws

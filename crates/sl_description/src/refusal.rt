@@ -1,0 +1,42 @@
+//! Why a call gives up.
+
+ghost use Rattle.std.specs.Prelude.{◌≡◌};
+ghost use Rattle.sl_description.specs.declared.refusal.Refusal.TheVariants.{NoMemory};
+ghost use Rattle.sl_description.specs.Refusals.{of_lexer};
+
+use sl_lex::LexError;
+use std::alloc::{AllocError, AllocFailed};
+
+/// Why a text is no description, or can't be told to be one.
+#[derive(Clone, Copy, Debug, Drop, PartialEq, Eq)]
+pub enum Refusal {
+    NotYet,
+    NoMemory,
+}
+
+impl From<AllocError> for Refusal {
+    ghost from_gives = { λ _ e. e ≡ NoMemory };
+
+    fn from(_error: AllocError) -> Refusal {
+        Refusal::NoMemory
+    }
+}
+
+impl<T: Drop> From<AllocFailed<T>> for Refusal {
+    ghost from_gives = { λ _ e. e ≡ NoMemory };
+
+    fn from(_error: AllocFailed<T>) -> Refusal {
+        Refusal::NoMemory
+    }
+}
+
+impl From<LexError> for Refusal {
+    ghost from_gives = { λ e r. r ≡ of_lexer e };
+
+    fn from(error: LexError) -> Refusal {
+        match error {
+            LexError::NotYet => Refusal::NotYet,
+            LexError::NoMemory => Refusal::NoMemory,
+        }
+    }
+}

@@ -1,0 +1,5 @@
+pub mod MachineLemmas
+pub mod RunLemmas
+pub mod SoundSections
+pub mod OneRun
+pub mod AlikeRuns

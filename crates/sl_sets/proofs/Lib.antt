@@ -1,0 +1,5 @@
+pub mod ChoiceLemmas
+pub mod ConflictLemmas
+pub mod ReportLemmas
+pub mod AlikeLemmas
+pub mod UniqueSets

@@ -1,0 +1,4 @@
+pub mod Sets
+pub mod Cubes
+pub mod Scan
+pub mod Reports

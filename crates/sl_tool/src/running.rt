@@ -1,0 +1,125 @@
+//! The run of an image.
+
+ghost use Rattle.std.specs.Prelude.{◌≡◌, ◌<◌, ◌≤◌, ◌^◌, IfOk, length};
+ghost use Rattle.std.specs.List.{AllByRecursion};
+ghost use Rattle.sl_word.specs.Bytes.{address_sizes as sizes_of_state};
+ghost use Rattle.sl_description.specs.Compiles.{IsCompiled};
+ghost use Rattle.sl_description.specs.Registers.{address_sizes_of};
+ghost use Rattle.sl_description.specs.Rules.{IsSound};
+ghost use Rattle.sl_description.specs.Views.{description, seen_registers, statements};
+ghost use Rattle.sl_run.specs.Machine.{RegisterFits};
+ghost use Rattle.sl_sets.specs.Cubes.{has_cube};
+ghost use Rattle.sl_sets.specs.Sets.{HasNoConflict};
+ghost use Rattle.sl_tool.specs.Opened.{HasRun, IsOpened, TellsRun};
+ghost use Rattle.sl_tool.specs.Running.{IsRun, status_of};
+
+use crate::run_lines::{push_changes, push_counter, push_fault, push_registers, push_steps};
+use sl_description::{Compiled, Description};
+use sl_run::{Outcome, run_steps};
+use sl_sets::Chooser;
+use sl_word::{SpaceId, State};
+use std::alloc::{AllocError, Global};
+
+/// How many bytes an address has in each space: the memory, and the register space if there is one.
+fn address_sizes(alloc: Global, d: &Description) -> Result<Vec<u8>, AllocError>
+    requires { IsSound (description d.now) }
+    ensures { IfOk result (λ sizes. sizes.items ≡ address_sizes_of (description d.now)) }
+{
+    let mut sizes = Vec::new(alloc);
+    sizes.push(d.address_bytes as u8)?;
+    if let Some(space) = &d.registers {
+        sizes.push(space.address_bytes as u8)?;
+    }
+    Ok(sizes)
+}
+
+/// A machine with the image in its memory, before the first step.
+fn opened(alloc: Global, d: &Description, sizes: &[u8], image: &[u8]) -> Result<State, AllocError>
+    requires sound { IsSound (description d.now) }
+    requires sizes { sizes.now ≡ address_sizes_of (description d.now) }
+    requires fits { length image.now ≤ 256 ^ d.now.address_bytes }
+    ensures { IfOk result (IsOpened (description d.now) image.now) }
+{
+    let mut state = State::new(alloc, d.endian, sizes)?;
+    state.load_image(SpaceId(0), 0, image)?;
+    Ok(state)
+}
+
+/// The machine after at most so many steps from the image, and how they ended.
+fn run(
+    alloc: Global,
+    text: &[u8],
+    compiled: &Compiled,
+    sizes: &[u8],
+    image: &[u8],
+    steps: u64,
+) -> Result<(State, Outcome), AllocError>
+    requires compiled { IsCompiled text.now compiled.now }
+    requires clear { HasNoConflict has_cube compiled.now.sets.items }
+    requires sizes { sizes.now ≡ address_sizes_of (description compiled.now.description) }
+    requires fits { length image.now ≤ 256 ^ compiled.now.description.address_bytes }
+    ensures { IfOk result (λ r. HasRun (description compiled.now.description) (statements compiled.now.resolution.sections.items) image.now steps r.0 r.1) }
+{
+    let d = &compiled.description;
+    let mut state = opened(alloc, d, sizes, image)?;
+    let chooser = Chooser::build(alloc, compiled.sets.as_slice())?;
+    let outcome = run_steps(
+        alloc,
+        &chooser,
+        compiled.resolution.sections.as_slice(),
+        sizes,
+        d.address_bytes as u8,
+        (d.token_bits / 8) as u8,
+        &mut state,
+        steps,
+    )?;
+    Ok((state, outcome))
+}
+
+/// The text of a run from an opening state to this one.
+fn run_text(
+    alloc: Global,
+    compiled: &Compiled,
+    opening: &State,
+    state: &State,
+    outcome: Outcome,
+) -> Result<Vec<u8>, AllocError>
+    requires address_bytes { compiled.now.description.address_bytes ≤ 8 }
+    requires sizes { sizes_of_state opening.now ≡ sizes_of_state state.now }
+    requires registers { AllByRecursion (RegisterFits (sizes_of_state state.now)) (seen_registers compiled.now.resolution.registers.items) }
+    ensures { IfOk result (λ text. TellsRun (description compiled.now.description) (seen_registers compiled.now.resolution.registers.items)
+        opening.now state.now outcome text.items) }
+{
+    let d = &compiled.description;
+    let address_bytes = d.address_bytes as usize;
+    let changes = state.changes(alloc, opening)?;
+    let mut out = Vec::new(alloc);
+    push_steps(&mut out, outcome.ran)?;
+    push_counter(&mut out, address_bytes, outcome.counter)?;
+    push_registers(&mut out, state, compiled.resolution.registers.as_slice())?;
+    push_changes(&mut out, d.space, address_bytes, changes.as_slice())?;
+    push_fault(&mut out, outcome.stopped)?;
+    Ok(out)
+}
+
+/// The run of the image for at most so many steps: its text, and whether it stopped at a fault. The
+/// only error is want of memory.
+pub fn run_image(
+    alloc: Global,
+    text: &[u8],
+    compiled: &Compiled,
+    image: &[u8],
+    steps: u64,
+) -> Result<(Vec<u8>, bool), AllocError>
+    requires compiled { IsCompiled text.now compiled.now }
+    requires clear { HasNoConflict has_cube compiled.now.sets.items }
+    requires fits { length image.now ≤ 256 ^ compiled.now.description.address_bytes }
+    ensures { IfOk result (λ r. IsRun (description compiled.now.description) image.now steps (status_of r.1) r.0.items) }
+{
+    let d = &compiled.description;
+    let sizes = address_sizes(alloc, d)?;
+    let opening = opened(alloc, d, sizes.as_slice(), image)?;
+    let (state, outcome) = run(alloc, text, compiled, sizes.as_slice(), image, steps)?;
+    let lines = run_text(alloc, compiled, &opening, &state, outcome)?;
+    Ok((lines, outcome.stopped))
+}
