@@ -1,0 +1,25 @@
+use Rattle.std.specs.Prelude.{List, [], ◌∷◌, ◌++◌, ℕ, codes}
+use Rattle.sl_lex.specs.declared.mode.Mode.{Mode}
+use Rattle.sl_lex.specs.declared.mode.Mode.TheVariants.{Top, Head, Plain, Body, Display, Pattern}
+
+-- the marks of every mode but Display
+abbrev pub common_marks : List (List ℕ)
+common_marks =
+    codes "..." ∷ codes "$and" ∷ codes "$or" ∷ codes "$xor" ∷ codes "<<" ∷ codes ">>" ∷ codes "<=" ∷ codes ">=" ∷ codes "==" ∷ codes "!="
+    ∷ codes "&&" ∷ codes "||" ∷ codes "^^" ∷ codes "(" ∷ codes ")" ∷ codes "[" ∷ codes "]" ∷ codes "{" ∷ codes "}" ∷ codes "," ∷ codes ";"
+    ∷ codes ":" ∷ codes "=" ∷ codes "+" ∷ codes "-" ∷ codes "*" ∷ codes "/" ∷ codes "%" ∷ codes "&" ∷ codes "|" ∷ codes "^" ∷ codes "~"
+    ∷ codes "!" ∷ codes "<" ∷ codes ">" ∷ []
+
+-- the signed and the floating operators, which sections have besides
+abbrev pub section_marks : List (List ℕ)
+section_marks =
+    codes "s>>" ∷ codes "s<=" ∷ codes "s>=" ∷ codes "s<" ∷ codes "s>" ∷ codes "s/" ∷ codes "s%" ∷ codes "f+" ∷ codes "f-" ∷ codes "f*"
+    ∷ codes "f/" ∷ codes "f==" ∷ codes "f!=" ∷ codes "f<" ∷ codes "f<=" ∷ codes "f>" ∷ codes "f>=" ∷ []
+
+abbrev pub marks_of : Mode → List (List ℕ)
+marks_of Display = []
+marks_of Body = common_marks ++ section_marks
+marks_of Top = common_marks
+marks_of Head = common_marks
+marks_of Plain = common_marks
+marks_of Pattern = common_marks
