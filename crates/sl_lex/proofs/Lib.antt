@@ -1,1 +1,5 @@
-
+pub mod RunLemmas
+pub mod NumberLemmas
+pub mod SpelledLemmas
+pub mod MarkLemmas
+pub mod WordLemmas

@@ -16,10 +16,19 @@ section_marks =
     codes "s>>" ∷ codes "s<=" ∷ codes "s>=" ∷ codes "s<" ∷ codes "s>" ∷ codes "s/" ∷ codes "s%" ∷ codes "f+" ∷ codes "f-" ∷ codes "f*"
     ∷ codes "f/" ∷ codes "f==" ∷ codes "f!=" ∷ codes "f<" ∷ codes "f<=" ∷ codes "f>" ∷ codes "f>=" ∷ []
 
+-- the marks of a mode beside those that all have
+abbrev pub section_marks_of : Mode → List (List ℕ)
+section_marks_of Body = section_marks
+section_marks_of Top = []
+section_marks_of Head = []
+section_marks_of Plain = []
+section_marks_of Display = []
+section_marks_of Pattern = []
+
 abbrev pub marks_of : Mode → List (List ℕ)
 marks_of Display = []
-marks_of Body = common_marks ++ section_marks
 marks_of Top = common_marks
 marks_of Head = common_marks
 marks_of Plain = common_marks
+marks_of Body = common_marks ++ section_marks
 marks_of Pattern = common_marks

@@ -2,7 +2,7 @@
 
 ghost use Rattle.std.specs.Prelude.{◌≡◌};
 ghost use Rattle.std.specs.List.{prefix_len};
-ghost use Rattle.sl_lex.specs.Bytes.{is_blank, is_digit, is_hex_digit, is_binary_digit, begins_word, is_word_byte, is_comment_byte, is_text_byte, is_char};
+ghost use Rattle.sl_lex.specs.Bytes.{is_blank, is_digit, is_hex_digit, is_binary_digit, is_letter, begins_word, is_word_byte, is_comment_byte, is_text_byte, is_char};
 
 pub fn is_blank(byte: u8) -> bool
     ensures { result ≡ is_blank byte }
@@ -28,10 +28,16 @@ fn is_binary_digit(byte: u8) -> bool
     matches!(byte, b'0'..=b'1')
 }
 
+pub fn is_letter(byte: u8) -> bool
+    ensures { result ≡ is_letter byte }
+{
+    matches!(byte, b'A'..=b'Z' | b'a'..=b'z' | b'_')
+}
+
 pub fn begins_word(byte: u8) -> bool
     ensures { result ≡ begins_word byte }
 {
-    matches!(byte, b'A'..=b'Z' | b'a'..=b'z' | b'_' | b'.')
+    is_letter(byte) || byte == b'.'
 }
 
 pub fn is_word_byte(byte: u8) -> bool

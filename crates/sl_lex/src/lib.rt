@@ -2,14 +2,14 @@
 #![tactic(auto)]
 
 mod bytes;
+pub mod laws;
 mod lexemes;
-
 mod lexer;
 mod marks;
 mod mode;
 mod numbers;
 
-
+pub use lexer::lex;
 use thiserror::Error;
 
 /// What a token is (SLEIGH manual, "Basic Specification Layout"; in displays, "The Display Section").

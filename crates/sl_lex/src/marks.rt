@@ -1,13 +1,14 @@
 //! Marks, and the longest one at the front of a text.
 
-ghost use Rattle.std.specs.Prelude.{◌≡◌, map};
+ghost use Rattle.std.specs.Prelude.{◌≡◌, ◌<◌, if◌then◌else◌, length, map, nat_eq};
+ghost use Rattle.std.specs.List.{starts_with};
 ghost use Rattle.sl_lex.specs.Found.{IsLongestMark};
-ghost use Rattle.sl_lex.specs.Marks.{marks_of};
+ghost use Rattle.sl_lex.specs.Marks.{marks_of, section_marks_of};
 
-use crate::bytes::begins_word;
+use crate::bytes::is_letter;
 use crate::mode::Mode;
 
-/// The marks of every mode but `Display`; those that stand most often come first.
+/// The marks of every mode but `Display`.
 static COMMON_MARKS: [&[u8]; 35] = [
     b"...", b"$and", b"$or", b"$xor", b"<<", b">>", b"<=", b">=", b"==", b"!=", b"&&", b"||",
     b"^^", b"(", b")", b"[", b"]", b"{", b"}", b",", b";", b":", b"=", b"+", b"-", b"*", b"/",
@@ -20,27 +21,48 @@ static SECTION_MARKS: [&[u8]; 17] = [
     b"f!=", b"f<", b"f<=", b"f>", b"f>=",
 ];
 
+/// The mark's length where it stands at the front; else 0.
+fn length_at_front(mark: &[u8], text: &[u8]) -> usize
+    ensures { result ≡ (if starts_with nat_eq text.now mark.now then length mark.now else 0) }
+{
+    if text.starts_with(mark) {
+        mark.len()
+    } else {
+        0
+    }
+}
+
 /// The length of the longest of these marks at the front; 0 where none stands there.
 fn longest_of(marks: &[&[u8]], text: &[u8]) -> usize
     ensures { IsLongestMark (map (λ m. m.now) marks.now) text.now result }
 {
     let mut longest = 0;
     for mark in marks {
-        if longest < mark.len() && text.starts_with(mark) {
-            longest = mark.len();
-        }
+        longest = length_at_front(mark, text).max(longest);
     }
     longest
 }
 
-/// The length of the longest mark of the mode at the front; 0 where none stands there.
-pub fn count_mark(mode: Mode, text: &[u8]) -> usize
-    ensures { IsLongestMark (marks_of mode) text.now result }
+/// The length of the longest mark at the front that begins with a letter; 0 where none stands there.
+fn count_lettered_mark(mode: Mode, text: &[u8]) -> usize
+    requires { 0 < length text.now }
+    ensures { IsLongestMark (section_marks_of mode) text.now result }
 {
     match mode {
-        Mode::Display => 0,
-        Mode::Body if matches!(text, [b's' | b'f', ..]) => longest_of(&SECTION_MARKS, text),
-        _ if matches!(text, [b'a'..=b'z' | b'A'..=b'Z' | b'_', ..]) => 0,
-        _ => longest_of(&COMMON_MARKS, text),
+        Mode::Body if matches!(text[0], b's' | b'f') => longest_of(&SECTION_MARKS, text),
+        _ => 0,
+    }
+}
+
+/// The length of the longest mark of the mode at the front; 0 where none stands there.
+pub fn count_mark(mode: Mode, text: &[u8]) -> usize
+    requires outside { mode ≡ Mode.Display → ⊥ }
+    requires some { 0 < length text.now }
+    ensures { IsLongestMark (marks_of mode) text.now result }
+{
+    if is_letter(text[0]) {
+        count_lettered_mark(mode, text)
+    } else {
+        longest_of(&COMMON_MARKS, text)
     }
 }
