@@ -3,3 +3,10 @@ pub mod NumberLemmas
 pub mod SpelledLemmas
 pub mod MarkLemmas
 pub mod WordLemmas
+pub mod CodeLemmas
+pub mod StandLemmas
+pub mod DisplayLemmas
+pub mod QuoteLemmas
+pub mod FaultLemmas
+pub mod StepLemmas
+pub mod ReadingLemmas

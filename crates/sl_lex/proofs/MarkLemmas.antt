@@ -27,7 +27,7 @@ abbrev pub begins : (ℕ → Bool) → List ℕ → Bool
 begins test [] = false
 begins test (b ∷ bs) = test b
 
-front_begins : (test : ℕ → Bool) (b : ℕ) (bs front rest : List ℕ) → b ∷ bs ≡ front ++ rest → begins test front ≡ true → test b ≡ true
+pub front_begins : (test : ℕ → Bool) (b : ℕ) (bs front rest : List ℕ) → b ∷ bs ≡ front ++ rest → begins test front ≡ true → test b ≡ true
 front_begins test b bs [] rest e h = absurd (cc)
 front_begins test b bs (c ∷ cs) rest e h = let here : b ≡ c = cc in ap test here ∙ h
 

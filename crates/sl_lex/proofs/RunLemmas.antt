@@ -1,7 +1,8 @@
 -- Runs of bytes that pass a test, and where they end.
-use Rattle.std.proofs.Common.{◌≡◌, ℕ, ◌+◌, ◌<◌, ◌≤◌, Bool, true, false, List, [], ◌∷◌, ◌++◌, take, drop, length, arith, refl, ap, ap₂, sym, ◌∙◌, ◌&&◌, cond, suc, subst}
+use Rattle.std.proofs.Common.{◌≡◌, ℕ, ◌+◌, ◌<◌, ◌≤◌, Bool, true, false, List, [], ◌∷◌, ◌++◌, take, drop, length, arith, refl, ap, ap₂, sym, ◌∙◌, ◌&&◌, cond, zero, suc, subst}
 use Rattle.std.specs.List.{list_all, prefix_len}
-use Rattle.sl_lex.specs.Lexemes.{BeginsWith, Stops}
+use Rattle.std.proofs.lemmas.List.Sums.{prefix_len-le-length}
+use Rattle.sl_lex.specs.Lexemes.{BeginsWith, Stops, IsRun}
 
 pub both_true : (a b : Bool) → (a && b) ≡ true → (a ≡ true) × (b ≡ true)
 both_true true b h = (refl, h)
@@ -73,3 +74,24 @@ one_front (x ∷ xs) ys (u ∷ us) vs e h =
     let lengths : length xs ≡ length us = omega arith in
     let rest = one_front xs ys us vs later lengths in
     (ap₂ (λ z zs. z ∷ zs) here rest.0, rest.1)
+
+-- A front of some bytes begins as the text does.
+pub begins_front : (p : ℕ → Bool) (b n : ℕ) (bs : List ℕ) → 0 < n → p b ≡ true → BeginsWith p (take n (b ∷ bs))
+begins_front p b zero bs some h = absurd (omega arith)
+begins_front p b (suc n) bs some h = h
+
+pub run_begins : (p : ℕ → Bool) (bytes : List ℕ) → IsRun p bytes → BeginsWith p bytes
+run_begins p [] h = absurd (let some : 0 < length {A = ℕ} [] = h.0 in omega arith)
+run_begins p (b ∷ bs) h = (both_true (p b) (list_all p bs) h.1).0
+
+pub begins_some : (p : ℕ → Bool) (bytes : List ℕ) → BeginsWith p bytes → 0 < length bytes
+begins_some p [] h = absurd h
+begins_some p (b ∷ bs) h = omega arith
+
+-- A run that begins has some bytes.
+pub counts_some : (p : ℕ → Bool) (b : ℕ) (bs : List ℕ) (n : ℕ) → p b ≡ true → n ≡ prefix_len p (b ∷ bs) → 0 < n
+counts_some p b bs n h e = let one : prefix_len p (b ∷ bs) ≡ 1 + prefix_len p bs = rw h refl in omega arith
+
+-- A text that begins with a run that is so long splits there.
+pub run_within : (p : ℕ → Bool) (text : List ℕ) (n : ℕ) → n ≡ prefix_len p text → n ≤ length text
+run_within p text n e = omega (arith, e, prefix_len-le-length p text)

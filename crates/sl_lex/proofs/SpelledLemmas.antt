@@ -1,5 +1,5 @@
 -- Integers in three bases, and the longest one at the front of a text.
-use Rattle.std.proofs.Common.{◌≡◌, ℕ, ◌+◌, ◌<◌, ◌≤◌, ◌⊎◌, ◌≢◌, inl, inr, Option, Some, nat_eq, Bool, true, false, List, [], ◌∷◌, ◌++◌, take, drop, get_or, length, arith, refl, ap, sym, ◌∙◌, subst, codes, length-append, append_assoc}
+use Rattle.std.proofs.Common.{◌≡◌, ℕ, ◌+◌, ◌<◌, ◌≤◌, ◌⊎◌, ◌≢◌, inl, inr, Option, Some, nat_eq, Bool, true, false, List, [], ◌∷◌, ◌++◌, take, drop, get_or, length, arith, refl, ap, sym, ◌∙◌, subst, codes, length-append, append_assoc, append-nil}
 use Rattle.std.specs.Cmp.Lexicographic.{pointwise}
 use Rattle.std.specs.List.{list_all, prefix_len}
 use Rattle.std.specs.Option.{MatchOption}
@@ -13,7 +13,7 @@ use Rattle.std.proofs.lemmas.List.Sums.{prefix_len-le-length}
 use Rattle.sl_lex.specs.Bytes.{is_digit, is_hex_digit, is_binary_digit, number}
 use Rattle.sl_lex.specs.Found.{IsLongestSpelled, IsLongestInteger}
 use Rattle.sl_lex.specs.Lexemes.{BeginsWith, IsRun, IsSpelled, IsInteger}
-use Rattle.sl_lex.proofs.RunLemmas.{run_at, run_longest}
+use Rattle.sl_lex.proofs.RunLemmas.{run_at, run_longest, run_begins, both_true, not_false}
 
 -- The digits that stand behind a base's mark are the longest run.
 pub behind_mark : (mark : List ℕ) (test : ℕ → Bool) (text rest : List ℕ) (n : ℕ) → text ≡ mark ++ rest → n ≡ prefix_len test rest
@@ -133,3 +133,34 @@ stripped mark test text given result rest n is h e m =
     let cases = strip_prefix_is Decides-eqb text given result h in
     let cases_here = subst (λ (r : Option (Bor (List ℕ))). MatchOption r ((after : List ℕ) → text ≢ given ++ after) (λ x. text ≡ given ++ x.now)) e cases in
     behind_mark mark test text rest.now n (cases_here ∙ ap (λ (t : List ℕ). t ++ rest.now) is) m
+
+-- An integer begins with a digit.
+pub integer_begins : (value : ℕ) (bytes : List ℕ) → IsInteger value bytes → BeginsWith is_digit bytes
+integer_begins value bytes (inl (digits, split, run, spells)) = subst (λ (t : List ℕ). BeginsWith is_digit t) (sym split) (run_begins is_digit digits run)
+integer_begins value bytes (inr (inl (digits, split, run, spells))) = subst (λ (t : List ℕ). BeginsWith is_digit t) (sym split) refl
+integer_begins value bytes (inr (inr (digits, split, run, spells))) = subst (λ (t : List ℕ). BeginsWith is_digit t) (sym split) refl
+
+one_spelled : (mark : List ℕ) (test : ℕ → Bool) (base m n : ℕ) (bytes : List ℕ) → IsSpelled mark test base m bytes → IsSpelled mark test base n bytes → m ≡ n
+one_spelled mark test base m n bytes (ds, split, run, spells) (es, split', run', spells') =
+    let same : ds ≡ es = append_cancel_left mark ds es (sym split ∙ split') in
+    sym spells ∙ ap (number base) same ∙ spells'
+
+not_decimal : (x m : ℕ) (ds bytes : List ℕ) → is_digit x ≡ false → IsSpelled [] is_digit 10 m bytes → bytes ≡ 48 ∷ x ∷ ds → ⊥
+not_decimal x m ds bytes h (es, split, run, spells) e =
+    let digits : list_all is_digit (48 ∷ x ∷ ds) ≡ true = ap (list_all is_digit) (sym e ∙ split) ∙ run.1 in
+    not_false (is_digit x) (both_true (is_digit x) (list_all is_digit ds) digits).0 h
+
+hex_not_binary : (m n : ℕ) (bytes : List ℕ) → IsSpelled (codes "0x") is_hex_digit 16 m bytes → IsSpelled (codes "0b") is_binary_digit 2 n bytes → ⊥
+hex_not_binary m n bytes (ds, split, run, spells) h = other_mark bytes bytes [] ds n split (sym (append-nil bytes)) h
+
+-- An integer spells one number.
+pub one_integer : (m n : ℕ) (bytes : List ℕ) → IsInteger m bytes → IsInteger n bytes → m ≡ n
+one_integer m n bytes (inl h) (inl k) = one_spelled [] is_digit 10 m n bytes h k
+one_integer m n bytes (inl h) (inr (inl k)) = absurd (not_decimal 120 m k.0 bytes refl h k.1)
+one_integer m n bytes (inl h) (inr (inr k)) = absurd (not_decimal 98 m k.0 bytes refl h k.1)
+one_integer m n bytes (inr (inl h)) (inl k) = absurd (not_decimal 120 n h.0 bytes refl k h.1)
+one_integer m n bytes (inr (inl h)) (inr (inl k)) = one_spelled (codes "0x") is_hex_digit 16 m n bytes h k
+one_integer m n bytes (inr (inl h)) (inr (inr k)) = absurd (hex_not_binary m n bytes h k)
+one_integer m n bytes (inr (inr h)) (inl k) = absurd (not_decimal 98 n h.0 bytes refl k h.1)
+one_integer m n bytes (inr (inr h)) (inr (inl k)) = absurd (hex_not_binary n m bytes k h)
+one_integer m n bytes (inr (inr h)) (inr (inr k)) = one_spelled (codes "0b") is_binary_digit 2 m n bytes h k

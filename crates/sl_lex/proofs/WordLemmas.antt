@@ -1,11 +1,11 @@
 -- Words outside displays: how far one goes on.
-use Rattle.std.proofs.Common.{◌≡◌, ℕ, ◌+◌, ◌<◌, ◌≤◌, ◌&&◌, Bool, true, false, not, cond, List, [], ◌∷◌, ◌++◌, take, drop, length, get_or, arith, refl, ap, sym, ◌∙◌, subst, zero, suc}
+use Rattle.std.proofs.Common.{◌≡◌, ℕ, ◌+◌, ◌<◌, ◌≤◌, ◌&&◌, Bool, true, false, not, cond, List, [], ◌∷◌, ◌++◌, take, drop, length, get_or, arith, refl, ap, sym, ◌∙◌, subst, suc}
 use Rattle.std.specs.List.{list_all}
 use Rattle.std.proofs.lemmas.List.{take-append-drop}
 use Rattle.sl_lex.specs.Bytes.{begins_word, is_word_byte}
 use Rattle.sl_lex.specs.Found.{word_len, IsLongestWord}
 use Rattle.sl_lex.specs.Lexemes.{BeginsWith, HasNoDots, IsWord, begins_with_dots}
-use Rattle.sl_lex.proofs.RunLemmas.{both_true}
+use Rattle.sl_lex.proofs.RunLemmas.{both_true, begins_front}
 
 and_not : (a b : Bool) → a ≡ true → b ≡ false → (a && not b) ≡ true
 and_not a b h k = rw (h, k) refl
@@ -46,17 +46,13 @@ word_goes_on : (text : List ℕ) → GoesOn text (word_len text)
 word_goes_on [] = record { within = omega arith; bytes = refl; dots = tt }
 word_goes_on (b ∷ bs) = word_step b bs (is_word_byte b) (begins_with_dots (b ∷ bs)) refl refl (word_goes_on bs)
 
-begins_front : (b n : ℕ) (bs : List ℕ) → 0 < n → begins_word b ≡ true → BeginsWith begins_word (take n (b ∷ bs))
-begins_front b zero bs some h = absurd (omega arith)
-begins_front b (suc n) bs some h = h
-
 -- A text that begins with what begins a word has the longest word at its front.
 pub longest_word : (b n : ℕ) (bs : List ℕ) → begins_word b ≡ true → n ≡ word_len (b ∷ bs) → IsLongestWord (b ∷ bs) n
 longest_word b n bs h e =
     let on : GoesOn (b ∷ bs) n = subst (λ (k : ℕ). GoesOn (b ∷ bs) k) (sym e) (word_goes_on (b ∷ bs)) in
     record {
       within = on.within;
-      found = λ some. ((begins_front b n bs some h, on.bytes), on.dots);
+      found = λ some. ((begins_front begins_word b n bs some h, on.bytes), on.dots);
       longest = λ front rest word dots f.
           subst (λ (k : ℕ). length front ≤ k) (sym e)
           (subst (λ (t : List ℕ). length front ≤ word_len t) (sym f) (word_fits front rest word.1 dots));

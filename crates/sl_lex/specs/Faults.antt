@@ -1,4 +1,4 @@
-use Rattle.std.specs.Prelude.{◌≡◌, ℕ, ◌+◌, ◌<◌, ◌≤◌, ◌^◌, ◌⊎◌, List, [], ◌∷◌, ◌++◌, length, true, false, Some}
+use Rattle.std.specs.Prelude.{◌≡◌, ℕ, ◌+◌, ◌<◌, ◌≤◌, ◌^◌, ◌⊎◌, Bool, List, [], ◌∷◌, ◌++◌, length, true, false, Some}
 use Rattle.std.specs.List.{list_all}
 use Rattle.sl_lex.specs.Bytes.{is_quote, is_line_end, is_text_byte}
 use Rattle.sl_lex.specs.Lexemes.{Stops, IsLongest, HasNoLexeme}
@@ -19,21 +19,21 @@ pub record IsOpen (text inside rest : List ℕ) : Type 0 where
   pub ends : Stops is_text_byte rest
   pub unclosed : Stops is_quote rest
 
--- The line ends here, or the text does.
-abbrev pub IsAtLineEnd : List ℕ → Type 0
-IsAtLineEnd [] = Unit {0}
-IsAtLineEnd (b ∷ bs) = is_line_end b ≡ true
+-- the line ends here, or the text does
+abbrev pub is_at_line_end : List ℕ → Bool
+is_at_line_end [] = true
+is_at_line_end (b ∷ bs) = is_line_end b
 
--- The byte that is so many bytes ahead can't stand there: the first one where it begins no lexeme, or one
--- behind an opening quote that is neither a byte of a text nor a line's end.
+-- The byte that is so many bytes ahead can't stand there: the first one where it begins no lexeme, or the first
+-- behind an opening quote that is no byte of a text, unless the line ends there.
 abbrev pub IsBadByte : ℕ → List ℕ → Type 0
 IsBadByte ahead text =
     ((0 < length text) × Stops is_quote text × (ahead ≡ 0))
-    ⊎ ((inside : List ℕ) × (b : ℕ) × (rest : List ℕ) × IsOpen text inside (b ∷ rest) × (is_line_end b ≡ false) × (ahead ≡ 1 + length inside))
+    ⊎ ((inside rest : List ℕ) × IsOpen text inside rest × (is_at_line_end rest ≡ false) × (ahead ≡ 1 + length inside))
 
--- A quote that is so many bytes ahead is not closed in its line.
+-- The quote that is so many bytes ahead is not closed in its line.
 abbrev pub IsOpenQuote : ℕ → List ℕ → Type 0
-IsOpenQuote ahead text = (inside rest : List ℕ) × IsOpen text inside rest × IsAtLineEnd rest × (ahead ≡ 0)
+IsOpenQuote ahead text = (inside rest : List ℕ) × IsOpen text inside rest × (is_at_line_end rest ≡ true) × (ahead ≡ 0)
 
 -- The longest lexeme is an integer above 2^64 - 1.
 abbrev pub IsTooWide : Mode → List ℕ → Type 0

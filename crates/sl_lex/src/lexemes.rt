@@ -56,9 +56,10 @@ fn quoted(text: &[u8]) -> Found
     requires { BeginsWith is_quote text.now }
     ensures { (mode : ModeOf.Mode) → Finds mode text.now result }
 {
-    let inside = &text[1..];
+    let (_, inside) = text.split_at(1);
     let count = count_text_bytes(inside);
-    if inside[count..].starts_with(b"\"") {
+    let (_, rest) = inside.split_at(count);
+    if rest.starts_with(b"\"") {
         Found::Token(TokKind::Text, count + 2)
     } else {
         Found::Nothing

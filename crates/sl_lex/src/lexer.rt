@@ -2,6 +2,7 @@
 
 ghost use Rattle.std.specs.Prelude.{◌≡◌, ◌+◌, ◌<◌, ◌^◌, IfOk, IfErr, length, ℕ};
 ghost use Rattle.sl_lex.specs.Errors.{Tells};
+ghost use Rattle.sl_lex.specs.Faults.{is_at_line_end};
 ghost use Rattle.sl_lex.specs.Found.{Blames, Steps, BlamesWhereNothing};
 ghost use Rattle.sl_lex.specs.Reading.{ReadsAs};
 ghost use Rattle.sl_lex.specs.Views.{views};
@@ -21,19 +22,28 @@ struct Step<'a> {
     rest: &'a [u8],
 }
 
+fn is_at_line_end(text: &[u8]) -> bool
+    ensures { result ≡ is_at_line_end text.now }
+{
+    matches!(text, [] | [b'\n', ..])
+}
+
 /// Why the text does not go on here, where no lexeme stands at its front.
 fn fault(from: usize, text: &[u8]) -> LexError
     requires some { 0 < length text.now }
     requires fits { from + length text.now < 2 ^ 64 }
     ensures { BlamesWhereNothing from text.now result }
 {
-    let [b'"', inside @ ..] = text else {
+    if text[0] != b'"' {
         return LexError::BadByte(from);
-    };
+    }
+    let (_, inside) = text.split_at(1);
     let count = count_text_bytes(inside);
-    match inside.get(count) {
-        None | Some(b'\n') => LexError::OpenString(from),
-        Some(_) => LexError::BadByte(from + 1 + count),
+    let (_, rest) = inside.split_at(count);
+    if is_at_line_end(rest) {
+        LexError::OpenString(from)
+    } else {
+        LexError::BadByte(from + 1 + count)
     }
 }
 
@@ -45,10 +55,14 @@ fn piece_at<'a>(mode: Mode, from: usize, text: &'a [u8]) -> Result<Step<'a>, Lex
     ensures fault { IfErr result (λ e. Blames mode from text.now e) }
 {
     match lexeme(mode, text) {
-        Found::Gap(count) => Ok(Step { token: None, mode, rest: &text[count..] }),
+        Found::Gap(count) => {
+            let (_, rest) = text.split_at(count);
+            Ok(Step { token: None, mode, rest })
+        }
         Found::Token(kind, count) => {
-            let (text, rest) = text.split_at(count);
-            Ok(Step { token: Some(Tok { kind, text, from }), mode: next_mode(mode, text), rest })
+            let (bytes, rest) = text.split_at(count);
+            let token = Tok { kind, text: bytes, from };
+            Ok(Step { token: Some(token), mode: next_mode(mode, bytes), rest })
         }
         Found::TooWide => Err(LexError::WideInteger(from)),
         Found::Nothing => Err(fault(from, text)),
