@@ -33,7 +33,7 @@ from_code Display kind bytes rest outside h = absurd (outside refl)
 from_code Pattern kind bytes rest outside h = h
 
 -- the class of the bytes that begin lexemes of a kind; no byte's where a kind has no lexemes
-abbrev kind_class : Option TokKind → ℕ
+abbrev pub kind_class : Option TokKind → ℕ
 kind_class (Some Word) = 0
 kind_class (Some Mark) = 0
 kind_class (Some Text) = 1
@@ -72,7 +72,7 @@ marks_begin Body = refl
 marks_begin Display = refl
 marks_begin Pattern = refl
 
-class_of_kind : (mode : Mode) (kind : Option TokKind) (front rest : List ℕ) (b : ℕ) (bs : List ℕ) → b ∷ bs ≡ front ++ rest
+pub class_of_kind : (mode : Mode) (kind : Option TokKind) (front rest : List ℕ) (b : ℕ) (bs : List ℕ) → b ∷ bs ≡ front ++ rest
     → IsCodeLexeme (marks_of mode) kind front rest → class_of b ≡ kind_class kind
 class_of_kind mode (Some Word) front rest b bs e h = word_class b (first_passes begins_word b bs front rest e h.0.0)
 class_of_kind mode (Some Mark) front rest b bs e h =
@@ -107,7 +107,7 @@ only_text : (mode : Mode) (kind : Option TokKind) (front rest : List ℕ) (b : �
 only_text mode (Some Text) front rest b bs c e h = h
 only_text mode kind front rest b bs c e h = let wrong : kind_class kind ≡ 1 = sym (class_of_kind mode kind front rest b bs e h) ∙ c in absurd (omega arith)
 
-kept_class : (kind : TokKind) → kind_class (Some kind) ≡ 2 → ⊥
+pub kept_class : (kind : TokKind) → kind_class (Some kind) ≡ 2 → ⊥
 kept_class Word h = omega arith
 kept_class Mark h = omega arith
 kept_class Text h = omega arith

@@ -14,11 +14,11 @@ use Rattle.sl_lex.proofs.CodeLemmas.{stands}
 use Rattle.sl_lex.proofs.RunLemmas.{first_passes, run_at, run_longest, run_begins, run_within, begins_front, begins_some, counts_some}
 
 -- the kind of lexeme that a byte begins, as a number
-abbrev display_class : ℕ → ℕ
+abbrev pub display_class : ℕ → ℕ
 display_class b =
     if is_quote b then 1 else if is_blank b then 2 else if begins_word b then 3 else if is_caret b then 4 else if is_char b then 5 else 0
 
-abbrev display_kind : Option TokKind → ℕ
+abbrev pub display_kind : Option TokKind → ℕ
 display_kind (Some Text) = 1
 display_kind (Some Blank) = 2
 display_kind (Some Word) = 3
@@ -53,18 +53,18 @@ one_long test [] h = absurd h
 one_long test (b ∷ []) h = refl
 one_long test (b ∷ c ∷ cs) h = absurd h
 
-class_of_kind : (kind : Option TokKind) (front rest : List ℕ) (b : ℕ) (bs : List ℕ) → b ∷ bs ≡ front ++ rest → IsDisplayLexeme kind front
+pub display_class_of_kind : (kind : Option TokKind) (front rest : List ℕ) (b : ℕ) (bs : List ℕ) → b ∷ bs ≡ front ++ rest → IsDisplayLexeme kind front
     → display_class b ≡ display_kind kind
-class_of_kind (Some Text) front rest b bs e (inside, split, all) =
+display_class_of_kind (Some Text) front rest b bs e (inside, split, all) =
     quote_is b (first_passes is_quote b bs front rest e (subst (λ (t : List ℕ). BeginsWith is_quote t) (sym split) refl))
-class_of_kind (Some Blank) front rest b bs e h = blank_is b (first_passes is_blank b bs front rest e (run_begins is_blank front h))
-class_of_kind (Some Word) front rest b bs e h = word_is b (first_passes begins_word b bs front rest e h.0)
-class_of_kind (Some Caret) front rest b bs e h =
+display_class_of_kind (Some Blank) front rest b bs e h = blank_is b (first_passes is_blank b bs front rest e (run_begins is_blank front h))
+display_class_of_kind (Some Word) front rest b bs e h = word_is b (first_passes begins_word b bs front rest e h.0)
+display_class_of_kind (Some Caret) front rest b bs e h =
     caret_is b (first_passes is_caret b bs front rest e (subst (λ (t : List ℕ). BeginsWith is_caret t) (sym h) refl))
-class_of_kind (Some Char) front rest b bs e h = char_is b (first_passes is_char b bs front rest e (one_begins is_char front h))
-class_of_kind (Some Mark) front rest b bs e h = absurd h
-class_of_kind (Some (Integer value)) front rest b bs e h = absurd h
-class_of_kind None front rest b bs e h = absurd h
+display_class_of_kind (Some Char) front rest b bs e h = char_is b (first_passes is_char b bs front rest e (one_begins is_char front h))
+display_class_of_kind (Some Mark) front rest b bs e h = absurd h
+display_class_of_kind (Some (Integer value)) front rest b bs e h = absurd h
+display_class_of_kind None front rest b bs e h = absurd h
 
 -- A lexeme has some bytes.
 pub display_some : (kind : Option TokKind) (bytes : List ℕ) → IsDisplayLexeme kind bytes → 0 < length bytes
@@ -81,27 +81,27 @@ display_some None bytes h = absurd h
 pub display_text : (kind : Option TokKind) (front rest : List ℕ) (b : ℕ) (bs : List ℕ) → is_quote b ≡ true → b ∷ bs ≡ front ++ rest
     → IsDisplayLexeme kind front → IsQuoted front
 display_text (Some Text) front rest b bs c e h = h
-display_text kind front rest b bs c e h = let wrong : display_kind kind ≡ 1 = sym (class_of_kind kind front rest b bs e h) ∙ quote_is b c in absurd (omega arith)
+display_text kind front rest b bs c e h = let wrong : display_kind kind ≡ 1 = sym (display_class_of_kind kind front rest b bs e h) ∙ quote_is b c in absurd (omega arith)
 
 only_blank : (kind : Option TokKind) (front rest : List ℕ) (b : ℕ) (bs : List ℕ) → is_blank b ≡ true → b ∷ bs ≡ front ++ rest
     → IsDisplayLexeme kind front → IsRun is_blank front
 only_blank (Some Blank) front rest b bs c e h = h
-only_blank kind front rest b bs c e h = let wrong : display_kind kind ≡ 2 = sym (class_of_kind kind front rest b bs e h) ∙ blank_is b c in absurd (omega arith)
+only_blank kind front rest b bs c e h = let wrong : display_kind kind ≡ 2 = sym (display_class_of_kind kind front rest b bs e h) ∙ blank_is b c in absurd (omega arith)
 
 only_word : (kind : Option TokKind) (front rest : List ℕ) (b : ℕ) (bs : List ℕ) → begins_word b ≡ true → b ∷ bs ≡ front ++ rest
     → IsDisplayLexeme kind front → IsWord front
 only_word (Some Word) front rest b bs c e h = h
-only_word kind front rest b bs c e h = let wrong : display_kind kind ≡ 3 = sym (class_of_kind kind front rest b bs e h) ∙ word_is b c in absurd (omega arith)
+only_word kind front rest b bs c e h = let wrong : display_kind kind ≡ 3 = sym (display_class_of_kind kind front rest b bs e h) ∙ word_is b c in absurd (omega arith)
 
 only_caret : (kind : Option TokKind) (front rest : List ℕ) (b : ℕ) (bs : List ℕ) → is_caret b ≡ true → b ∷ bs ≡ front ++ rest
     → IsDisplayLexeme kind front → length front ≡ 1
 only_caret (Some Caret) front rest b bs c e h = ap length h
-only_caret kind front rest b bs c e h = let wrong : display_kind kind ≡ 4 = sym (class_of_kind kind front rest b bs e h) ∙ caret_is b c in absurd (omega arith)
+only_caret kind front rest b bs c e h = let wrong : display_kind kind ≡ 4 = sym (display_class_of_kind kind front rest b bs e h) ∙ caret_is b c in absurd (omega arith)
 
 only_char : (kind : Option TokKind) (front rest : List ℕ) (b : ℕ) (bs : List ℕ) → is_char b ≡ true → b ∷ bs ≡ front ++ rest
     → IsDisplayLexeme kind front → length front ≡ 1
 only_char (Some Char) front rest b bs c e h = one_long is_char front h
-only_char kind front rest b bs c e h = let wrong : display_kind kind ≡ 5 = sym (class_of_kind kind front rest b bs e h) ∙ char_is b c in absurd (omega arith)
+only_char kind front rest b bs c e h = let wrong : display_kind kind ≡ 5 = sym (display_class_of_kind kind front rest b bs e h) ∙ char_is b c in absurd (omega arith)
 
 pub blank_token_at : (text : List ℕ) (n : ℕ) → 0 < length text → is_blank (get_or text 0 0) ≡ true → n ≡ prefix_len is_blank text
     → StandsAs Display (Some Blank) n text
@@ -164,7 +164,7 @@ kind_some None h = omega arith
 
 none_of_kind : (kind : Option TokKind) (front rest : List ℕ) (b : ℕ) (bs : List ℕ) → display_class b ≡ 0 → b ∷ bs ≡ front ++ rest → IsDisplayLexeme kind front → ⊥
 none_of_kind kind front rest b bs c e h =
-    let wrong : 0 ≡ display_kind kind = sym c ∙ class_of_kind kind front rest b bs e h in
+    let wrong : 0 ≡ display_kind kind = sym c ∙ display_class_of_kind kind front rest b bs e h in
     kind_some kind wrong
 
 pub nothing_in_display : (text : List ℕ) → 0 < length text → is_quote (get_or text 0 0) ≡ false → is_blank (get_or text 0 0) ≡ false → begins_word (get_or text 0 0) ≡ false

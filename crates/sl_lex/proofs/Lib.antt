@@ -10,3 +10,8 @@ pub mod QuoteLemmas
 pub mod FaultLemmas
 pub mod StepLemmas
 pub mod ReadingLemmas
+pub mod OneLexeme
+pub mod OneFault
+pub mod OneReading
+pub mod SliceLemmas
+pub mod KindLemmas

@@ -1,10 +1,12 @@
 -- How a reading goes on, and how it ends.
 use Rattle.std.proofs.Common.{◌≡◌, ℕ, ◌+◌, ◌-◌, ◌<◌, List, [], ◌∷◌, ◌++◌, length, Option, None, Some, arith, refl, subst, sym, ap, append-nil, append_assoc, ◌∙◌, map, length-append}
+use Rattle.std.proofs.lemmas.List.{map-append}
 use Rattle.std.specs.Option.{option_map, option_to_list}
 use Rattle.sl_lex.specs.Faults.{Fault, IsFault}
 use Rattle.sl_lex.specs.Faults.Fault.{NoLexeme, OpenQuote, TooWide}
 use Rattle.sl_lex.specs.Found.{Steps, Blames}
 use Rattle.sl_lex.specs.Errors.{Tells}
+use Rattle.sl_lex.specs.Lexemes.{IsLexeme}
 use Rattle.sl_lex.specs.Reading.{Reads, ReadsTo, ReadsAs, Token, Piece, IsPieceAt, tokens_of, kept, mode_after, HasBadPlace}
 use Rattle.sl_lex.specs.Views.{view, views}
 use Rattle.sl_lex.specs.declared.LexError.{LexError}
@@ -13,7 +15,9 @@ use Rattle.sl_lex.specs.declared.Tok.{Tok}
 use Rattle.sl_lex.specs.declared.TokKind.{TokKind}
 use Rattle.sl_lex.specs.declared.lexer.Step.{Step}
 use Rattle.sl_lex.specs.declared.mode.Mode.{Mode}
-use Rattle.sl_lex.specs.declared.mode.Mode.TheVariants.{Top}
+use Rattle.sl_lex.specs.declared.mode.Mode.TheVariants.{Top, Head, Plain, Body, Display, Pattern}
+use Rattle.sl_lex.proofs.CodeLemmas.{code_some}
+use Rattle.sl_lex.proofs.DisplayLemmas.{display_some}
 
 -- Whatever the rest reads as, from this place on, the whole text reads as the tokens so far and then that.
 abbrev pub GoesOn : List ℕ → List Token → Mode → ℕ → List ℕ → Type 0
@@ -59,3 +63,27 @@ tells whole so_far mode from text (BadByte place) on (ahead, is, e) = bad_place 
 tells whole so_far mode from text (OpenString place) on (ahead, is, e) = bad_place whole so_far mode from text OpenQuote place ahead on is e
 tells whole so_far mode from text (WideInteger place) on (ahead, is, e) = bad_place whole so_far mode from text TooWide place ahead on is e
 tells whole so_far mode from text NoMemory on h = absurd h
+
+-- A lexeme has some bytes.
+pub lexeme_some : (mode : Mode) (kind : Option TokKind) (bytes rest : List ℕ) → IsLexeme mode kind bytes rest → 0 < length bytes
+lexeme_some Top kind bytes rest h = code_some Top kind bytes rest h
+lexeme_some Head kind bytes rest h = code_some Head kind bytes rest h
+lexeme_some Plain kind bytes rest h = code_some Plain kind bytes rest h
+lexeme_some Body kind bytes rest h = code_some Body kind bytes rest h
+lexeme_some Display kind bytes rest h = display_some kind bytes h
+lexeme_some Pattern kind bytes rest h = code_some Pattern kind bytes rest h
+
+-- A piece leaves less of the text.
+pub steps_on : (mode : Mode) (from : ℕ) (text : List ℕ) (s : Step) → Steps mode from text s → length s.rest.now < length text
+steps_on mode from text s (p, here, token, leads) =
+    omega (arith, ap length here.split, length-append p.text s.rest.now, lexeme_some mode p.kind p.text s.rest.now here.longest.lexeme)
+
+-- The tokens so far, where one was pushed or none was there.
+pub kept_more : (old new : List Tok) (token : Option Tok) (tok : Tok) → new ≡ old ++ tok ∷ [] → token ≡ Some tok
+    → views new ≡ views old ++ option_to_list (option_map view token)
+kept_more old new token tok e is =
+    ap views e ∙ map-append view old (tok ∷ []) ∙ ap (λ (o : Option Tok). views old ++ option_to_list (option_map view o)) (sym is)
+
+pub kept_same : (old new : List Tok) (token : Option Tok) → new ≡ old → token ≡ None → views new ≡ views old ++ option_to_list (option_map view token)
+kept_same old new token e is =
+    ap views e ∙ sym (append-nil (views old)) ∙ ap (λ (o : Option Tok). views old ++ option_to_list (option_map view o)) (sym is)

@@ -14,9 +14,6 @@ returns-in-Gap-clause-found c = (
   refl,
 )
 
-pub split_at-in-Token-requires : goal.split_at-in-Token-requires
-split_at-in-Token-requires c = c.in-Token.ensures.0.within
-
 pub returns-in-Token-clause-found : goal.returns-in-Token-clause-found
 returns-in-Token-clause-found c = (
   record { kind = Some c.in-Token.kind; text = c.split_at-in-Token.result.0.now; from = c.args.from },
