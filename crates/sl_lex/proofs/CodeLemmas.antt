@@ -1,5 +1,5 @@
 -- Which lexeme stands at the front of a text outside displays.
-use Rattle.std.proofs.Common.{◌≡◌, ℕ, ◌+◌, ◌<◌, ◌≤◌, ◌⊎◌, inl, inr, Bool, true, false, List, [], ◌∷◌, ◌++◌, take, drop, length, get_or, arith, refl, ap, sym, ◌∙◌, subst, nat_eq, Option, Some, None}
+use Rattle.std.proofs.Common.{◌≡◌, ℕ, ◌<◌, ◌≤◌, ◌⊎◌, inl, inr, Bool, true, List, [], ◌∷◌, ◌++◌, take, drop, length, get_or, arith, refl, ap, sym, ◌∙◌, subst, nat_eq, Option, Some, None}
 use Rattle.std.specs.Prelude.{Contains}
 use Rattle.std.specs.List.{list_all, prefix_len}
 use Rattle.std.proofs.lemmas.Bool.Decides.{nat_tests, Decides-eqb}
@@ -158,8 +158,8 @@ blanks_stand mode b bs n outside h e =
     stands mode None n (b ∷ bs) within
     (from_code mode None (take n (b ∷ bs)) (drop n (b ∷ bs)) outside (inl (omega (arith, length-take-le n (b ∷ bs) within), (run_at is_blank (b ∷ bs) n e).0)))
     (λ other front rest f l. elim (only_gap mode other front rest b bs (blank_class b h) f (to_code mode other front rest outside l)) [
-      inl run ↦ omega (arith, e, run_longest is_blank (b ∷ bs) front rest f run.1)
-    | inr comment ↦ absurd (blank_no_hash b h (first_passes is_hash b bs front rest f comment.0))
+      | inl run ↦ omega (arith, e, run_longest is_blank (b ∷ bs) front rest f run.1)
+      | inr comment ↦ absurd (blank_no_hash b h (first_passes is_hash b bs front rest f comment.0))
     ])
 
 pub blanks_at : (mode : Mode) (text : List ℕ) (n : ℕ) → (mode ≡ Display → ⊥) → 0 < length text → is_blank (get_or text 0 0) ≡ true
@@ -181,8 +181,8 @@ comment_stands mode b bs n outside h e =
     stands mode None n (b ∷ bs) within
     (from_code mode None (take n (b ∷ bs)) (drop n (b ∷ bs)) outside (inr (begins_front is_hash b n bs some h, (run_at is_comment_byte (b ∷ bs) n e).0)))
     (λ other front rest f l. elim (only_gap mode other front rest b bs (hash_class b h) f (to_code mode other front rest outside l)) [
-      inl run ↦ absurd (blank_no_hash b (first_passes is_blank b bs front rest f (run_begins is_blank front run)) h)
-    | inr comment ↦ omega (arith, e, run_longest is_comment_byte (b ∷ bs) front rest f comment.1)
+      | inl run ↦ absurd (blank_no_hash b (first_passes is_blank b bs front rest f (run_begins is_blank front run)) h)
+      | inr comment ↦ omega (arith, e, run_longest is_comment_byte (b ∷ bs) front rest f comment.1)
     ])
 
 pub comment_at : (mode : Mode) (text : List ℕ) (n : ℕ) → (mode ≡ Display → ⊥) → 0 < length text → is_hash (get_or text 0 0) ≡ true

@@ -1,5 +1,5 @@
 -- Why a text does not go on, and where.
-use Rattle.std.proofs.Common.{◌≡◌, ℕ, ◌+◌, ◌<◌, ◌≤◌, ◌⊎◌, inl, inr, Bool, true, false, List, [], ◌∷◌, ◌++◌, take, drop, length, get_or, arith, refl, ap, sym, ◌∙◌, subst}
+use Rattle.std.proofs.Common.{◌≡◌, ℕ, ◌+◌, ◌<◌, inl, inr, true, false, List, [], ◌∷◌, take, drop, length, get_or, arith, refl, ap, sym, ◌∙◌, subst}
 use Rattle.std.specs.List.{prefix_len}
 use Rattle.std.proofs.lemmas.Bool.Decides.{nat_tests}
 use Rattle.std.proofs.lemmas.List.{length-take-le}
@@ -35,7 +35,7 @@ quote_front (b ∷ bs) inside some h e = ap (λ (t : List ℕ). 34 ∷ t) e ∙ 
 opened : (mode : Mode) (text inside rest : List ℕ) (n : ℕ) → Quoted text inside rest n → HasNoLexeme mode text → IsOpen text (take n inside) rest
 opened mode text inside rest n h none =
     let here : IsOpen (34 ∷ inside) (take n inside) (drop n inside) =
-        open_at mode inside n h.counted (subst (λ (t : List ℕ). HasNoLexeme mode t) (sym h.whole) none) in
+    open_at mode inside n h.counted (subst (λ (t : List ℕ). HasNoLexeme mode t) (sym h.whole) none) in
     subst (λ (r : List ℕ). IsOpen text (take n inside) r) (sym h.back) (subst (λ (t : List ℕ). IsOpen t (take n inside) (drop n inside)) h.whole here)
 
 pub blames_quote : (mode : Mode) (from : ℕ) (text inside rest : List ℕ) (n : ℕ) → 0 < length text → get_or text 0 0 ≡ 34 → inside ≡ drop 1 text

@@ -1,5 +1,5 @@
 -- Each token of a text has the bytes of its kind.
-use Rattle.std.proofs.Common.{◌≡◌, ℕ, ◌+◌, List, [], ◌∷◌, length, All, Option, None, Some, subst}
+use Rattle.std.proofs.Common.{ℕ, ◌+◌, List, [], ◌∷◌, length, All, Option, None, Some, subst}
 use Rattle.std.proofs.lemmas.List.Elements.{All-nil, All-cons}
 use Rattle.sl_lex.specs.Faults.{Fault}
 use Rattle.sl_lex.specs.Laws.{IsSomeLexeme}

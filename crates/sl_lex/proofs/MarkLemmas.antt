@@ -1,5 +1,5 @@
 -- The longest mark at the front of a text.
-use Rattle.std.proofs.Common.{◌≡◌, ℕ, ◌+◌, ◌<◌, ◌≤◌, ◌⊎◌, inl, inr, ⊎_elim, Bool, true, false, not, cond, max, map, List, [], ◌∷◌, ◌++◌, take, drop, length, arith, refl, ap, sym, ◌∙◌, subst, codes, zero, suc, get_or, nat_eq}
+use Rattle.std.proofs.Common.{◌≡◌, ℕ, ◌+◌, ◌<◌, ◌≤◌, inl, inr, Bool, true, false, not, cond, max, map, List, [], ◌∷◌, ◌++◌, take, drop, length, arith, refl, ap, sym, ◌∙◌, subst, zero, suc, get_or, nat_eq}
 use Rattle.std.specs.Prelude.{Contains}
 use Rattle.std.specs.List.{list_all, starts_with}
 use Rattle.std.proofs.Math.Seq.{take-append_seam}
@@ -49,8 +49,8 @@ first_of_two ms ns text n h none = record {
   within = h.within;
   found = λ some. Contains-append_left ms ns _ (h.found some);
   longest = λ front rest among e. elim (Contains-append_cases ms ns front among) [
-    inl x ↦ h.longest front rest x e
-  | inr y ↦ let short : length front ≤ 0 = none.longest front rest y e in omega arith
+    | inl x ↦ h.longest front rest x e
+    | inr y ↦ let short : length front ≤ 0 = none.longest front rest y e in omega arith
   ];
 }
 
@@ -59,8 +59,8 @@ second_of_two ms ns text n none h = record {
   within = h.within;
   found = λ some. Contains-append_right ms ns _ (h.found some);
   longest = λ front rest among e. elim (Contains-append_cases ms ns front among) [
-    inl x ↦ let short : length front ≤ 0 = none.longest front rest x e in omega arith
-  | inr y ↦ h.longest front rest y e
+    | inl x ↦ let short : length front ≤ 0 = none.longest front rest x e in omega arith
+    | inr y ↦ h.longest front rest y e
   ];
 }
 
@@ -75,23 +75,23 @@ mark_here ms m text n h starts =
       within = h.within;
       found = λ some. Contains-append_left ms (m ∷ []) _ (h.found some);
       longest = λ front rest among e. elim (Contains-push_cases ms m front among) [
-        inl x ↦ h.longest front rest x e
-      | inr same ↦ omega (arith, ap length same)
+        | inl x ↦ h.longest front rest x e
+        | inr same ↦ omega (arith, ap length same)
       ];
     } in
     let longer : n < length m → IsLongestMark (ms ++ m ∷ []) text (length m) = λ long. record {
       within = omega (arith, ap length split, length-append m (drop (length m) text));
       found = λ some. subst (λ (t : List ℕ). Contains (ms ++ m ∷ []) t) (sym front_is) (Contains-push ms m);
       longest = λ front rest among e. elim (Contains-push_cases ms m front among) [
-        inl x ↦ let short : length front ≤ n = h.longest front rest x e in omega arith
-      | inr same ↦ omega (arith, ap length same)
+        | inl x ↦ let short : length front ≤ n = h.longest front rest x e in omega arith
+        | inr same ↦ omega (arith, ap length same)
       ];
     } in
     elim (cases_lt n (length m)) [
-      inl long ↦ let is : length m ≡ max (length m) n = omega arith in subst (λ (k : ℕ). IsLongestMark (ms ++ m ∷ []) text k) is (longer long)
-    | inr short ↦
-        let is : n ≡ max (length m) n = omega arith in
-        subst (λ (k : ℕ). IsLongestMark (ms ++ m ∷ []) text k) is (more short)
+      | inl long ↦ let is : length m ≡ max (length m) n = omega arith in subst (λ (k : ℕ). IsLongestMark (ms ++ m ∷ []) text k) is (longer long)
+      | inr short ↦
+          let is : n ≡ max (length m) n = omega arith in
+          subst (λ (k : ℕ). IsLongestMark (ms ++ m ∷ []) text k) is (more short)
     ]
 
 -- One mark more, which does not stand at the front.
@@ -101,9 +101,9 @@ mark_elsewhere ms m text n h fails = record {
   within = h.within;
   found = λ some. Contains-append_left ms (m ∷ []) _ (h.found some);
   longest = λ front rest among e. elim (Contains-push_cases ms m front among) [
-    inl x ↦ h.longest front rest x e
-  | inr same ↦ absurd (not_false (starts_with nat_eq text m)
-      ((starts_is Decides-eqb text m _ refl).1 rest (e ∙ ap (λ (t : List ℕ). t ++ rest) (sym same))) fails)
+    | inl x ↦ h.longest front rest x e
+    | inr same ↦ absurd (not_false (starts_with nat_eq text m)
+        ((starts_is Decides-eqb text m _ refl).1 rest (e ∙ ap (λ (t : List ℕ). t ++ rest) (sym same))) fails)
   ];
 }
 

@@ -1,5 +1,5 @@
 -- One fault alone stands at the front of a text.
-use Rattle.std.proofs.Common.{◌≡◌, ℕ, ◌+◌, ◌<◌, ◌≤◌, ◌⊎◌, inl, inr, Bool, true, false, List, [], ◌∷◌, ◌++◌, length, drop, arith, refl, ap, ap₂, sym, ◌∙◌, subst, Some}
+use Rattle.std.proofs.Common.{◌≡◌, ℕ, ◌<◌, inl, inr, true, false, List, [], ◌∷◌, ◌++◌, length, drop, arith, refl, ap, sym, ◌∙◌, subst, Some}
 use Rattle.sl_lex.specs.Bytes.{is_quote, is_text_byte}
 use Rattle.sl_lex.specs.Faults.{Fault, IsOpen, IsBadByte, IsOpenQuote, IsTooWide, IsFault, is_at_line_end}
 use Rattle.sl_lex.specs.Faults.Fault.{NoLexeme, OpenQuote, TooWide}

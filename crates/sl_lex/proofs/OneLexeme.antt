@@ -1,5 +1,5 @@
 -- One longest lexeme alone stands at the front of a text.
-use Rattle.std.proofs.Common.{◌≡◌, ℕ, ◌+◌, ◌<◌, ◌≤◌, ◌⊎◌, ◌&&◌, Bool, true, false, not, List, [], ◌∷◌, ◌++◌, length, arith, refl, ap, subst, append-nil, sym, ◌∙◌, nat_eq, codes, Option, Some, None}
+use Rattle.std.proofs.Common.{◌≡◌, ℕ, ◌<◌, ◌≤◌, ◌&&◌, Bool, true, false, not, List, [], ◌∷◌, ◌++◌, length, arith, refl, ap, subst, append-nil, sym, ◌∙◌, nat_eq, Option, Some, None}
 use Rattle.std.specs.Prelude.{Contains}
 use Rattle.std.specs.List.{list_all}
 use Rattle.sl_lex.specs.Bytes.{is_word_byte}
@@ -80,7 +80,7 @@ one_display_kind (Some (Integer value)) k b bs h l = absurd h
 one_display_kind j None b bs h l = absurd l
 one_display_kind j k b bs h l =
     let same : display_kind j ≡ display_kind k =
-        sym (display_class_of_kind j (b ∷ bs) [] b bs (sym (append-nil (b ∷ bs))) h) ∙ display_class_of_kind k (b ∷ bs) [] b bs (sym (append-nil (b ∷ bs))) l in
+    sym (display_class_of_kind j (b ∷ bs) [] b bs (sym (append-nil (b ∷ bs))) h) ∙ display_class_of_kind k (b ∷ bs) [] b bs (sym (append-nil (b ∷ bs))) l in
     absurd (omega arith)
 
 -- Bytes are a lexeme of one kind.
@@ -104,5 +104,5 @@ one_longest mode j k bytes rest front after e h l =
     let above : length bytes ≤ length front = l.longest j bytes rest (sym e) h.lexeme in
     let same = one_front bytes rest front after e (omega arith) in
     let there : IsLexeme mode k bytes rest =
-        subst (λ (f : List ℕ). IsLexeme mode k f rest) (sym same.0) (subst (λ (r : List ℕ). IsLexeme mode k front r) (sym same.1) l.lexeme) in
+    subst (λ (f : List ℕ). IsLexeme mode k f rest) (sym same.0) (subst (λ (r : List ℕ). IsLexeme mode k front r) (sym same.1) l.lexeme) in
     (kind_of_same mode j k bytes rest (lexeme_some mode j bytes rest h.lexeme) h.lexeme there, same.0, same.1)

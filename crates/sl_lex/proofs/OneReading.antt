@@ -1,8 +1,7 @@
 -- A text reads in one way alone.
-use Rattle.std.proofs.Common.{◌≡◌, ℕ, ◌+◌, ◌<◌, ◌≤◌, ◌^◌, List, [], ◌∷◌, ◌++◌, length, Option, None, Some, arith, refl, ap, ap₂, sym, ◌∙◌, subst, length-append}
-use Rattle.sl_lex.specs.Faults.{Fault, IsFault, IsTooWide}
+use Rattle.std.proofs.Common.{◌≡◌, ℕ, ◌+◌, ◌<◌, ◌≤◌, ◌^◌, List, [], ◌∷◌, length, Option, None, Some, arith, refl, ap, ap₂, sym, ◌∙◌, subst, length-append}
+use Rattle.sl_lex.specs.Faults.{Fault, IsFault}
 use Rattle.sl_lex.specs.Faults.Fault.{NoLexeme, OpenQuote, TooWide}
-use Rattle.sl_lex.specs.Lexemes.{IsLongest, HasNoLexeme}
 use Rattle.sl_lex.specs.Reading.{Token, Piece, Reads, ReadsTo, IsPieceAt, mode_after, Fits, tokens_of, ReadsAs, HasBadPlace}
 use Rattle.sl_lex.specs.declared.mode.Mode.{Mode}
 use Rattle.sl_lex.specs.declared.mode.Mode.TheVariants.{Top}
@@ -66,7 +65,7 @@ one_reading_from mode from text (p ∷ ps) (q ∷ qs) end fin (rest, here, later
     let piece : p ≡ q = same_piece p q same.0 same.1 (here.place ∙ sym here'.place) in
     let more = one_reading_from (mode_after mode p.kind p.text) (from + length p.text) rest ps qs end fin later
     (moved (mode_after mode p.kind p.text) (mode_after mode q.kind q.text) _ _ rest rest' qs fin (ap₂ (mode_after mode) same.0 same.1)
-        (ap (λ (t : List ℕ). from + length t) same.1) same.2 later') in
+    (ap (λ (t : List ℕ). from + length t) same.1) same.2 later') in
     (ap₂ (λ x xs. x ∷ xs) piece more.0, more.1)
 
 pub one_end : (text : List ℕ) (ts us : List Token) (end fin : Option (Fault × ℕ)) → ReadsTo text ts end → ReadsTo text us fin → (ts ≡ us) × (end ≡ fin)

@@ -1,6 +1,6 @@
 -- Texts between quotes, and quotes that are not closed.
-use Rattle.std.proofs.Common.{◌≡◌, ℕ, ◌+◌, ◌<◌, ◌≤◌, ◌⊎◌, inl, inr, Bool, true, false, List, [], ◌∷◌, ◌++◌, take, drop, length, get_or, arith, refl, ap, ap₂, sym, ◌∙◌, subst, nat_eq, codes, Option, Some, None, append_assoc, length-append, add-one}
-use Rattle.std.specs.List.{list_all, prefix_len, starts_with}
+use Rattle.std.proofs.Common.{◌≡◌, ℕ, ◌+◌, ◌≤◌, ◌⊎◌, inl, inr, Bool, true, false, List, [], ◌∷◌, ◌++◌, take, drop, length, arith, refl, ap, ap₂, sym, ◌∙◌, subst, nat_eq, codes, Option, Some, append_assoc, length-append}
+use Rattle.std.specs.List.{prefix_len, starts_with}
 use Rattle.std.proofs.Math.Seq.{take-append-add}
 use Rattle.std.proofs.lemmas.Bool.Decides.{Decides-eqb}
 use Rattle.std.proofs.lemmas.List.{take-append-drop, length-take-le}
@@ -10,7 +10,6 @@ use Rattle.sl_lex.specs.Bytes.{is_quote, is_text_byte}
 use Rattle.sl_lex.specs.Faults.{IsOpen}
 use Rattle.sl_lex.specs.Found.{StandsAs}
 use Rattle.sl_lex.specs.Lexemes.{BeginsWith, Stops, IsQuoted, IsLexeme, HasNoLexeme}
-use Rattle.sl_lex.specs.Marks.{marks_of}
 use Rattle.sl_lex.specs.declared.mode.Mode.{Mode}
 use Rattle.sl_lex.specs.declared.mode.Mode.TheVariants.{Top, Head, Plain, Body, Display, Pattern}
 use Rattle.sl_lex.specs.declared.TokKind.{TokKind}
@@ -42,7 +41,7 @@ closes : (front rest bs : List ℕ) (n : ℕ) → n ≡ prefix_len is_text_byte 
     → (length front ≡ n + 2) × (drop n bs ≡ 34 ∷ rest)
 closes front rest bs n e f (inside, split, all) =
     let whole : 34 ∷ bs ≡ 34 ∷ (inside ++ (34 ∷ rest)) =
-        f ∙ ap (λ (t : List ℕ). t ++ rest) split ∙ append_assoc (34 ∷ inside) (34 ∷ []) rest in
+    f ∙ ap (λ (t : List ℕ). t ++ rest) split ∙ append_assoc (34 ∷ inside) (34 ∷ []) rest in
     let behind : bs ≡ inside ++ (34 ∷ rest) = ap (drop 1) whole in
     let same = one_run is_text_byte (take n bs) (drop n bs) inside (34 ∷ rest) (take-append-drop n bs ∙ behind) (run_at is_text_byte bs n e) (all, refl) in
     let within : n ≤ length bs = omega (arith, e, prefix_len-le-length is_text_byte bs) in
@@ -59,8 +58,8 @@ text_stands : (mode : Mode) (bs rest : List ℕ) (n : ℕ) → n ≡ prefix_len 
 text_stands mode bs rest n e f =
     let within : n ≤ length bs = omega (arith, e, prefix_len-le-length is_text_byte bs) in
     let lengths : length bs ≡ n + length (34 ∷ rest) =
-        ap length (sym (take-append-drop n bs) ∙ ap (λ (t : List ℕ). take n bs ++ t) f) ∙ length-append (take n bs) (34 ∷ rest)
-        ∙ ap (λ (k : ℕ). k + length (34 ∷ rest)) (length-take-le n bs within) in
+    ap length (sym (take-append-drop n bs) ∙ ap (λ (t : List ℕ). take n bs ++ t) f) ∙ length-append (take n bs) (34 ∷ rest)
+    ∙ ap (λ (k : ℕ). k + length (34 ∷ rest)) (length-take-le n bs within) in
     stands mode (Some Text) (n + 2) (34 ∷ bs) (omega arith)
     (text_lexeme mode (take (n + 2) (34 ∷ bs)) (drop (n + 2) (34 ∷ bs)) (take n bs, two_more n bs rest within f, (run_at is_text_byte bs n e).0))
     (λ other front after g l. omega (arith, (closes front after bs n e g (only_quoted mode other front after bs g l)).0))
@@ -86,7 +85,7 @@ pub no_text_at : (mode : Mode) (text inside rest : List ℕ) (n : ℕ) → Begin
     → rest ≡ drop n inside → starts_with nat_eq rest (codes "\"") ≡ false → HasNoLexeme mode text
 no_text_at mode text inside rest n h is e back fails =
     let none : (after : List ℕ) → drop n inside ≡ 34 ∷ after → ⊥ =
-        λ after f. not_false (starts_with nat_eq rest (34 ∷ [])) ((starts_is Decides-eqb rest (34 ∷ []) _ refl).1 after (back ∙ f)) fails in
+    λ after f. not_false (starts_with nat_eq rest (34 ∷ [])) ((starts_is Decides-eqb rest (34 ∷ []) _ refl).1 after (back ∙ f)) fails in
     subst (λ (t : List ℕ). HasNoLexeme mode t) (whole_text text inside h is) (no_text mode inside n e none)
 
 quote_or_not : (b : ℕ) (rest : List ℕ) (q : Bool) → is_quote b ≡ q → Stops is_quote (b ∷ rest) ⊎ ((after : List ℕ) × (b ∷ rest ≡ 34 ∷ after))
@@ -104,9 +103,9 @@ open_at mode bs n e none = record {
   bytes = (run_at is_text_byte bs n e).0;
   ends = (run_at is_text_byte bs n e).1;
   unclosed = elim (no_quote (drop n bs)) [
-    inl stops ↦ stops
-  | inr quote ↦
-      let stand = text_stands mode bs quote.0 n e quote.1 in
-      absurd (none (Some Text) (take (n + 2) (34 ∷ bs)) (drop (n + 2) (34 ∷ bs)) (sym (take-append-drop (n + 2) (34 ∷ bs))) stand.longest.lexeme)
+    | inl stops ↦ stops
+    | inr quote ↦
+        let stand = text_stands mode bs quote.0 n e quote.1 in
+        absurd (none (Some Text) (take (n + 2) (34 ∷ bs)) (drop (n + 2) (34 ∷ bs)) (sym (take-append-drop (n + 2) (34 ∷ bs))) stand.longest.lexeme)
   ];
 }

@@ -1,5 +1,5 @@
 -- How a reading goes on, and how it ends.
-use Rattle.std.proofs.Common.{◌≡◌, ℕ, ◌+◌, ◌-◌, ◌<◌, List, [], ◌∷◌, ◌++◌, length, Option, None, Some, arith, refl, subst, sym, ap, append-nil, append_assoc, ◌∙◌, map, length-append}
+use Rattle.std.proofs.Common.{◌≡◌, ℕ, ◌+◌, ◌-◌, ◌<◌, List, [], ◌∷◌, ◌++◌, length, Option, None, Some, arith, refl, subst, sym, ap, append-nil, append_assoc, ◌∙◌, length-append}
 use Rattle.std.proofs.lemmas.List.{map-append}
 use Rattle.std.specs.Option.{option_map, option_to_list}
 use Rattle.sl_lex.specs.Faults.{Fault, IsFault}
@@ -7,7 +7,7 @@ use Rattle.sl_lex.specs.Faults.Fault.{NoLexeme, OpenQuote, TooWide}
 use Rattle.sl_lex.specs.Found.{Steps, Blames}
 use Rattle.sl_lex.specs.Errors.{Tells}
 use Rattle.sl_lex.specs.Lexemes.{IsLexeme}
-use Rattle.sl_lex.specs.Reading.{Reads, ReadsTo, ReadsAs, Token, Piece, IsPieceAt, tokens_of, kept, mode_after, HasBadPlace}
+use Rattle.sl_lex.specs.Reading.{Reads, ReadsTo, ReadsAs, Token, Piece, tokens_of, kept, mode_after, HasBadPlace}
 use Rattle.sl_lex.specs.Views.{view, views}
 use Rattle.sl_lex.specs.declared.LexError.{LexError}
 use Rattle.sl_lex.specs.declared.LexError.TheVariants.{BadByte, OpenString, WideInteger, NoMemory}
@@ -40,12 +40,12 @@ goes_on_next whole so_far mode from text s on (p, here, token, leads) = λ piece
     let lengths : length text ≡ length p.text + length s.rest.now = ap length here.split ∙ length-append p.text s.rest.now in
     let place : from + length p.text ≡ from + (length text - length s.rest.now) = omega arith in
     let later : Reads (mode_after mode p.kind p.text) (from + length p.text) s.rest.now pieces end =
-        subst (λ (m : Mode). Reads m (from + length p.text) s.rest.now pieces end) (sym leads)
-        (subst (λ (n : ℕ). Reads s.mode n s.rest.now pieces end) (sym place) reads) in
+    subst (λ (m : Mode). Reads m (from + length p.text) s.rest.now pieces end) (sym leads)
+    (subst (λ (n : ℕ). Reads s.mode n s.rest.now pieces end) (sym place) reads) in
     let whole_reads = on (p ∷ pieces) end (s.rest.now, here, later) in
     subst (λ (ts : List Token). ReadsTo whole ts end)
     (ap (λ (ts : List Token). so_far ++ ts) (tokens_joined p pieces ∙ ap (λ (ts : List Token). ts ++ tokens_of pieces) token)
-        ∙ sym (append_assoc so_far (option_to_list (option_map view s.token)) (tokens_of pieces)))
+    ∙ sym (append_assoc so_far (option_to_list (option_map view s.token)) (tokens_of pieces)))
     whole_reads
 
 pub reads_to_end : (whole : List ℕ) (so_far : List Token) (mode : Mode) (from : ℕ) (text : List ℕ) → GoesOn whole so_far mode from text → length text ≡ 0 → ReadsAs whole so_far

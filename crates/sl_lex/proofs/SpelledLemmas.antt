@@ -1,5 +1,5 @@
 -- Integers in three bases, and the longest one at the front of a text.
-use Rattle.std.proofs.Common.{◌≡◌, ℕ, ◌+◌, ◌<◌, ◌≤◌, ◌⊎◌, ◌≢◌, inl, inr, Option, Some, nat_eq, Bool, true, false, List, [], ◌∷◌, ◌++◌, take, drop, get_or, length, arith, refl, ap, sym, ◌∙◌, subst, codes, length-append, append_assoc, append-nil}
+use Rattle.std.proofs.Common.{◌≡◌, ℕ, ◌+◌, ◌<◌, ◌≤◌, ◌≢◌, inl, inr, Option, Some, nat_eq, Bool, true, false, List, [], ◌∷◌, ◌++◌, take, drop, get_or, length, arith, refl, ap, sym, ◌∙◌, subst, codes, length-append, append_assoc, append-nil}
 use Rattle.std.specs.Cmp.Lexicographic.{pointwise}
 use Rattle.std.specs.List.{list_all, prefix_len}
 use Rattle.std.specs.Option.{MatchOption}
@@ -12,7 +12,7 @@ use Rattle.std.proofs.lemmas.List.Prefix.{front_rest}
 use Rattle.std.proofs.lemmas.List.Sums.{prefix_len-le-length}
 use Rattle.sl_lex.specs.Bytes.{is_digit, is_hex_digit, is_binary_digit, number}
 use Rattle.sl_lex.specs.Found.{IsLongestSpelled, IsLongestInteger}
-use Rattle.sl_lex.specs.Lexemes.{BeginsWith, IsRun, IsSpelled, IsInteger}
+use Rattle.sl_lex.specs.Lexemes.{BeginsWith, IsSpelled, IsInteger}
 use Rattle.sl_lex.proofs.RunLemmas.{run_at, run_longest, run_begins, both_true, not_false}
 
 -- The digits that stand behind a base's mark are the longest run.
@@ -79,10 +79,10 @@ hex_integer text n some h = record {
   within = spelled_within (codes "0x") is_hex_digit n text some h;
   found = inr (inl (spelled_here (codes "0x") is_hex_digit 16 n text some h));
   longest = λ value front rest is e. elim is [
-    inl d ↦ let short : length front ≤ 1 = decimal_fits 120 value text front rest (drop 2 text) refl (h.found some).0 e d in omega arith
-  | inr more ↦ elim more [
-      inl x ↦ spelled_fits (codes "0x") is_hex_digit 16 value n text front rest h e x
-    | inr b ↦ absurd (other_mark text front rest (drop 2 text) value (h.found some).0 e b)
+    | inl d ↦ let short : length front ≤ 1 = decimal_fits 120 value text front rest (drop 2 text) refl (h.found some).0 e d in omega arith
+    | inr more ↦ elim more [
+      | inl x ↦ spelled_fits (codes "0x") is_hex_digit 16 value n text front rest h e x
+      | inr b ↦ absurd (other_mark text front rest (drop 2 text) value (h.found some).0 e b)
     ]
   ];
 }
@@ -94,10 +94,10 @@ binary_integer text n some none h = record {
   within = spelled_within (codes "0b") is_binary_digit n text some h;
   found = inr (inr (spelled_here (codes "0b") is_binary_digit 2 n text some h));
   longest = λ value front rest is e. elim is [
-    inl d ↦ let short : length front ≤ 1 = decimal_fits 98 value text front rest (drop 2 text) refl (h.found some).0 e d in omega arith
-  | inr more ↦ elim more [
-      inl x ↦ absurd (none_spelled (codes "0x") is_hex_digit 16 value text front rest none e x)
-    | inr b ↦ spelled_fits (codes "0b") is_binary_digit 2 value n text front rest h e b
+    | inl d ↦ let short : length front ≤ 1 = decimal_fits 98 value text front rest (drop 2 text) refl (h.found some).0 e d in omega arith
+    | inr more ↦ elim more [
+      | inl x ↦ absurd (none_spelled (codes "0x") is_hex_digit 16 value text front rest none e x)
+      | inr b ↦ spelled_fits (codes "0b") is_binary_digit 2 value n text front rest h e b
     ]
   ];
 }
@@ -116,10 +116,10 @@ decimal_integer text n begins m hex binary =
       within = spelled_within [] is_digit n text some h;
       found = inl (spelled_here [] is_digit 10 n text some h);
       longest = λ value front rest is e. elim is [
-        inl d ↦ spelled_fits [] is_digit 10 value n text front rest h e d
-      | inr more ↦ elim more [
-          inl x ↦ absurd (none_spelled (codes "0x") is_hex_digit 16 value text front rest hex e x)
-        | inr b ↦ absurd (none_spelled (codes "0b") is_binary_digit 2 value text front rest binary e b)
+        | inl d ↦ spelled_fits [] is_digit 10 value n text front rest h e d
+        | inr more ↦ elim more [
+          | inl x ↦ absurd (none_spelled (codes "0x") is_hex_digit 16 value text front rest hex e x)
+          | inr b ↦ absurd (none_spelled (codes "0b") is_binary_digit 2 value text front rest binary e b)
         ]
       ];
     }
@@ -127,7 +127,7 @@ decimal_integer text n begins m hex binary =
 -- The same where the mark was stripped off.
 pub stripped : (mark : List ℕ) (test : ℕ → Bool) (text given : List ℕ) (result : Option (Bor (List ℕ))) (rest : Bor (List ℕ)) (n : ℕ) → given ≡ mark
     → MatchOption result (pointwise nat_eq (take (length given) text) given ≡ false)
-        (λ x. (pointwise nat_eq (take (length given) text) given ≡ true) × (x.now ≡ drop (length given) text) × (length x.now + length given ≡ length text))
+    (λ x. (pointwise nat_eq (take (length given) text) given ≡ true) × (x.now ≡ drop (length given) text) × (length x.now + length given ≡ length text))
     → result ≡ Some rest → n ≡ prefix_len test rest.now → IsLongestSpelled mark test text n
 stripped mark test text given result rest n is h e m =
     let cases = strip_prefix_is Decides-eqb text given result h in

@@ -1,20 +1,15 @@
 -- Integers, words and marks that stand at the front of a text outside displays, and texts in every mode.
-use Rattle.std.proofs.Common.{◌≡◌, ℕ, ◌+◌, ◌<◌, ◌≤◌, ◌^◌, ◌⊎◌, inl, inr, Bool, true, false, List, [], ◌∷◌, ◌++◌, take, drop, length, get_or, arith, refl, ap, sym, ◌∙◌, subst, nat_eq, Option, Some, None}
-use Rattle.std.specs.Prelude.{Contains}
-use Rattle.std.specs.List.{list_all, prefix_len}
-use Rattle.std.proofs.lemmas.Bool.Decides.{nat_tests}
-use Rattle.std.proofs.lemmas.List.{take-append-drop, length-take-le}
-use Rattle.sl_lex.specs.Bytes.{is_quote, is_digit, begins_word, number}
+use Rattle.std.proofs.Common.{◌≡◌, ℕ, ◌+◌, ◌<◌, ◌≤◌, ◌^◌, inl, inr, true, List, [], ◌∷◌, take, drop, length, get_or, arith, sym, subst, Some}
+use Rattle.std.proofs.lemmas.List.{take-append-drop}
+use Rattle.sl_lex.specs.Bytes.{is_digit, number}
 use Rattle.sl_lex.specs.Faults.{IsTooWide}
 use Rattle.sl_lex.specs.Found.{class_of, StandsAs, IsLongestInteger, IsLongestWord, IsLongestMark}
-use Rattle.sl_lex.specs.Lexemes.{BeginsWith, IsInteger, IsWord, HasNoDots, IsCodeLexeme, IsLexeme, HasNoLexeme}
+use Rattle.sl_lex.specs.Lexemes.{BeginsWith, HasNoLexeme}
 use Rattle.sl_lex.specs.Marks.{marks_of}
 use Rattle.sl_lex.specs.declared.mode.Mode.{Mode}
 use Rattle.sl_lex.specs.declared.mode.Mode.TheVariants.{Display}
-use Rattle.sl_lex.specs.declared.TokKind.{TokKind}
-use Rattle.sl_lex.specs.declared.TokKind.TheVariants.{Word, Integer, Text, Mark, Blank, Caret, Char}
+use Rattle.sl_lex.specs.declared.TokKind.TheVariants.{Word, Integer, Mark}
 use Rattle.sl_lex.proofs.CodeLemmas.{to_code, from_code, stands, code_some, only_integer, only_word_or_mark, digit_class}
-use Rattle.sl_lex.proofs.RunLemmas.{begins_some}
 
 integer_stands : (mode : Mode) (b : ℕ) (bs : List ℕ) (base mark count : ℕ) → (mode ≡ Display → ⊥) → is_digit b ≡ true → IsLongestInteger (b ∷ bs) base mark count
     → StandsAs mode (Some (Integer (number base (take count (drop mark (b ∷ bs)))))) (mark + count) (b ∷ bs)
@@ -23,8 +18,8 @@ integer_stands mode b bs base mark count outside h longest =
     stands mode (Some (Integer value)) (mark + count) (b ∷ bs) longest.within
     (from_code mode (Some (Integer value)) (take (mark + count) (b ∷ bs)) (drop (mark + count) (b ∷ bs)) outside longest.found)
     (λ other front rest e l.
-        let is = only_integer mode other front rest b bs (digit_class b h) e (to_code mode other front rest outside l) in
-        longest.longest is.0 front rest is.1 e)
+    let is = only_integer mode other front rest b bs (digit_class b h) e (to_code mode other front rest outside l) in
+    longest.longest is.0 front rest is.1 e)
 
 -- The integer that is spelled at the front stands there.
 pub integer_at : (mode : Mode) (text : List ℕ) (base mark count value : ℕ) → (mode ≡ Display → ⊥) → BeginsWith is_digit text → IsLongestInteger text base mark count
@@ -50,8 +45,8 @@ mark_stands mode b bs w m outside c word mark longer =
     stands mode (Some Mark) m (b ∷ bs) mark.within
     (from_code mode (Some Mark) (take m (b ∷ bs)) (drop m (b ∷ bs)) outside (mark.found (omega arith)))
     (λ other front rest e l. elim (only_word_or_mark mode other front rest b bs c e (to_code mode other front rest outside l)) [
-      inl is ↦ let short : length front ≤ w = word.longest front rest is.0 is.1 e in omega arith
-    | inr is ↦ mark.longest front rest is e
+      | inl is ↦ let short : length front ≤ w = word.longest front rest is.0 is.1 e in omega arith
+      | inr is ↦ mark.longest front rest is e
     ])
 
 pub mark_at : (mode : Mode) (text : List ℕ) (w m : ℕ) → (mode ≡ Display → ⊥) → 0 < length text → class_of (get_or text 0 0) ≡ 0 → IsLongestWord text w
@@ -65,8 +60,8 @@ word_stands mode b bs w m outside c word mark longer some =
     stands mode (Some Word) w (b ∷ bs) word.within
     (from_code mode (Some Word) (take w (b ∷ bs)) (drop w (b ∷ bs)) outside (word.found some))
     (λ other front rest e l. elim (only_word_or_mark mode other front rest b bs c e (to_code mode other front rest outside l)) [
-      inl is ↦ word.longest front rest is.0 is.1 e
-    | inr is ↦ let short : length front ≤ m = mark.longest front rest is e in omega arith
+      | inl is ↦ word.longest front rest is.0 is.1 e
+      | inr is ↦ let short : length front ≤ m = mark.longest front rest is e in omega arith
     ])
 
 pub word_at_front : (mode : Mode) (text : List ℕ) (w m : ℕ) → (mode ≡ Display → ⊥) → 0 < length text → class_of (get_or text 0 0) ≡ 0 → IsLongestWord text w
@@ -80,8 +75,8 @@ nothing_stands mode b bs w m outside c word mark none no_mark = λ kind front re
     let code = to_code mode kind front rest outside l in
     let some : 0 < length front = code_some mode kind front rest code in
     elim (only_word_or_mark mode kind front rest b bs c e code) [
-      inl is ↦ let short : length front ≤ w = word.longest front rest is.0 is.1 e in omega arith
-    | inr is ↦ let short : length front ≤ m = mark.longest front rest is e in omega arith
+      | inl is ↦ let short : length front ≤ w = word.longest front rest is.0 is.1 e in omega arith
+      | inr is ↦ let short : length front ≤ m = mark.longest front rest is e in omega arith
     ]
 
 pub nothing_at : (mode : Mode) (text : List ℕ) (w m : ℕ) → (mode ≡ Display → ⊥) → 0 < length text → class_of (get_or text 0 0) ≡ 0 → IsLongestWord text w

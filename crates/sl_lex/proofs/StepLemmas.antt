@@ -1,8 +1,8 @@
 -- The piece at the front of a text.
-use Rattle.std.proofs.Common.{◌≡◌, ℕ, List, [], ◌∷◌, ◌++◌, take, drop, refl, sym, ◌∙◌, ap, ap₂, subst, Option, Some, None, take-append-drop}
-use Rattle.sl_lex.specs.Found.{StandsAs, Steps}
+use Rattle.std.proofs.Common.{◌≡◌, ℕ, List, ◌++◌, take, drop, refl, sym, ◌∙◌, ap₂, subst, Option, take-append-drop}
+use Rattle.sl_lex.specs.Found.{StandsAs}
 use Rattle.sl_lex.specs.Lexemes.{IsLongest}
-use Rattle.sl_lex.specs.Reading.{Piece, IsPieceAt, Fits}
+use Rattle.sl_lex.specs.Reading.{IsPieceAt, Fits}
 use Rattle.sl_lex.specs.declared.TokKind.{TokKind}
 use Rattle.sl_lex.specs.declared.mode.Mode.{Mode}
 

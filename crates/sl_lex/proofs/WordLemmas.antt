@@ -1,10 +1,10 @@
 -- Words outside displays: how far one goes on.
-use Rattle.std.proofs.Common.{◌≡◌, ℕ, ◌+◌, ◌<◌, ◌≤◌, ◌&&◌, Bool, true, false, not, cond, List, [], ◌∷◌, ◌++◌, take, drop, length, get_or, arith, refl, ap, sym, ◌∙◌, subst, suc}
+use Rattle.std.proofs.Common.{◌≡◌, ℕ, ◌+◌, ◌<◌, ◌≤◌, ◌&&◌, Bool, true, false, not, cond, List, [], ◌∷◌, ◌++◌, take, drop, length, get_or, arith, refl, sym, subst, suc}
 use Rattle.std.specs.List.{list_all}
 use Rattle.std.proofs.lemmas.List.{take-append-drop}
 use Rattle.sl_lex.specs.Bytes.{begins_word, is_word_byte}
 use Rattle.sl_lex.specs.Found.{word_len, IsLongestWord}
-use Rattle.sl_lex.specs.Lexemes.{BeginsWith, HasNoDots, IsWord, begins_with_dots}
+use Rattle.sl_lex.specs.Lexemes.{HasNoDots, begins_with_dots}
 use Rattle.sl_lex.proofs.RunLemmas.{both_true, begins_front}
 
 and_not : (a b : Bool) → a ≡ true → b ≡ false → (a && not b) ≡ true
@@ -19,8 +19,8 @@ word_fits (b ∷ bs) rest h dots =
     let both = both_true (is_word_byte b) (list_all is_word_byte bs) h in
     let more : length bs ≤ word_len (bs ++ rest) = word_fits bs rest both.1 dots.1 in
     let here : word_len (b ∷ (bs ++ rest)) ≡ 1 + word_len (bs ++ rest) =
-        cond_true (is_word_byte b && not (begins_with_dots (b ∷ (bs ++ rest)))) (1 + word_len (bs ++ rest)) 0
-        (and_not (is_word_byte b) (begins_with_dots (b ∷ (bs ++ rest))) both.0 dots.0) in
+    cond_true (is_word_byte b && not (begins_with_dots (b ∷ (bs ++ rest)))) (1 + word_len (bs ++ rest)) 0
+    (and_not (is_word_byte b) (begins_with_dots (b ∷ (bs ++ rest))) both.0 dots.0) in
     omega (arith, here)
 
 -- So many bytes at the front go on a word.

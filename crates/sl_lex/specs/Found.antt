@@ -3,7 +3,7 @@ use Rattle.std.specs.Prelude.{◌≡◌, ℕ, ◌+◌, ◌<◌, ◌≤◌, ◌&&
 use Rattle.std.specs.List.{list_all}
 use Rattle.std.specs.Option.{option_map, option_to_list}
 use Rattle.sl_lex.specs.Bytes.{is_quote, is_blank, is_hash, is_digit, is_word_byte, number}
-use Rattle.sl_lex.specs.Faults.{Fault, IsFault, IsTooWide}
+use Rattle.sl_lex.specs.Faults.{IsFault, IsTooWide}
 use Rattle.sl_lex.specs.Faults.Fault.{NoLexeme, OpenQuote, TooWide}
 use Rattle.sl_lex.specs.Lexemes.{IsLongest, HasNoLexeme, IsWord, HasNoDots, IsInteger, begins_with_dots}
 use Rattle.sl_lex.specs.Reading.{Fits, Piece, IsPieceAt, tokens_of, mode_after}

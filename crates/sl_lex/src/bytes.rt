@@ -82,7 +82,9 @@ pub fn count_word_bytes(text: &[u8]) -> usize
 pub fn count_comment_bytes(text: &[u8]) -> usize
     ensures { result ≡ prefix_len is_comment_byte text.now }
 {
-    text.iter().take_while(|byte| is_comment_byte(**byte)).count()
+    text.iter()
+        .take_while(|byte| is_comment_byte(**byte))
+        .count()
 }
 
 /// How many bytes stand at the front that may stand between quotes.
@@ -107,5 +109,7 @@ pub fn count_hex_digits(text: &[u8]) -> usize
 pub fn count_binary_digits(text: &[u8]) -> usize
     ensures { result ≡ prefix_len is_binary_digit text.now }
 {
-    text.iter().take_while(|byte| is_binary_digit(**byte)).count()
+    text.iter()
+        .take_while(|byte| is_binary_digit(**byte))
+        .count()
 }

@@ -57,12 +57,24 @@ fn piece_at<'a>(mode: Mode, from: usize, text: &'a [u8]) -> Result<Step<'a>, Lex
     match lexeme(mode, text) {
         Found::Gap(count) => {
             let (_, rest) = text.split_at(count);
-            Ok(Step { token: None, mode, rest })
+            Ok(Step {
+                token: None,
+                mode,
+                rest,
+            })
         }
         Found::Token(kind, count) => {
             let (bytes, rest) = text.split_at(count);
-            let token = Tok { kind, text: bytes, from };
-            Ok(Step { token: Some(token), mode: next_mode(mode, bytes), rest })
+            let token = Tok {
+                kind,
+                text: bytes,
+                from,
+            };
+            Ok(Step {
+                token: Some(token),
+                mode: next_mode(mode, bytes),
+                rest,
+            })
         }
         Found::TooWide => Err(LexError::WideInteger(from)),
         Found::Nothing => Err(fault(from, text)),

@@ -17,8 +17,8 @@ static COMMON_MARKS: [&[u8]; 35] = [
 
 /// The signed and the floating operators, which sections have besides.
 static SECTION_MARKS: [&[u8]; 17] = [
-    b"s>>", b"s<=", b"s>=", b"s<", b"s>", b"s/", b"s%", b"f+", b"f-", b"f*", b"f/", b"f==",
-    b"f!=", b"f<", b"f<=", b"f>", b"f>=",
+    b"s>>", b"s<=", b"s>=", b"s<", b"s>", b"s/", b"s%", b"f+", b"f-", b"f*", b"f/", b"f==", b"f!=",
+    b"f<", b"f<=", b"f>", b"f>=",
 ];
 
 /// The mark's length where it stands at the front; else 0.

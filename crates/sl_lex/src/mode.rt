@@ -29,7 +29,10 @@ pub fn next_mode(mode: Mode, text: &[u8]) -> Mode
         (Mode::Top, b"macro") | (Mode::Pattern, b"{") => Mode::Body,
         (Mode::Top, b"with") => Mode::Head,
         (Mode::Top, b":") => Mode::Display,
-        (Mode::Head, b"{") | (Mode::Plain, b";") | (Mode::Body, b"}") | (Mode::Pattern, b"unimpl") => Mode::Top,
+        (Mode::Head, b"{")
+        | (Mode::Plain, b";")
+        | (Mode::Body, b"}")
+        | (Mode::Pattern, b"unimpl") => Mode::Top,
         (Mode::Display, b"is") => Mode::Pattern,
         _ => mode,
     }

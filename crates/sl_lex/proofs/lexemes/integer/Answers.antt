@@ -1,4 +1,4 @@
-use Rattle.std.proofs.Common.{◌≡◌, ℕ, ◌+◌, ◌-◌, List, take, drop, arith, ap, rules, sym, ◌∙◌}
+use Rattle.std.proofs.Common.{◌≡◌, ℕ, ◌+◌, ◌-◌, List, take, drop, arith, ap, rules, ◌∙◌}
 use Rattle.sl_lex.specs.Bytes.{number}
 use Rattle.sl_lex.proofs.StandLemmas.{integer_at, wide_at}
 use Rattle.sl_lex.proofs.lexemes.integer.Goals as goal
@@ -11,7 +11,7 @@ between base mark count text =
 pub returns-in-Some : goal.returns-in-Some
 returns-in-Some c = λ mode outside. (
   integer_at mode c.args.text.now c.digits_of-base.result.0 c.digits_of-base.result.1 c.digits_of-base.result.2 c.in-Some.value outside c.requires
-  c.digits_of-base.ensures (between c.digits_of-base.result.0 c.digits_of-base.result.1 c.digits_of-base.result.2 c.args.text.now ∙ c.in-Some.ensures.value),
+      c.digits_of-base.ensures (between c.digits_of-base.result.0 c.digits_of-base.result.1 c.digits_of-base.result.2 c.args.text.now ∙ c.in-Some.ensures.value),
   search rules,
 )
 

@@ -13,7 +13,7 @@ split_at-requires-2 c = run_within is_text_byte c.split_at.result.1.now c.count_
 pub returns-then-starts_with : goal.returns-then-starts_with
 returns-then-starts_with c = λ mode. (
   text_at mode c.args.text.now c.split_at.result.1.now c.split_at-2.result.1.now c.count_text_bytes-count.result c.requires c.split_at.ensures.back
-  c.count_text_bytes-count.ensures c.split_at-2.ensures.back (sym c.starts_with.ensures.value ∙ c.if-starts_with.true),
+      c.count_text_bytes-count.ensures c.split_at-2.ensures.back (sym c.starts_with.ensures.value ∙ c.if-starts_with.true),
   tt,
 )
 

@@ -1,4 +1,4 @@
-use Rattle.std.proofs.Common.{arith, sym, ◌∙◌}
+use Rattle.std.proofs.Common.{sym, ◌∙◌}
 use Rattle.sl_lex.specs.Bytes.{is_text_byte}
 use Rattle.sl_lex.proofs.FaultLemmas.{blames_first, blames_quote, blames_inside}
 use Rattle.sl_lex.proofs.RunLemmas.{run_within}

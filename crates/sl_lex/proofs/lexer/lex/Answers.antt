@@ -20,10 +20,10 @@ pub pieces-preserved : goal.pieces-preserved
 pieces-preserved c =
     let less = steps_on c.pieces.mode c.pieces.from c.pieces.rest.now c.in_ok-piece.piece c.in_ok-piece.ensures.found in
     let kept : views c.match-piece.toks.items ≡ views c.pieces.toks.items ++ option_to_list (option_map view c.in_ok-piece.piece.token) =
-        elim c.match-piece.branch [
-          in-Some+else-is_err w ↦ kept_more c.pieces.toks.items c.match-piece.toks.items c.in_ok-piece.piece.token w.in-Some.tok (grind (arith, common_steps)) w.in-Some.is
-        | in_default w ↦ kept_same c.pieces.toks.items c.match-piece.toks.items c.in_ok-piece.piece.token (grind (arith, common_steps)) w.in_default.is
-        ] in
+    elim c.match-piece.branch [
+      | in-Some+else-is_err w ↦ kept_more c.pieces.toks.items c.match-piece.toks.items c.in_ok-piece.piece.token w.in-Some.tok (grind (arith, common_steps)) w.in-Some.is
+      | in_default w ↦ kept_same c.pieces.toks.items c.match-piece.toks.items c.in_ok-piece.piece.token (grind (arith, common_steps)) w.in_default.is
+    ] in
     record {
       place = omega arith;
       reads = subst (λ (ts : List Token). GoesOn c.args.text.now ts c.in_ok-piece.piece.mode (c.pieces.from + (length c.pieces.rest.now - length c.in_ok-piece.piece.rest.now)) c.in_ok-piece.piece.rest.now)

@@ -1,6 +1,4 @@
 use Rattle.std.proofs.Common.{codes, rules}
-use Rattle.std.proofs.lemmas.Bool.Decides.{Decides-eqb}
-use Rattle.std.proofs.lemmas.Slice.Eq.{strip_prefix_is}
 use Rattle.sl_lex.specs.Bytes.{is_binary_digit}
 use Rattle.sl_lex.proofs.SpelledLemmas.{stripped}
 use Rattle.sl_lex.proofs.numbers.count_behind_0b.Goals as goal
