@@ -1,5 +1,5 @@
 -- The longest mark at the front of a text.
-use Rattle.std.proofs.Common.{◌≡◌, ℕ, ◌+◌, ◌<◌, ◌≤◌, inl, inr, Bool, true, false, not, cond, max, map, List, [], ◌∷◌, ◌++◌, take, drop, length, arith, refl, ap, sym, ◌∙◌, subst, zero, suc, get_or, nat_eq}
+use Rattle.std.proofs.Common.{◌||◌, ◌⊎◌, ◌≡◌, ℕ, ◌+◌, ◌<◌, ◌≤◌, inl, inr, Bool, true, false, not, cond, max, map, List, [], ◌∷◌, ◌++◌, take, drop, length, arith, refl, ap, sym, ◌∙◌, subst, zero, suc, get_or, nat_eq}
 use Rattle.std.specs.Prelude.{Contains}
 use Rattle.std.specs.List.{list_all, starts_with}
 use Rattle.std.proofs.Math.Seq.{take-append_seam}
@@ -9,12 +9,24 @@ use denote.Ref.{Bor}
 use Rattle.std.proofs.lemmas.List.{length-append, map_more}
 use Rattle.std.proofs.lemmas.List.Elements.{Contains-append_left, Contains-append_right, Contains-append_cases, Contains-push, Contains-push_cases}
 use Rattle.std.proofs.lemmas.Slice.Eq.{starts_is}
-use Rattle.sl_lex.specs.Bytes.{is_letter}
+use Rattle.sl_lex.specs.Bytes.{is_among, is_letter}
 use Rattle.sl_lex.specs.Found.{IsLongestMark}
-use Rattle.sl_lex.specs.Marks.{common_marks, section_marks, section_marks_of, marks_of}
+use Rattle.sl_lex.specs.Marks.{long_marks, mark_bytes, common_marks, section_marks, section_marks_of, marks_of}
 use Rattle.sl_lex.specs.declared.mode.Mode.{Mode}
 use Rattle.sl_lex.specs.declared.mode.Mode.TheVariants.{Top, Head, Plain, Body, Display, Pattern}
 use Rattle.sl_lex.proofs.RunLemmas.{both_true, not_false}
+
+or_left : (a b : Bool) → a ≡ true → (a || b) ≡ true
+or_left true b h = refl
+or_left false b h = absurd (cc)
+
+or_right : (a b : Bool) → b ≡ true → (a || b) ≡ true
+or_right true b h = refl
+or_right false b h = h
+
+either : (a b : Bool) → (a || b) ≡ true → (a ≡ true) ⊎ (b ≡ true)
+either true b h = inl refl
+either false b h = inr h
 
 -- What holds of each mark by a test holds of one.
 pub all_pass : (test : List ℕ → Bool) (marks : List (List ℕ)) (mark : List ℕ) → list_all test marks ≡ true → Contains marks mark → test mark ≡ true
@@ -124,6 +136,64 @@ next_mark marks i text n r s d less h is greatest =
     let more = one_mark_more (map (λ k. k.now) (take i marks)) m text n (starts_with nat_eq text m) refl h in
     subst (λ (k : ℕ). IsLongestMark (map (λ x. x.now) (take (i + 1) marks)) text k) (ap (λ (k : ℕ). max k n) (sym is) ∙ sym greatest)
     (subst (λ (ms : List (List ℕ)). IsLongestMark ms text (max (cond (starts_with nat_eq text m) (length m) 0) n)) (sym (map_more (λ x. x.now) marks i d less)) more)
+
+single_is : (bytes front : List ℕ) → Contains (map (λ (b : ℕ). b ∷ []) bytes) front → (c : ℕ) × (front ≡ c ∷ []) × (is_among bytes c ≡ true)
+single_is [] front (k, less, at) = absurd (omega arith)
+single_is (c ∷ cs) front (zero, less, at) = (c, sym at, or_left (nat_eq c c) (is_among cs c) ((Decides-eqb c c).1 refl))
+single_is (c ∷ cs) front (suc k, less, at) =
+    let more = single_is cs front (k, omega arith, at) in (more.0, more.1, or_right (nat_eq more.0 c) (is_among cs more.0) more.2)
+
+single_among : (bytes : List ℕ) (b : ℕ) → is_among bytes b ≡ true → Contains (map (λ (c : ℕ). c ∷ []) bytes) (b ∷ [])
+single_among [] b h = absurd (cc)
+single_among (c ∷ cs) b h = elim (either (nat_eq b c) (is_among cs b) h) [
+  | inl same ↦ (0, omega arith, ap (λ (x : ℕ). x ∷ []) (sym ((Decides-eqb b c).0 same)))
+  | inr more ↦
+      let there = single_among cs b more in
+      let less : there.0 < length (map (λ (x : ℕ). x ∷ []) cs) = there.1 in
+      (suc there.0, omega arith, there.2)
+]
+
+abbrev singles : List (List ℕ)
+singles = map (λ b. b ∷ []) mark_bytes
+
+-- A mark of more bytes is longer than any of one.
+pub long_here : (text : List ℕ) (n : ℕ) → 0 < n → IsLongestMark long_marks text n → IsLongestMark common_marks text n
+long_here text n some h = record {
+  within = h.within;
+  found = λ more. Contains-append_left long_marks singles _ (h.found more);
+  longest = λ front rest among e. elim (Contains-append_cases long_marks singles front among) [
+    | inl x ↦ h.longest front rest x e
+    | inr y ↦ omega (arith, ap length (single_is mark_bytes front y).1)
+  ];
+}
+
+pub single_here : (text : List ℕ) (n : ℕ) → 0 < length text → n ≤ 0 → is_among mark_bytes (get_or text 0 0) ≡ true → IsLongestMark long_marks text n
+    → IsLongestMark common_marks text 1
+single_here [] n some none m h = absurd (omega arith)
+single_here (b ∷ bs) n some none m h = record {
+  within = omega arith;
+  found = λ more. Contains-append_right long_marks singles (b ∷ []) (single_among mark_bytes b m);
+  longest = λ front rest among e. elim (Contains-append_cases long_marks singles front among) [
+    | inl x ↦ let short : length front ≤ n = h.longest front rest x e in omega arith
+    | inr y ↦ omega (arith, ap length (single_is mark_bytes front y).1)
+  ];
+}
+
+pub neither_here : (text : List ℕ) (n : ℕ) → 0 < length text → n ≤ 0 → is_among mark_bytes (get_or text 0 0) ≡ false → IsLongestMark long_marks text n
+    → IsLongestMark common_marks text 0
+neither_here [] n some none m h = absurd (omega arith)
+neither_here (b ∷ bs) n some none m h = record {
+  within = omega arith;
+  found = λ more. absurd (omega arith);
+  longest = λ front rest among e. elim (Contains-append_cases long_marks singles front among) [
+    | inl x ↦ let short : length front ≤ n = h.longest front rest x e in omega arith
+    | inr y ↦
+        let is = single_is mark_bytes front y in
+        let begins_so : b ∷ bs ≡ is.0 ∷ rest = e ∙ ap (λ (t : List ℕ). t ++ rest) is.1 in
+        let here : b ≡ is.0 = cc in
+        absurd (not_false (is_among mark_bytes b) (ap (is_among mark_bytes) here ∙ is.2) m)
+  ];
+}
 
 -- A text that begins with no letter has the longest of the common marks as its longest.
 pub unlettered : (mode : Mode) (text : List ℕ) (n : ℕ) → (mode ≡ Display → ⊥) → 0 < length text → is_letter (get_or text 0 0) ≡ false

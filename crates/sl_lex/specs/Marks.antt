@@ -1,14 +1,19 @@
-use Rattle.std.specs.Prelude.{List, [], ◌∷◌, ◌++◌, ℕ, codes}
+use Rattle.std.specs.Prelude.{List, [], ◌∷◌, ◌++◌, ℕ, codes, map}
 use Rattle.sl_lex.specs.declared.mode.Mode.{Mode}
 use Rattle.sl_lex.specs.declared.mode.Mode.TheVariants.{Top, Head, Plain, Body, Display, Pattern}
 
--- the marks of every mode but Display
-abbrev pub common_marks : List (List ℕ)
-common_marks =
+-- the marks of more than one byte that every mode but Display has
+abbrev pub long_marks : List (List ℕ)
+long_marks =
     codes "..." ∷ codes "$and" ∷ codes "$or" ∷ codes "$xor" ∷ codes "<<" ∷ codes ">>" ∷ codes "<=" ∷ codes ">=" ∷ codes "==" ∷ codes "!="
-    ∷ codes "&&" ∷ codes "||" ∷ codes "^^" ∷ codes "(" ∷ codes ")" ∷ codes "[" ∷ codes "]" ∷ codes "{" ∷ codes "}" ∷ codes "," ∷ codes ";"
-    ∷ codes ":" ∷ codes "=" ∷ codes "+" ∷ codes "-" ∷ codes "*" ∷ codes "/" ∷ codes "%" ∷ codes "&" ∷ codes "|" ∷ codes "^" ∷ codes "~"
-    ∷ codes "!" ∷ codes "<" ∷ codes ">" ∷ []
+    ∷ codes "&&" ∷ codes "||" ∷ codes "^^" ∷ []
+
+-- the bytes that are marks of their own in every mode but Display
+abbrev pub mark_bytes : List ℕ
+mark_bytes = codes "()[]{},;:=+-*/%&|^~!<>"
+
+abbrev pub common_marks : List (List ℕ)
+common_marks = long_marks ++ map (λ b. b ∷ []) mark_bytes
 
 -- the signed and the floating operators, which sections have besides
 abbrev pub section_marks : List (List ℕ)

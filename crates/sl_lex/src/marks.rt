@@ -2,17 +2,16 @@
 
 ghost use Rattle.std.specs.Prelude.{◌≡◌, ◌<◌, if◌then◌else◌, length, map, nat_eq};
 ghost use Rattle.std.specs.List.{starts_with};
+ghost use Rattle.sl_lex.specs.Bytes.{is_among};
 ghost use Rattle.sl_lex.specs.Found.{IsLongestMark};
-ghost use Rattle.sl_lex.specs.Marks.{marks_of, section_marks_of};
+ghost use Rattle.sl_lex.specs.Marks.{common_marks, mark_bytes, marks_of, section_marks_of};
 
 use crate::bytes::is_letter;
 use crate::mode::Mode;
 
-/// The marks of every mode but `Display`.
-static COMMON_MARKS: [&[u8]; 35] = [
-    b"...", b"$and", b"$or", b"$xor", b"<<", b">>", b"<=", b">=", b"==", b"!=", b"&&", b"||",
-    b"^^", b"(", b")", b"[", b"]", b"{", b"}", b",", b";", b":", b"=", b"+", b"-", b"*", b"/",
-    b"%", b"&", b"|", b"^", b"~", b"!", b"<", b">",
+/// The marks of more than one byte that every mode but `Display` has.
+static LONG_MARKS: [&[u8]; 13] = [
+    b"...", b"$and", b"$or", b"$xor", b"<<", b">>", b"<=", b">=", b"==", b"!=", b"&&", b"||", b"^^",
 ];
 
 /// The signed and the floating operators, which sections have besides.
@@ -43,6 +42,50 @@ fn longest_of(marks: &[&[u8]], text: &[u8]) -> usize
     longest
 }
 
+fn is_mark_byte(byte: u8) -> bool
+    ensures { result ≡ is_among mark_bytes byte }
+{
+    matches!(
+        byte,
+        b'(' | b')'
+            | b'['
+            | b']'
+            | b'{'
+            | b'}'
+            | b','
+            | b';'
+            | b':'
+            | b'='
+            | b'+'
+            | b'-'
+            | b'*'
+            | b'/'
+            | b'%'
+            | b'&'
+            | b'|'
+            | b'^'
+            | b'~'
+            | b'!'
+            | b'<'
+            | b'>'
+    )
+}
+
+/// The length of the longest mark at the front that all modes but `Display` have; 0 where none stands there.
+fn count_common_mark(text: &[u8]) -> usize
+    requires { 0 < length text.now }
+    ensures { IsLongestMark common_marks text.now result }
+{
+    let long = longest_of(&LONG_MARKS, text);
+    if long > 0 {
+        long
+    } else if is_mark_byte(text[0]) {
+        1
+    } else {
+        0
+    }
+}
+
 /// The length of the longest mark at the front that begins with a letter; 0 where none stands there.
 fn count_lettered_mark(mode: Mode, text: &[u8]) -> usize
     requires { 0 < length text.now }
@@ -63,6 +106,6 @@ pub fn count_mark(mode: Mode, text: &[u8]) -> usize
     if is_letter(text[0]) {
         count_lettered_mark(mode, text)
     } else {
-        longest_of(&COMMON_MARKS, text)
+        count_common_mark(text)
     }
 }

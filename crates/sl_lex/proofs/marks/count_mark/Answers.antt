@@ -8,4 +8,4 @@ returns-then-is_letter c =
 
 pub returns-else-is_letter : goal.returns-else-is_letter
 returns-else-is_letter c =
-    unlettered c.args.mode c.args.text.now c.longest_of.result c.requires.outside c.requires.some (sym c.is_letter.ensures ∙ c.if-is_letter.false) c.longest_of.ensures
+    unlettered c.args.mode c.args.text.now c.count_common_mark.result c.requires.outside c.requires.some (sym c.is_letter.ensures ∙ c.if-is_letter.false) c.count_common_mark.ensures
