@@ -1,8 +1,11 @@
 -- A text reads in one way alone.
 use Rattle.std.proofs.Common.{◌≡◌, ℕ, ◌+◌, ◌<◌, ◌≤◌, ◌^◌, List, [], ◌∷◌, length, Option, None, Some, arith, refl, ap, ap₂, sym, ◌∙◌, subst, length-append}
+use Rattle.sl_lex.specs.Errors.{Tells}
 use Rattle.sl_lex.specs.Faults.{Fault, IsFault}
 use Rattle.sl_lex.specs.Faults.Fault.{NoLexeme, OpenQuote, TooWide}
 use Rattle.sl_lex.specs.Reading.{Token, Piece, Reads, ReadsTo, IsPieceAt, mode_after, Fits, tokens_of, ReadsAs, HasBadPlace}
+use Rattle.sl_lex.specs.declared.LexError.{LexError}
+use Rattle.sl_lex.specs.declared.LexError.TheVariants.{BadByte, OpenString, WideInteger, NoMemory}
 use Rattle.sl_lex.specs.declared.mode.Mode.{Mode}
 use Rattle.sl_lex.specs.declared.mode.Mode.TheVariants.{Top}
 use Rattle.sl_lex.specs.declared.TokKind.{TokKind}
@@ -88,3 +91,10 @@ one_bad_place text fault other place there (ts, h) (us, k) =
     let same = (one_end text ts us (Some (fault, place)) (Some (other, there)) h k).1 in
     let pair : (fault, place) ≡ (other, there) = cc in
     (ap (λ (x : Fault × ℕ). x.0) pair, ap (λ (x : Fault × ℕ). x.1) pair)
+
+-- Where a text reads to its end, the only error is want of memory.
+pub well_read : (text : List ℕ) (ts : List Token) (error : LexError) → ReadsAs text ts → Tells text error → error ≡ NoMemory
+well_read text ts (BadByte place) reads bad = absurd (reads_well text ts NoLexeme place reads bad)
+well_read text ts (OpenString place) reads bad = absurd (reads_well text ts OpenQuote place reads bad)
+well_read text ts (WideInteger place) reads bad = absurd (reads_well text ts TooWide place reads bad)
+well_read text ts NoMemory reads bad = refl
