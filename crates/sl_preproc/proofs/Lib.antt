@@ -1,0 +1,6 @@
+pub mod FileLemmas
+pub mod TreeLemmas
+pub mod LineLemmas
+pub mod ExpansionLemmas
+pub mod MainLemmas
+pub mod SoundLemmas

@@ -1,0 +1,11 @@
+-- What holds of each expanded text, whatever the files say.
+use Rattle.std.specs.Prelude.{ℕ, ◌<◌, ◌≤◌, length}
+use Rattle.std.specs.List.{AllByRecursion}
+use Rattle.sl_outside.specs.Folder.{size_limit}
+use Rattle.sl_preproc.specs.Expanded.{Text}
+
+-- The text isn't too long, there is a main file, and each place is in one of the files.
+pub record IsSound (t : Text) : Type 0 where
+  pub small : length t.bytes ≤ size_limit
+  pub some : 0 < length t.files
+  pub known : AllByRecursion (λ place. place.file < length t.files) t.places
