@@ -3,4 +3,5 @@ pub mod TreeLemmas
 pub mod LineLemmas
 pub mod ExpansionLemmas
 pub mod MainLemmas
+pub mod FeedLemmas
 pub mod SoundLemmas

@@ -12,7 +12,7 @@ ghost use Rattle.sl_preproc.specs.ByLines.{line_step, line_done, at_end};
 ghost use Rattle.sl_preproc.specs.Expansion as spec;
 ghost use Rattle.sl_preproc.specs.Expanded.{expanded, seen, text_of};
 ghost use Rattle.sl_preproc.specs.Refusals.{Answers, WhereTold};
-ghost use Rattle.sl_preproc.specs.Sound.{IsSound};
+ghost use Rattle.sl_preproc.specs.Sound.{IsSound, IsWhole, NoFeed};
 
 use crate::error::{PreError, refuse};
 use crate::groups::Groups;
@@ -63,7 +63,7 @@ fn read<'a>(
     work: &mut Work,
 ) -> Result<Option<&'a str>, PreError>
     ensures read { Answers (λ o. (option_map (λ n. n.now) o, stack_of groups.new, work_of work.new)) result (on_line name.now line (line_step name.now line text.now (stack_of groups.old) (work_of work.old))) }
-    ensures sound { IsSound (text_of (work_of work.old)) → OnOk result (IsSound (text_of (work_of work.new))) }
+    ensures whole { NoFeed text.now → IsWhole (work_of work.old) → OnOk result (IsWhole (work_of work.new)) }
     ensures no_read_fault { IsErrOf result PreError.ReadFault → ⊥ }
 {
     match read_line(alloc, name, line, text, groups, work) {
@@ -96,7 +96,7 @@ fn include<F: Files>(
     work: &mut Work,
 ) -> Result<(), PreError>
     ensures included { WhereTold (F.told files.old) (λ folder. Answers (λ _. work_of work.new) result (included left folder from.now line name.now (work_of work.old))) }
-    ensures sound { IsSound (text_of (work_of work.old)) → OnOk result (IsSound (text_of (work_of work.new))) }
+    ensures whole { IsWhole (work_of work.old) → OnOk result (IsWhole (work_of work.new)) }
     ensures read_fault { IsErrOf result PreError.ReadFault → Rose (F.faults files.old) (F.faults files.new) }
     ensures same_folder { F.told files.new ≡ F.told files.old }
     ensures never_falls { F.faults files.old ≤ F.faults files.new }
@@ -129,7 +129,7 @@ fn expand_line<F: Files>(
     work: &mut Work,
 ) -> Result<(), PreError>
     ensures line { WhereTold (F.told files.old) (λ folder. Answers (λ _. (stack_of groups.new, work_of work.new)) result (line_done (included left folder name.now) name.now line text.now (stack_of groups.old) (work_of work.old))) }
-    ensures sound { IsSound (text_of (work_of work.old)) → OnOk result (IsSound (text_of (work_of work.new))) }
+    ensures whole { NoFeed text.now → IsWhole (work_of work.old) → OnOk result (IsWhole (work_of work.new)) }
     ensures read_fault { IsErrOf result PreError.ReadFault → Rose (F.faults files.old) (F.faults files.new) }
     ensures same_folder { F.told files.new ≡ F.told files.old }
     ensures never_falls { F.faults files.old ≤ F.faults files.new }
@@ -152,7 +152,7 @@ fn expand_lines<F: Files>(
 ) -> Result<(), PreError>
     requires { length bytes.now ≤ size_limit }
     ensures file { WhereTold (F.told files.old) (λ folder. Answers (λ _. work_of work.new) result (expand_file (included left folder name.now) name.now bytes.now (work_of work.old))) }
-    ensures sound { IsSound (text_of (work_of work.old)) → OnOk result (IsSound (text_of (work_of work.new))) }
+    ensures whole { IsWhole (work_of work.old) → OnOk result (IsWhole (work_of work.new)) }
     ensures read_fault { IsErrOf result PreError.ReadFault → Rose (F.faults files.old) (F.faults files.new) }
     ensures same_folder { F.told files.new ≡ F.told files.old }
     ensures never_falls { F.faults files.old ≤ F.faults files.new }

@@ -10,6 +10,7 @@ use Rattle.sl_preproc.specs.ByLines.{expand_lines}
 use Rattle.sl_preproc.specs.declared.groups.Group.{Group}
 use Rattle.sl_preproc.proofs.ExpansionLemmas.{refuses_along, refuses_same, answers_along, answers_same, line_fails, line_plain, line_includes, line_goes, no_line, included_as, fetch_fails, too_deep}
 use Rattle.sl_preproc.proofs.LineLemmas.{by_lines}
+use Rattle.sl_preproc.proofs.FeedLemmas.{line_free}
 use Rattle.sl_preproc.proofs.inclusion.+files.Goals as goal
 
 pub expand_line-returns-in_err-included-clause-line : goal.expand_line-returns-in_err-included-clause-line
@@ -47,7 +48,7 @@ expand_lines-lines-init g t c =
       told = refl;
       faults = omega arith;
       count = omega (arith, c.requires);
-      sound = λ s. s;
+      whole = λ w. w;
       so_far = λ folder h. rw none (by_lines (included c.args.left folder c.args.name.now) c.args.name.now (lines c.args.bytes.now) (work_of c.args.work.now));
     }
 
@@ -56,7 +57,7 @@ expand_lines-lines-preserved g t c = record {
   told = c.in_ok-expand_line.ensures.same_folder ∙ c.lines.invariant.told;
   faults = omega (arith, c.in_ok-expand_line.ensures.never_falls, c.lines.invariant.faults);
   count = omega (arith, c.in-Some.ensures.shorter, c.lines.invariant.count);
-  sound = λ s. c.in_ok-expand_line.ensures.sound (c.lines.invariant.sound s);
+  whole = λ w. c.in_ok-expand_line.ensures.whole (line_free c.lines.rest.now c.in-Some.line.now (lines c.in-Some.others.now) c.in-Some.ensures.lines) (c.lines.invariant.whole w);
   so_far = λ folder h.
       sym (ap (λ (r : Result (List Group × Work) Refusal). r >> λ s. expand_lines (included c.args.left folder c.args.name.now) c.args.name.now (lines c.in-Some.others.now) (c.lines.number + 1) s.0 s.1)
       (c.in_ok-expand_line.ensures.line folder (c.lines.invariant.told ∙ h)))

@@ -5,8 +5,7 @@ use Rattle.sl_preproc.specs.Stacks.{stack_of}
 use Rattle.sl_preproc.specs.Works.{work_of}
 use Rattle.sl_preproc.specs.Expansion.{included, expand_file}
 use Rattle.sl_preproc.specs.ByLines.{expand_lines}
-use Rattle.sl_preproc.specs.Expanded.{text_of}
-use Rattle.sl_preproc.specs.Sound.{IsSound}
+use Rattle.sl_preproc.specs.Sound.{IsWhole}
 use Rattle.sl_preproc.specs.Refusals.{WhereTold}
 use Rattle.sl_preproc.proofs.inclusion.+files.Given as goal
 
@@ -24,7 +23,7 @@ invariant-expand_lines-lines g l = record {
   told : g.F.Files.told l.files ≡ g.F.Files.told l.fn.files;
   faults : g.F.Files.faults l.fn.files ≤ g.F.Files.faults l.files;
   count : l.number + length l.rest ≤ size_limit + 1;
-  sound : IsSound (text_of (work_of l.fn.work)) → IsSound (text_of (work_of l.work));
+  whole : IsWhole (work_of l.fn.work) → IsWhole (work_of l.work);
   so_far : WhereTold (g.F.Files.told l.fn.files) (λ folder.
       expand_lines (included l.left folder l.name) l.name (lines l.rest) l.number (stack_of l.groups) (work_of l.work)
       ≡ expand_file (included l.left folder l.name) l.name l.bytes (work_of l.fn.work));

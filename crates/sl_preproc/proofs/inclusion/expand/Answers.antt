@@ -4,6 +4,8 @@ use Rattle.sl_preproc.specs.Works.{work_of}
 use Rattle.sl_preproc.specs.Expanded.{seen}
 use Rattle.sl_preproc.proofs.ExpansionLemmas.{refuses_same}
 use Rattle.sl_preproc.proofs.MainLemmas.{text_fails, main_fails, main_lines, main_text}
+use Rattle.sl_preproc.specs.Sound.{IsWhole}
+use Rattle.sl_preproc.proofs.SoundLemmas.{nothing_whole, is_sound}
 use Rattle.sl_preproc.proofs.inclusion.expand.Goals as goal
 
 pub returns-in_err-bytes-clause-expansion : goal.returns-in_err-bytes-clause-expansion
@@ -24,3 +26,8 @@ returns-clause-expansion g c = λ folder h.
     (sym (main_lines folder c.args.main.now c.in_ok-bytes.bytes.items c.as_slice.result.now (work_of c.in_ok-work.work) (c.in_ok-bytes.ensures.found folder h) c.as_slice.ensures.value c.in_ok-work.ensures)
     ∙ c.in_ok-expand_lines.ensures.file folder (c.in_ok-bytes.ensures.same_folder ∙ h))
     c.finish.ensures
+
+pub returns-clause-sound : goal.returns-clause-sound
+returns-clause-sound g c =
+    let begun : IsWhole (work_of c.in_ok-work.work) = rw c.in_ok-work.ensures (nothing_whole c.args.main.now) in
+    rw c.finish.ensures (is_sound (work_of c.expand_lines.new.work) (c.in_ok-expand_lines.ensures.whole begun))
