@@ -1,9 +1,9 @@
 -- The files that give lines, by their names, and the directory of a name.
 use Rattle.std.proofs.Common.{◌≡◌, ℕ, ◌+◌, ◌-◌, ◌<◌, ◌≤◌, Bool, true, false, not, cond, List, [], ◌∷◌, ◌++◌, length, map, get_or, take, drop, Option, Some, None, arith, refl, sym, ap, ◌∙◌, ◌==◌}
-use Rattle.std.specs.Prelude.{nat_lt, slice_range}
+use Rattle.std.specs.Prelude.{nat_lt, slice_range, if◌then◌else◌}
 use Rattle.std.proofs.lemmas.Grind.{common_steps}
 use Rattle.std.specs.Global.{Global}
-use Rattle.std.specs.List.{position_or_len, prefix_len, suffix_len}
+use Rattle.std.specs.List.{list_any, position, position_or_len, prefix_len, suffix_len}
 use Rattle.std.specs.Str.{bytes_eq}
 use Rattle.std.specs.String.{string_bytes}
 use Rattle.std.specs.declared.string.String.{String}
@@ -44,6 +44,38 @@ module _ (name : List ℕ) (fs : List (String Global)) (n : ℕ) (here : n ≡ p
   enters_old h =
       let le : position_or_len (bytes_eq name) (names_of fs) ≤ length (names_of fs) = prefix_len-le-length (λ f. not (bytes_eq name f)) (names_of fs) in
       chosen_old (position_or_len (bytes_eq name) (names_of fs)) (length (names_of fs)) (names_of fs) (names_of fs ++ name ∷ []) (λ e. h (number_is ∙ e ∙ count)) le
+
+abbrev is_named : List ℕ → String Global → Bool
+is_named name f = bytes_eq name (string_bytes f)
+
+found_at : (p len i : ℕ) (within : Bool) → nat_lt p len ≡ within → (let o : Option ℕ = cond within (Some p) None in o) ≡ Some i → (i ≡ p) × (i < len)
+found_at p len i true h e = let same : p ≡ i = cc in let lt : p < len = grind (arith, nat_tests) in (sym same, omega arith)
+found_at p len i false h e = absurd (cc)
+
+found_nowhere : (p len : ℕ) (within : Bool) → nat_lt p len ≡ within → p ≤ len → (let o : Option ℕ = cond within (Some p) None in o) ≡ None → p ≡ len
+found_nowhere p len true h le e = absurd (cc)
+found_nowhere p len false h le e = let ge : len ≤ p = grind (arith, nat_tests) in omega arith
+
+-- a name that is among the files
+pub old_number : (name : List ℕ) (fs : List (String Global)) (i : ℕ) → position (is_named name) fs ≡ Some i
+    → (i ≡ position_or_len (bytes_eq name) (names_of fs)) × (names_of fs ≡ entered name (names_of fs))
+old_number name fs i h =
+    let at = found_at (position_or_len (is_named name) fs) (length fs) i (nat_lt (position_or_len (is_named name) fs) (length fs)) refl h in
+    (number_is name fs i at.0, enters_old name fs i at.0 (λ e. absurd (let lt : i < length fs = at.1 in omega arith)))
+
+pub pushed : (name : List ℕ) (fs after : List (String Global)) (added : String Global) → string_bytes added ≡ name → false ≡ list_any (is_named name) fs
+    → after ≡ (if list_any (is_named (string_bytes added)) fs then fs else fs ++ added ∷ []) → after ≡ fs ++ added ∷ []
+pushed name fs after added e none h =
+    h ∙ ap (λ (b : Bool). if b then fs else fs ++ added ∷ []) (ap (λ (n : List ℕ). list_any (is_named n) fs) e ∙ sym none)
+
+-- a name that is new
+pub new_number : (name : List ℕ) (fs after : List (String Global)) (count : ℕ) (added : String Global) → position (is_named name) fs ≡ None → count ≡ length fs → string_bytes added ≡ name
+    → after ≡ fs ++ added ∷ [] → (count ≡ position_or_len (bytes_eq name) (names_of fs)) × (names_of after ≡ entered name (names_of fs))
+new_number name fs after count added h all e f =
+    let end : position_or_len (is_named name) fs ≡ length fs =
+        found_nowhere (position_or_len (is_named name) fs) (length fs) (nat_lt (position_or_len (is_named name) fs) (length fs)) refl (prefix_len-le-length (λ f. not (is_named name f)) fs) h in
+    let here : count ≡ position_or_len (is_named name) fs = all ∙ sym end in
+    (number_is name fs count here, ap names_of f ∙ enters_new name fs count here added e all)
 
 no_slash : (b : ℕ) → (b ≡ 47 → ⊥) → is_no_slash b ≡ true
 no_slash b h = grind (arith, nat_tests)

@@ -19,6 +19,7 @@ use crate::groups::Groups;
 use crate::naming::join;
 use crate::text::Expanded;
 use crate::work::{Work, read_line};
+use indexmap::IndexSet;
 use sl_directive::definitions::Definitions;
 use sl_directive::fault::{Cause, Fault};
 use sl_directive::first_line;
@@ -172,9 +173,9 @@ fn expand_lines<F: Files>(
 fn begin(alloc: Global, main: &str) -> Result<Work, AllocError>
     ensures { IfOk result (λ w. work_of w ≡ nothing_yet main.now) }
 {
-    let mut files = Vec::new(alloc);
+    let mut files = IndexSet::new(alloc);
     let name = String::from_str(alloc, main)?;
-    if files.push(name).is_err() {
+    if files.insert(name).is_err() {
         return Err(AllocError);
     }
     Ok(Work {
@@ -189,8 +190,8 @@ fn begin(alloc: Global, main: &str) -> Result<Work, AllocError>
 }
 
 /// What the work has come to.
-fn finish(work: Work) -> Expanded
-    ensures { seen result ≡ text_of (work_of work) }
+fn finish(alloc: Global, work: Work) -> Result<Expanded, AllocError>
+    ensures { IfOk result (λ e. seen e ≡ text_of (work_of work)) }
 {
     let Work {
         defs: _,
@@ -198,11 +199,12 @@ fn finish(work: Work) -> Expanded
         files,
         places,
     } = work;
-    Expanded {
+    let files = files.into_iter().collect(alloc)?;
+    Ok(Expanded {
         text: page.text,
         files,
         lines: places,
-    }
+    })
 }
 
 /// Expands the main file of this name: follows the directives of its lines, puts included files in their places and
@@ -221,5 +223,6 @@ pub fn expand<F: Files>(alloc: Global, files: &mut F, main: &str) -> Result<Expa
     let bytes = fetch(alloc, main, main, 0, files)?;
     let mut work = begin(alloc, main)?;
     expand_lines(alloc, DEPTHS, main, bytes.as_slice(), files, &mut work)?;
-    Ok(finish(work))
+    let expanded = finish(alloc, work)?;
+    Ok(expanded)
 }

@@ -1,9 +1,6 @@
 //! The work of an expansion, and what a line does to it.
 
 ghost use Rattle.std.specs.Prelude.{◌≡◌, option_map};
-ghost use Rattle.std.specs.List.{position_or_len};
-ghost use Rattle.std.specs.Str.{bytes_eq};
-ghost use Rattle.std.specs.String.{string_bytes};
 ghost use Rattle.sl_directive.specs.Outcomes.{Gives};
 ghost use Rattle.sl_preproc.specs.Expansion.{text_line, done_by};
 ghost use Rattle.sl_preproc.specs.ByLines.{directive_step, line_step};
@@ -13,6 +10,7 @@ ghost use Rattle.sl_preproc.specs.Works.{work_of, names_of, EntersAt};
 
 use crate::groups::{Groups, is_conditional, is_live, turn};
 use crate::places::Place;
+use indexmap::IndexSet;
 use sl_directive::definitions::Definitions;
 use sl_directive::directive::{Directive, Keyword, directive_at, directive_line, keyword_at};
 use sl_directive::fault::{Cause, Fault};
@@ -28,34 +26,26 @@ const LEVELS: u32 = 16;
 pub struct Work {
     pub defs: Definitions,
     pub page: Page,
-    pub files: Vec<String>,
+    pub files: IndexSet<String>,
     pub places: Vec<Place>,
 }
 
-/// How many files stand in front of the one of this name: all of them where it isn't there.
-fn index_of(name: &str, files: &[String]) -> usize
-    ensures { result ≡ position_or_len (λ f. bytes_eq name.now (string_bytes f)) files.now }
-{
-    files
-        .iter()
-        .take_while(|file| name != file.as_str())
-        .count()
-}
-
 /// The number of the file among the others, where it is entered if it is new.
-fn enter(alloc: Global, name: &str, files: &mut Vec<String>) -> Result<u32, Fault>
-    ensures { EntersAt name.now (names_of files.old.items) (names_of files.new.items) result }
+fn enter(alloc: Global, name: &str, files: &mut IndexSet<String>) -> Result<u32, Fault>
+    ensures { EntersAt name.now (names_of files.old.keys) (names_of files.new.keys) result }
 {
-    let known = files.as_slice();
-    let index = index_of(name, known);
-    let count = known.len();
-    let Ok(number) = u32::try_from(index) else {
+    if let Some(index) = files.get_index_of(name) {
+        return match u32::try_from(index) {
+            Ok(number) => Ok(number),
+            Err(_) => Err(Fault::NoMemory),
+        };
+    }
+    let count = files.len();
+    let Ok(number) = u32::try_from(count) else {
         return Err(Fault::NoMemory);
     };
-    if index == count {
-        let name = String::from_str(alloc, name)?;
-        files.push(name)?;
-    }
+    let name = String::from_str(alloc, name)?;
+    let _added = files.insert(name)?;
     Ok(number)
 }
 

@@ -22,12 +22,12 @@ returns-in_err-expand_lines-clause-expansion g c = λ folder h.
 
 pub returns-clause-expansion : goal.returns-clause-expansion
 returns-clause-expansion g c = λ folder h.
-    main_text folder c.args.main.now (work_of c.expand_lines.new.work) (seen c.finish.result)
+    main_text folder c.args.main.now (work_of c.expand_lines.new.work) (seen c.in_ok-expanded.expanded)
     (sym (main_lines folder c.args.main.now c.in_ok-bytes.bytes.items c.as_slice.result.now (work_of c.in_ok-work.work) (c.in_ok-bytes.ensures.found folder h) c.as_slice.ensures.value c.in_ok-work.ensures)
     ∙ c.in_ok-expand_lines.ensures.file folder (c.in_ok-bytes.ensures.same_folder ∙ h))
-    c.finish.ensures
+    c.in_ok-expanded.ensures
 
 pub returns-clause-sound : goal.returns-clause-sound
 returns-clause-sound g c =
     let begun : IsWhole (work_of c.in_ok-work.work) = rw c.in_ok-work.ensures (nothing_whole c.args.main.now) in
-    rw c.finish.ensures (is_sound (work_of c.expand_lines.new.work) (c.in_ok-expand_lines.ensures.whole begun))
+    rw c.in_ok-expanded.ensures (is_sound (work_of c.expand_lines.new.work) (c.in_ok-expand_lines.ensures.whole begun))
