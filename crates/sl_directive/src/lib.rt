@@ -12,3 +12,6 @@ pub mod parts;
 pub mod replace;
 
 pub use lines::first_line;
+
+#[cfg(test)]
+mod tests;

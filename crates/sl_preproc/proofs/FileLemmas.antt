@@ -73,7 +73,7 @@ pub new_number : (name : List ℕ) (fs after : List (String Global)) (count : �
     → after ≡ fs ++ added ∷ [] → (count ≡ position_or_len (bytes_eq name) (names_of fs)) × (names_of after ≡ entered name (names_of fs))
 new_number name fs after count added h all e f =
     let end : position_or_len (is_named name) fs ≡ length fs =
-        found_nowhere (position_or_len (is_named name) fs) (length fs) (nat_lt (position_or_len (is_named name) fs) (length fs)) refl (prefix_len-le-length (λ f. not (is_named name f)) fs) h in
+    found_nowhere (position_or_len (is_named name) fs) (length fs) (nat_lt (position_or_len (is_named name) fs) (length fs)) refl (prefix_len-le-length (λ f. not (is_named name f)) fs) h in
     let here : count ≡ position_or_len (is_named name) fs = all ∙ sym end in
     (number_is name fs count here, ap names_of f ∙ enters_new name fs count here added e all)
 

@@ -8,3 +8,4 @@ pub mod Works
 pub mod Refusals
 pub mod Expanded
 pub mod Sound
+pub mod Laws

@@ -8,6 +8,7 @@
 mod error;
 mod groups;
 mod inclusion;
+pub mod laws;
 mod naming;
 mod places;
 mod text;

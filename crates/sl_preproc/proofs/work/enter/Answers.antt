@@ -10,5 +10,5 @@ returns-in-Ok c =
 pub returns : goal.returns
 returns c =
     let new = new_number c.args.name.now c.args.files.now.keys c.insert.new.self.keys c.len-count.result c.in_ok-name.name (sym c.in_default.ensures.index) c.len-count.ensures.len c.in_ok-name.ensures.ok
-        (pushed c.args.name.now c.args.files.now.keys c.insert.new.self.keys c.in_ok-name.name c.in_ok-name.ensures.ok c.in_default.ensures.found c.in_ok-_added.ensures.keys) in
+    (pushed c.args.name.now c.args.files.now.keys c.insert.new.self.keys c.in_ok-name.name c.in_ok-name.ensures.ok c.in_default.ensures.found c.in_ok-_added.ensures.keys) in
     (c.in-Ok-try_from.ensures.1 ∙ new.0, new.1)
