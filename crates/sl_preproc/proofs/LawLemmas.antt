@@ -1,5 +1,5 @@
 -- One folder and one name have one expansion.
-use Rattle.std.proofs.Common.{◌≡◌, ℕ, List, Option, Some, None, Result, Ok, Err, sym, ap, ◌∙◌, refl}
+use Rattle.std.proofs.Common.{◌≡◌, Option, Some, Result, Ok, Err, sym, ap, ◌∙◌}
 use Rattle.std.specs.Prelude.{IsSome}
 use Rattle.sl_preproc.specs.Expansion.{Refusal}
 use Rattle.sl_preproc.specs.Expanded.{Text, expanded, seen}

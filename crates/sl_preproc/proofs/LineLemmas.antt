@@ -1,5 +1,5 @@
 -- The expansion line by line is that of the tree.
-use Rattle.std.proofs.Common.{◌≡◌, ℕ, zero, suc, ◌+◌, Bool, true, false, not, List, [], ◌∷◌, ◌++◌, drop, Option, Some, None, Result, Ok, Err, refl, sym, ap, ◌∙◌}
+use Rattle.std.proofs.Common.{◌≡◌, ℕ, ◌+◌, Bool, true, false, not, List, [], ◌∷◌, drop, Option, Some, None, Result, Ok, Err, refl, sym, ap, ◌∙◌}
 use Rattle.std.specs.Prelude.{if◌then◌else◌, ◌==◌, ◌||◌}
 use Rattle.sl_directive.specs.Outcomes.{◌>>◌}
 use Rattle.sl_directive.specs.Parts.{is_ended}
@@ -12,7 +12,7 @@ use Rattle.sl_directive.specs.declared.fault.Cause.TheVariants.{BadDirective, Un
 use Rattle.sl_preproc.specs.Trees.{Line, numbered, words, Tree, End, Text, Alone, Marked, Branches, Branch, Closed, Unclosed, Cut, led, begun, cut_at, cut_of, group_of, planted_by, planted, tree_of, is_closed, opening_line, first_open}
 use Rattle.sl_preproc.specs.Trees as tree
 use Rattle.sl_preproc.specs.Expansion.{Work, Refusal, Includer, refused, text_line, done_by, on_line, if_included, text_done, alone_done, chosen_by, choice, closing, expand_tree, expand_branches, unless_open, expand_whole}
-use Rattle.sl_preproc.specs.Groups.{is_taken, is_dead, is_live, chosen_if, new_group, with_branch, opened, elif_branch, at_elif, is_well_ended, else_branch, at_else, at_endif, outermost, turned_by, is_conditional}
+use Rattle.sl_preproc.specs.Groups.{is_taken, is_dead, is_live, chosen_if, new_group, with_branch, opened, elif_branch, at_elif, is_well_ended, else_branch, at_else, at_endif, outermost, turned_by}
 use Rattle.sl_preproc.specs.ByLines.{Step, alone, directive_step, text_or_directive, line_step, line_done, at_end, expand_lines}
 use Rattle.sl_preproc.specs.declared.groups.Branch.TheVariants.{Dead, Waiting, Taken, Passed}
 use Rattle.sl_preproc.specs.declared.groups.Branch as branch

@@ -1,12 +1,12 @@
 -- The expansion of the main file.
-use Rattle.std.proofs.Common.{◌≡◌, ℕ, List, [], Result, Ok, Err, sym, ap, ◌∙◌}
+use Rattle.std.proofs.Common.{◌≡◌, ℕ, List, Result, Ok, sym, ap, ◌∙◌}
 use Rattle.sl_outside.specs.Folder.{Folder}
 use Rattle.sl_directive.specs.Outcomes.{◌>>◌}
 use Rattle.sl_preproc.specs.Expansion.{Work, Refusal, expand_file, checked, included, nothing_yet, expansion}
 use Rattle.sl_preproc.specs.Expanded.{Text, text_of, expanded}
 use Rattle.sl_preproc.specs.declared.error.PreError.{PreError}
 use Rattle.sl_preproc.specs.Refusals.{RefusesAs}
-use Rattle.sl_preproc.proofs.ExpansionLemmas.{refuses_along, refuses_same}
+use Rattle.sl_preproc.proofs.ExpansionLemmas.{refuses_along}
 
 module _ (folder : Folder) (main : List ℕ) where
   pub text_fails : (e : PreError) → RefusesAs e (expansion folder main) → RefusesAs e (expanded folder main)

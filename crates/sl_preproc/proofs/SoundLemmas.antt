@@ -1,6 +1,6 @@
 -- Each line keeps the work whole, and the text of a whole work is sound.
 use Rattle.std.proofs.Common.{◌≡◌, ℕ, zero, suc, ◌+◌, ◌<◌, ◌≤◌, Bool, true, false, cond, not, List, [], ◌∷◌, ◌++◌, length, Option, Some, None, Result, Ok, Err, arith, refl, sym, ap, subst, ◌∙◌, length-append}
-use Rattle.std.proofs.Common.{◌⊎◌, inl, inr}
+use Rattle.std.proofs.Common.{inl, inr}
 use Rattle.std.specs.Prelude.{IfOk, IfSome, nat_lt, ◌==◌, if◌then◌else◌}
 use Rattle.std.specs.List.{AllByRecursion, position_or_len}
 use Rattle.std.specs.Str.{bytes_eq}
@@ -12,8 +12,8 @@ use Rattle.sl_directive.specs.Lines.{lines, on_first_line}
 use Rattle.sl_directive.specs.Definitions.{Values, with_value, without}
 use Rattle.sl_directive.specs.Directives.{Directive, Includes, Defines, Undefines, directive_line, keyword_at, directive_at}
 use Rattle.sl_preproc.specs.Groups.{is_live, is_conditional, turned_by}
-use Rattle.sl_directive.specs.Replacement.{Page, Written, Piece, Byte, Name, with_byte, put, put_all, stays_in, stays, pieces, all_pieces, write_pieces, write_name, value_or_stays, write_text}
-use Rattle.sl_preproc.specs.Expansion.{Work, Refusal, line_begun, entered, placed, text_line, with_defs, done_by, on_line, nothing_yet}
+use Rattle.sl_directive.specs.Replacement.{Page, Written, Piece, Byte, Name, with_byte, put, put_all, stays_in, stays, all_pieces, write_pieces, write_name, value_or_stays, write_text}
+use Rattle.sl_preproc.specs.Expansion.{Work, line_begun, entered, placed, text_line, with_defs, done_by, on_line, nothing_yet}
 use Rattle.sl_preproc.specs.ByLines.{Step, alone, directive_step, text_or_directive, line_step}
 use Rattle.sl_preproc.specs.Expanded.{text_of}
 use Rattle.sl_preproc.specs.Sound.{IsSound, IsWhole, NoFeed, feeds, IsEnded, AreOnLines}

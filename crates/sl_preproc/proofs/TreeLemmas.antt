@@ -1,5 +1,5 @@
 -- The tree of a file's lines: its lines, and its expansion against the one line by line.
-use Rattle.std.proofs.Common.{◌≡◌, ℕ, zero, suc, ◌+◌, Bool, true, false, not, List, [], ◌∷◌, ◌++◌, drop, Option, Some, None, Result, Ok, Err, refl, sym, ap, ◌∙◌, append_assoc}
+use Rattle.std.proofs.Common.{◌≡◌, ℕ, Bool, true, false, List, [], ◌∷◌, ◌++◌, Option, Some, None, refl, ap, ◌∙◌, append_assoc}
 use Rattle.sl_directive.specs.Directives.{directive_line}
 use Rattle.sl_directive.specs.declared.directive.Keyword.{Keyword}
 use Rattle.sl_directive.specs.declared.directive.Keyword.TheVariants.{Include, Define, Undef, If, Ifdef, Ifndef, Elif, Else, Endif, Unknown}

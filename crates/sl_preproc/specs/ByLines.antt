@@ -1,6 +1,6 @@
 -- The expansion of a file as the program does it: line by line, with a stack of the groups that are open. The expansion by the tree
 -- of the lines is the same.
-use Rattle.std.specs.Prelude.{ℕ, ◌+◌, List, [], ◌∷◌, Option, Some, None, Result, Ok, Err, if◌then◌else◌}
+use Rattle.std.specs.Prelude.{ℕ, ◌+◌, List, [], ◌∷◌, Option, Some, None, Result, Ok, if◌then◌else◌}
 use Rattle.sl_directive.specs.Outcomes.{◌>>◌}
 use Rattle.sl_directive.specs.Directives.{directive_line, keyword_at, directive_at}
 use Rattle.sl_directive.specs.declared.directive.Keyword.{Keyword}

@@ -2,7 +2,7 @@
 use Rattle.std.specs.Prelude.{ℕ, ◌+◌, Bool, true, false, List, [], ◌∷◌, ◌++◌, drop, Option, Some, None, if◌then◌else◌}
 use Rattle.sl_directive.specs.Directives.{directive_line, keyword_at}
 use Rattle.sl_directive.specs.declared.directive.Keyword.{Keyword}
-use Rattle.sl_directive.specs.declared.directive.Keyword.TheVariants.{Include, Define, Undef, If, Ifdef, Ifndef, Elif, Else, Endif, Unknown}
+use Rattle.sl_directive.specs.declared.directive.Keyword.TheVariants.{If, Ifdef, Ifndef, Elif, Else, Endif}
 
 pub record Line : Type 0 where
   pub number : ℕ

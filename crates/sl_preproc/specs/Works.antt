@@ -10,7 +10,7 @@ use Rattle.sl_directive.specs.Pages.{page_of}
 use Rattle.sl_preproc.specs.Expansion as spec
 use Rattle.sl_preproc.specs.Expansion.{entered}
 use Rattle.sl_directive.specs.declared.fault.Fault.{Fault}
-use Rattle.sl_directive.specs.declared.fault.Fault.TheVariants.{Refused, NoMemory}
+use Rattle.sl_directive.specs.declared.fault.Fault.TheVariants.{NoMemory}
 use Rattle.sl_preproc.specs.declared.work.Work.{Work}
 
 abbrev pub names_of : List (String Global) → List (List ℕ)

@@ -1,11 +1,10 @@
-use Rattle.std.proofs.Common.{◌≡◌, ◌-◌, ◌+◌, [], length, reverse, Some, None, Ok, List, ℕ, Result, sym, ap, refl, ◌∙◌, arith}
+use Rattle.std.proofs.Common.{◌≡◌, ◌+◌, [], reverse, Ok, List, Result, sym, ap, refl, ◌∙◌, arith}
 use Rattle.std.proofs.lemmas.Result.{err_from_is_err_and}
 use Rattle.sl_directive.specs.Lines.{lines}
 use Rattle.sl_preproc.specs.Stacks.{stack_of}
 use Rattle.sl_preproc.specs.Works.{work_of}
 use Rattle.sl_directive.specs.Outcomes.{◌>>◌}
-use Rattle.sl_preproc.specs.Naming.{joined_name}
-use Rattle.sl_preproc.specs.Expansion.{Work, Refusal, included, expand_file}
+use Rattle.sl_preproc.specs.Expansion.{Work, Refusal, included}
 use Rattle.sl_preproc.specs.ByLines.{expand_lines}
 use Rattle.sl_preproc.specs.declared.groups.Group.{Group}
 use Rattle.sl_preproc.proofs.ExpansionLemmas.{refuses_along, refuses_same, answers_along, answers_same, line_fails, line_plain, line_includes, line_goes, no_line, included_as, fetch_fails, too_deep}

@@ -1,4 +1,4 @@
-use Rattle.std.proofs.Common.{◌≡◌, ◌≤◌, ◌+◌, ◌*◌, [], length}
+use Rattle.std.proofs.Common.{◌≡◌, ◌≤◌, ◌+◌, ◌*◌, length}
 use Rattle.sl_outside.specs.Folder.{size_limit}
 use Rattle.sl_directive.specs.Lines.{lines}
 use Rattle.sl_preproc.specs.Stacks.{stack_of}

@@ -1,8 +1,6 @@
-use Rattle.std.proofs.Common.{◌≡◌, ◌∙◌, sym, ap, List, Some, ℕ}
+use Rattle.std.proofs.Common.{◌≡◌, ◌∙◌, sym, ap, List, Some}
 use Rattle.std.specs.Prelude.{slice_get}
 use Rattle.sl_preproc.specs.Expansion.{Work, Refusal, refused}
-use Rattle.sl_preproc.specs.ByLines.{at_end}
-use Rattle.sl_preproc.specs.Stacks.{stack_of}
 use Rattle.sl_directive.specs.declared.fault.Cause.TheVariants.{Unbalanced}
 use Rattle.sl_preproc.specs.declared.groups.Group.{Group}
 use Rattle.sl_preproc.proofs.ExpansionLemmas.{first_open, refuses_along, refuses_same}

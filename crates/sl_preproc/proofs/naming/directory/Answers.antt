@@ -1,6 +1,5 @@
-use Rattle.std.proofs.Common.{◌≡◌, ◌+◌, ◌<◌, ℕ, ◌∙◌, sym, ap, length, get_or, arith}
+use Rattle.std.proofs.Common.{◌+◌, ◌∙◌, arith}
 use Rattle.std.proofs.lemmas.Str.Pattern.{rfind_char}
-use Rattle.std.proofs.lemmas.Grind.{common_steps}
 use Rattle.sl_preproc.proofs.FileLemmas.{directory_none, directory_some, front_range}
 use Rattle.sl_preproc.proofs.naming.directory.Goals as goal
 

@@ -1,4 +1,4 @@
-use Rattle.std.proofs.Common.{◌≡◌, ◌∙◌, sym}
+use Rattle.std.proofs.Common.{◌∙◌, sym}
 use Rattle.sl_preproc.proofs.FileLemmas.{old_number, new_number, pushed}
 use Rattle.sl_preproc.proofs.work.enter.Goals as goal
 
