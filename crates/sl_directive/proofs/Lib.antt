@@ -1,0 +1,6 @@
+pub mod RunLemmas
+pub mod LineLemmas
+pub mod KeyLemmas
+pub mod LevelLemmas
+pub mod DirectiveLemmas
+pub mod PieceLemmas

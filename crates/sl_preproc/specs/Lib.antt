@@ -1,0 +1,11 @@
+pub mod Groups
+pub mod Stacks
+pub mod Naming
+pub mod Trees
+pub mod Expansion
+pub mod ByLines
+pub mod Works
+pub mod Refusals
+pub mod Expanded
+pub mod Sound
+pub mod Laws
