@@ -7,7 +7,8 @@ use Rattle.std.proofs.lemmas.Slice.Eq.{bytes_eq-Decides}
 use Rattle.std.proofs.lemmas.Bool.{false≢true}
 use Rattle.std.proofs.lemmas.List.{length-append}
 use Rattle.sl_description.specs.Symbols.{Symbol, Lexeme}
-use Rattle.sl_description.specs.Description.{Field, Constraint, Constructor, Description, is_word, IsWord, most_constraints, most_constructors, spell_endian, spell_space, spell_token, spell_field, spell_fields, spell_constraint, spell_pattern, spell_constructor, spell_constructors, spell_definitions, AreNumberedFrom, IsConstructor, IsSpelled, spell_section, spell_machine}
+use Rattle.sl_description.specs.Words.{is_word}
+use Rattle.sl_description.specs.Description.{Field, Constraint, Constructor, Description, IsWord, most_constraints, most_constructors, spell_endian, spell_space, spell_token, spell_field, spell_fields, spell_constraint, spell_pattern, spell_constructor, spell_constructors, spell_definitions, AreNumberedFrom, IsConstructor, IsSpelled, spell_section, spell_machine}
 use Rattle.sl_word.specs.declared.word.Endian.{Endian}
 use Rattle.sl_word.specs.declared.word.Endian.TheVariants.{Little, Big}
 use Rattle.sl_description.proofs.MachineAgain.{machine_again, section_again, section_few}

@@ -7,7 +7,8 @@ use Rattle.std.proofs.lemmas.Slice.Eq.{bytes_eq-Decides}
 use Rattle.std.proofs.lemmas.Bool.{false≢true}
 use Rattle.std.proofs.lemmas.List.{length-append}
 use Rattle.sl_description.specs.Symbols.{Symbol, Lexeme, Number}
-use Rattle.sl_description.specs.Description.{Names, One, Listed, Registers, RegisterSpace, Addend, Register, Integer, Addition, is_word, IsWord, NamesAreWords, AreRegisters, IsRegisterSpace, AddendIsWord, IsAddition, spell_each, spell_name, spell_names, spell_registers, spell_register_space, spell_machine, spell_addend, spell_addition, spell_section}
+use Rattle.sl_description.specs.Words.{is_word}
+use Rattle.sl_description.specs.Description.{Names, One, Listed, Registers, RegisterSpace, Addend, Register, Integer, Addition, IsWord, NamesAreWords, AreRegisters, IsRegisterSpace, AddendIsWord, IsAddition, spell_each, spell_name, spell_names, spell_registers, spell_register_space, spell_machine, spell_addend, spell_addition, spell_section}
 use Rattle.sl_description.specs.Reading.{lexeme_at, word_at, addend_at, names_at, registers_at, register_space_at, machine_at, addition_at, section_at}
 use Rattle.sl_description.proofs.ListTakes.{until_again, behind_again, length-spell_each-ge}
 

@@ -2,8 +2,9 @@
 use Rattle.std.proofs.Common.{◌≡◌, ℕ, List, [], ◌∷◌, ◌++◌, Option, Some, None, refl, sym, ap, subst, ◌∙◌, append_assoc}
 use Rattle.std.specs.Prelude.{codes, IfSome}
 use Rattle.std.specs.List.{AllByRecursion}
-use Rattle.sl_description.specs.Symbols.{Symbol, Lexeme, Number}
-use Rattle.sl_description.specs.Description.{Names, One, Listed, Registers, RegisterSpace, Addend, Register, Integer, Addition, is_word, IsWord, NamesAreWords, AreRegisters, IsRegisterSpace, AddendIsWord, IsAddition, spell_each, spell_name, spell_names, spell_registers, spell_register_space, spell_machine, spell_addend, spell_addition, spell_section}
+use Rattle.sl_description.specs.Symbols.{Symbol, Lexeme, Number, Other}
+use Rattle.sl_description.specs.Words.{is_word}
+use Rattle.sl_description.specs.Description.{Names, One, Listed, Registers, RegisterSpace, Addend, Register, Integer, Addition, IsWord, NamesAreWords, AreRegisters, IsRegisterSpace, AddendIsWord, IsAddition, spell_each, spell_name, spell_names, spell_registers, spell_register_space, spell_machine, spell_addend, spell_addition, spell_section}
 use Rattle.sl_description.specs.Outcomes.{◌>>=◌}
 use Rattle.sl_description.specs.Reading.{lexeme_at, word_at, number_at, named_at, attribute_at, listed_at, names_behind, names_at, registers_at, all_registers_at, register_type_at, register_space_at, machine_behind, machine_at, addend_at, addition_at, section_at}
 use Rattle.sl_description.proofs.Takes.{some_is, bind_some, guard, cons, lexeme_takes, lexeme_then, word_takes, word_then, number_takes, named_takes}
@@ -105,6 +106,7 @@ addend_takes (Lexeme t ∷ r) x e =
     subst (λ (v : Addend × List Symbol). (Lexeme t ∷ r ≡ spell_addend v.0 ∷ v.1) × AddendIsWord v.0) g.1 (refl, g.0)
 addend_takes (Number n ∷ r) x e =
     subst (λ (v : Addend × List Symbol). (Number n ∷ r ≡ spell_addend v.0 ∷ v.1) × AddendIsWord v.0) (some_is (Integer n, r) x e) (refl, tt)
+addend_takes (Other ∷ r) x e = absurd (cc)
 
 addition_takes : (s : List Symbol) (x : Addition × List Symbol) → addition_at s ≡ Some x → (s ≡ spell_addition x.0 ++ x.1) × IsAddition x.0
 unfolding addition_at

@@ -4,8 +4,9 @@ use Rattle.std.specs.Prelude.{codes}
 use Rattle.std.specs.List.{AllByRecursion}
 use Rattle.std.specs.Str.{bytes_eq}
 use Rattle.std.proofs.lemmas.Slice.Eq.{bytes_eq-Decides}
-use Rattle.sl_description.specs.Symbols.{Symbol, Lexeme, Number}
-use Rattle.sl_description.specs.Description.{Field, Constraint, is_word, IsWord, spell_endian, spell_space, spell_token, spell_field, spell_fields, spell_constraint, spell_pattern, endian_word}
+use Rattle.sl_description.specs.Symbols.{Symbol, Lexeme, Number, Other}
+use Rattle.sl_description.specs.Words.{is_word}
+use Rattle.sl_description.specs.Description.{Field, Constraint, IsWord, spell_endian, spell_space, spell_token, spell_field, spell_fields, spell_constraint, spell_pattern, endian_word}
 use Rattle.sl_word.specs.declared.word.Endian.{Endian}
 use Rattle.sl_word.specs.declared.word.Endian.TheVariants.{Little, Big}
 use Rattle.sl_description.specs.Outcomes.{◌>>=◌}
@@ -32,6 +33,7 @@ lexeme_takes text (Lexeme t ∷ r) rest e =
     let same : t ≡ text = (bytes_eq-Decides t text).0 g.0 in
     ap (λ (x : List ℕ). Lexeme x ∷ r) same ∙ ap (λ (x : List Symbol). Lexeme text ∷ x) g.1
 lexeme_takes text (Number n ∷ r) rest e = absurd cc
+lexeme_takes text (Other ∷ r) rest e = absurd cc
 
 -- a word or mark, and what reads on behind it
 pub lexeme_then : {B : Type 0} (text : List ℕ) (s : List Symbol) (f : List Symbol → Option B) (y : B) → (lexeme_at text s >>= f) ≡ Some y
@@ -45,6 +47,7 @@ word_takes (Lexeme t ∷ r) w e =
     let g = guard (is_word t) (t, r) w e in
     subst (λ (v : List ℕ × List Symbol). (Lexeme t ∷ r ≡ Lexeme v.0 ∷ v.1) × IsWord v.0) g.1 (refl, g.0)
 word_takes (Number n ∷ r) w e = absurd cc
+word_takes (Other ∷ r) w e = absurd cc
 
 pub word_then : {B : Type 0} (s : List Symbol) (f : (List ℕ × List Symbol) → Option B) (y : B) → (word_at s >>= f) ≡ Some y
     → (w : List ℕ × List Symbol) × (s ≡ Lexeme w.0 ∷ w.1) × IsWord w.0 × (f w ≡ Some y)
@@ -55,6 +58,7 @@ word_then s f y e =
 pub number_takes : (s : List Symbol) (n : ℕ × List Symbol) → number_at s ≡ Some n → s ≡ Number n.0 ∷ n.1
 number_takes [] n e = absurd cc
 number_takes (Lexeme t ∷ r) n e = absurd cc
+number_takes (Other ∷ r) n e = absurd cc
 number_takes (Number m ∷ r) n e =
     ap (λ (v : ℕ × List Symbol). Number v.0 ∷ v.1) (some_is (m, r) n e)
 

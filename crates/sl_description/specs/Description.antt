@@ -1,7 +1,7 @@
 -- A processor description of one space of memory, one token and registers, and its one spelling.
-use Rattle.std.specs.Prelude.{◌≡◌, ℕ, ◌+◌, ◌≤◌, List, [], ◌∷◌, ◌++◌, length, Option, Some, None, IfSome, codes, true, false, Bool}
+use Rattle.std.specs.Prelude.{◌≡◌, ℕ, ◌+◌, ◌≤◌, List, [], ◌∷◌, ◌++◌, length, Option, Some, None, IfSome, codes, true}
 use Rattle.std.specs.List.{AllByRecursion}
-use Rattle.sl_lex.specs.Bytes.{is_letter}
+use Rattle.sl_description.specs.Words.{is_word}
 use Rattle.sl_description.specs.Symbols.{Symbol, Lexeme, Number}
 use Rattle.sl_word.specs.declared.word.Endian.{Endian}
 use Rattle.sl_word.specs.declared.word.Endian.TheVariants.{Little, Big}
@@ -160,11 +160,6 @@ abbrev pub spelling : Description → List Symbol
 spelling d = spell_definitions d ++ spell_constructors d.constructors
 
 -- ---- names and places
-
--- a word, and no mark
-abbrev pub is_word : List ℕ → Bool
-is_word [] = false
-is_word (b ∷ bs) = is_letter b
 
 abbrev pub IsWord : List ℕ → Type 0
 IsWord text = is_word text ≡ true

@@ -1,9 +1,9 @@
 -- A law above the definitions.
-use Rattle.std.specs.Prelude.{◌≡◌, ℕ, List}
+use Rattle.std.specs.Prelude.{◌≡◌, List}
 use Rattle.sl_lex.specs.Reading.{Token}
 use Rattle.sl_description.specs.Describes.{Describes}
 use Rattle.sl_description.specs.Description.{Description}
 
--- A text describes one thing alone.
+-- Tokens describe one thing alone.
 abbrev pub HasOneDescription : Type 0
-HasOneDescription = (text : List ℕ) (ts us : List Token) (d e : Description) → Describes text ts d → Describes text us e → (ts ≡ us) × (d ≡ e)
+HasOneDescription = (ts : List Token) (d e : Description) → Describes ts d → Describes ts e → d ≡ e

@@ -1,4 +1,6 @@
+pub mod Words
 pub mod Symbols
+pub mod Kinds
 pub mod Description
 pub mod Outcomes
 pub mod Views
@@ -12,5 +14,4 @@ pub mod Tables
 pub mod Compiled
 pub mod Describes
 pub mod Compiles
-pub mod Refusals
 pub mod Laws

@@ -1,8 +1,9 @@
 -- Reading a description from the front of its symbols, part by part.
 use Rattle.std.specs.Prelude.{ℕ, zero, suc, ◌-◌, List, [], ◌∷◌, length, Option, Some, None, codes, if◌then◌else◌}
 use Rattle.std.specs.Str.{bytes_eq}
-use Rattle.sl_description.specs.Symbols.{Symbol, Lexeme, Number, is_lexeme}
-use Rattle.sl_description.specs.Description.{Field, Names, One, Listed, Registers, RegisterSpace, Addend, Register, Integer, Addition, Constraint, Constructor, Description, is_word, most_constraints, most_constructors}
+use Rattle.sl_description.specs.Symbols.{Symbol, Lexeme, Number, Other, is_lexeme}
+use Rattle.sl_description.specs.Words.{is_word}
+use Rattle.sl_description.specs.Description.{Field, Names, One, Listed, Registers, RegisterSpace, Addend, Register, Integer, Addition, Constraint, Constructor, Description, most_constraints, most_constructors}
 use Rattle.sl_word.specs.declared.word.Endian.{Endian}
 use Rattle.sl_word.specs.declared.word.Endian.TheVariants.{Little, Big}
 use Rattle.sl_description.specs.Outcomes.{◌>>=◌}
@@ -17,11 +18,13 @@ abbrev pub word_at : List Symbol → Option (List ℕ × List Symbol)
 word_at [] = None
 word_at (Lexeme t ∷ rest) = if is_word t then Some (t, rest) else None
 word_at (Number n ∷ rest) = None
+word_at (Other ∷ rest) = None
 
 abbrev pub number_at : List Symbol → Option (ℕ × List Symbol)
 number_at [] = None
 number_at (Lexeme t ∷ rest) = None
 number_at (Number n ∷ rest) = Some (n, rest)
+number_at (Other ∷ rest) = None
 
 -- ---- one part after the other
 
@@ -220,6 +223,7 @@ abbrev pub addend_at : List Symbol → Option (Addend × List Symbol)
 addend_at [] = None
 addend_at (Lexeme t ∷ rest) = if is_word t then Some (Register t, rest) else None
 addend_at (Number n ∷ rest) = Some (Integer n, rest)
+addend_at (Other ∷ rest) = None
 
 unfoldable pub addition_at : List Symbol → Option (Addition × List Symbol)
 addition_at s = do

@@ -1,8 +1,11 @@
 //! A place between tokens.
 
 ghost use Rattle.std.specs.Prelude.{◌≡◌, [], ◌∷◌, length, MatchOption, true, false};
-ghost use Rattle.sl_description.specs.Symbols.{symbol, symbols, is_lexeme, IsFirst};
-ghost use Rattle.sl_description.specs.Description.{is_word};
+ghost use Rattle.std.specs.List.{list_all};
+ghost use Rattle.sl_description.specs.Symbols.{Lexeme, symbol, symbols, is_lexeme, IsFirst};
+ghost use Rattle.sl_lex.specs.Bytes.{begins_word, is_word_byte};
+ghost use Rattle.sl_description.specs.Kinds.{NoLexeme, NoWord};
+ghost use Rattle.sl_description.specs.Words.{is_word};
 ghost use Rattle.sl_description.specs.Outcomes.{Gives};
 ghost use Rattle.sl_description.specs.Reading.{lexeme_at, word_at, number_at, addend_at};
 ghost use Rattle.sl_description.specs.Views.{addend};
@@ -30,13 +33,48 @@ impl<'t, 'a> Model for Cursor<'t, 'a> {
     ghost invariant = { λ c. c.at ≤ length c.toks.now };
 }
 
-/// Whether the bytes begin with a letter, as a word does and no mark.
+/// Whether these are the bytes of a word: a letter, `_` or a dot, and then digits too.
 fn is_word(text: &[u8]) -> bool
     ensures { result ≡ is_word text.now }
 {
     match text {
         [] => false,
-        [first, ..] => matches!(first, b'A'..=b'Z' | b'a'..=b'z' | b'_'),
+        [first, rest @ ..] => begins_word(*first) && are_word_bytes(rest),
+    }
+}
+
+fn begins_word(byte: u8) -> bool
+    ensures { result ≡ begins_word byte }
+{
+    matches!(byte, b'A'..=b'Z' | b'a'..=b'z' | b'_' | b'.')
+}
+
+fn is_word_byte(byte: u8) -> bool
+    ensures { result ≡ is_word_byte byte }
+{
+    begins_word(byte) || byte.is_ascii_digit()
+}
+
+fn are_word_bytes(text: &[u8]) -> bool
+    ensures { result ≡ list_all is_word_byte text.now }
+{
+    text.iter().all(|byte| is_word_byte(*byte))
+}
+
+/// The bytes of a token that is a lexeme of the form: a word, or a mark that hasn't the bytes of one.
+fn lexeme_bytes<'a>(tok: &Tok<'a>) -> Option<&'a [u8]>
+    ensures { MatchOption result (NoLexeme (symbol tok.now.kind tok.now.text.now)) (λ text. symbol tok.now.kind tok.now.text.now ≡ Lexeme text.now) }
+{
+    match tok.kind {
+        TokKind::Word => Some(tok.text),
+        TokKind::Mark => {
+            if is_word(tok.text) {
+                None
+            } else {
+                Some(tok.text)
+            }
+        }
+        _ => None,
     }
 }
 
@@ -44,9 +82,22 @@ fn is_word(text: &[u8]) -> bool
 fn is_lexeme(tok: &Tok, text: &str) -> bool
     ensures { result ≡ is_lexeme text.now (symbol tok.now.kind tok.now.text.now) }
 {
-    match tok.kind {
-        TokKind::Integer(_) => false,
-        _ => tok.text == text.as_bytes(),
+    match lexeme_bytes(tok) {
+        Some(bytes) => bytes == text.as_bytes(),
+        None => false,
+    }
+}
+
+/// The bytes of a token that is a word.
+fn word_bytes<'a>(tok: &Tok<'a>) -> Option<&'a [u8]>
+    ensures { MatchOption result (NoWord (symbol tok.now.kind tok.now.text.now))
+        (λ text. (symbol tok.now.kind tok.now.text.now ≡ Lexeme text.now) × (is_word text.now ≡ true)) }
+{
+    let bytes = lexeme_bytes(tok)?;
+    if is_word(bytes) {
+        Some(bytes)
+    } else {
+        None
     }
 }
 
@@ -123,19 +174,10 @@ impl<'t, 'a> Cursor<'t, 'a> {
         ensures { Gives (λ w. (w.now, self.new)) result (word_at self.old) }
     {
         match self.next() {
-            Some(
-                Tok {
-                    kind: TokKind::Integer(_),
-                    ..
-                },
-            ) => Err(Refusal::NotYet),
-            Some(tok) => {
-                if is_word(tok.text) {
-                    Ok(tok.text)
-                } else {
-                    Err(Refusal::NotYet)
-                }
-            }
+            Some(tok) => match word_bytes(&tok) {
+                Some(word) => Ok(word),
+                None => Err(Refusal::NotYet),
+            },
             None => Err(Refusal::NotYet),
         }
     }
@@ -151,13 +193,10 @@ impl<'t, 'a> Cursor<'t, 'a> {
                     ..
                 },
             ) => Ok(Addend::Integer(value)),
-            Some(tok) => {
-                if is_word(tok.text) {
-                    Ok(Addend::Register(tok.text))
-                } else {
-                    Err(Refusal::NotYet)
-                }
-            }
+            Some(tok) => match word_bytes(&tok) {
+                Some(word) => Ok(Addend::Register(word)),
+                None => Err(Refusal::NotYet),
+            },
             None => Err(Refusal::NotYet),
         }
     }

@@ -2,12 +2,10 @@
 
 ghost use Rattle.std.specs.Prelude.{◌≡◌};
 ghost use Rattle.sl_description.specs.declared.refusal.Refusal.TheVariants.{NoMemory};
-ghost use Rattle.sl_description.specs.Refusals.{of_lexer};
 
-use sl_lex::LexError;
 use std::alloc::{AllocError, AllocFailed};
 
-/// Why a text is no description, or can't be told to be one.
+/// Why tokens are no description, or can't be told to be one.
 #[derive(Clone, Copy, Debug, Drop, PartialEq, Eq)]
 pub enum Refusal {
     NotYet,
@@ -27,16 +25,5 @@ impl<T: Drop> From<AllocFailed<T>> for Refusal {
 
     fn from(_error: AllocFailed<T>) -> Refusal {
         Refusal::NoMemory
-    }
-}
-
-impl From<LexError> for Refusal {
-    ghost from_gives = { λ e r. r ≡ of_lexer e };
-
-    fn from(error: LexError) -> Refusal {
-        match error {
-            LexError::NotYet => Refusal::NotYet,
-            LexError::NoMemory => Refusal::NoMemory,
-        }
     }
 }

@@ -1,33 +1,39 @@
 -- Answers from their parts.
-use Rattle.std.proofs.Common.{◌≡◌, ℕ, suc, zero, ◌+◌, ◌<◌, ◌≤◌, List, [], ◌∷◌, length, Option, Some, None, Result, Ok, Err, refl, sym, ap, subst, ◌∙◌, arith, get_or}
-use Rattle.std.specs.Prelude.{IfOk, slice_get}
-use Rattle.std.specs.Option.{option_map}
-use Rattle.std.proofs.lemmas.List.{length-append, length-map}
-use Rattle.std.proofs.lemmas.Option.{slice_get-map, slice_get_read}
+use Rattle.std.proofs.Common.{◌≡◌, ℕ, suc, zero, ◌<◌, List, [], ◌∷◌, length, Option, Some, None, Result, Ok, Err, refl, sym, ap, subst, arith}
+use Rattle.std.specs.Prelude.{IfOk}
 use Rattle.sl_outside.specs.Folder.{Folder, size_limit, HoldsTooLong, IsTooLong}
-use Rattle.sl_lex.specs.Views.{view, views}
-use Rattle.sl_lex.specs.declared.Tok.{Tok}
+use Rattle.sl_preproc.specs.Expanded.{expanded, seen, Text}
+use Rattle.sl_preproc.specs.Expansion.{Refusal}
+use Rattle.sl_preproc.specs.Refusals.{RefusesAs, WhereTold, with_place}
+use Rattle.sl_directive.specs.declared.fault.Cause.TheVariants as cause
+use Rattle.sl_preproc.specs.Refusals.{Answers as ExpandsAs}
+use Rattle.sl_preproc.specs.Sound.{IsSound}
+use Rattle.sl_preproc.specs.declared.text.Expanded.{Expanded}
+use Rattle.sl_preproc.specs.declared.error.PreError.{PreError}
+use Rattle.sl_preproc.specs.declared.error.PreError.TheVariants.{NoFile, TooLong, IncludeDepth, UndefinedName, ReplaceDepth, BadDirective, Unbalanced, ReadFault, NoMemory}
 use Rattle.sl_cube.specs.declared.Cube.{Cube}
-use Rattle.sl_description.specs.Symbols.{Symbol, symbols_of}
-use Rattle.sl_description.specs.Description.{Constructor, Description, spell_constructor, spell_constructors, spell_definitions, AreNumberedFrom, IsSpelled}
-use Rattle.sl_description.specs.Fields.{Matches}
-use Rattle.sl_description.specs.Compiled.{AreSetsOf}
 use Rattle.sl_sets.specs.Cubes.{has_cube}
 use Rattle.sl_sets.specs.Sets.{HasNoConflict}
-use Rattle.sl_tool.specs.Request.{Request}
-use Rattle.sl_tool.specs.Lines.{refusal_line}
-use Rattle.sl_tool.specs.Answers.{IsTold, Answers}
-use Rattle.sl_tool.specs.Verdicts.{File, IsUnambiguous}
-use Rattle.sl_tool.specs.Fetches.{IsOverlong}
-use Rattle.sl_tool.specs.Given.{IsRefusal}
-use Rattle.sl_description.specs.Compiles.{IsCompiled}
-use Rattle.sl_description.specs.Views.{constructor, constructors, description}
-use Rattle.sl_description.specs.declared.description.Constructor as program
-use Rattle.sl_tool.specs.declared.answer.Answer.{Answer}
+use Rattle.sl_sets.proofs.AlikeLemmas.{AreAlike, all_turned, no_conflict_alike}
+use Rattle.sl_description.specs.Compiled.{AreSetsOf}
+use Rattle.sl_description.specs.Description.{Constructor, Description}
+use Rattle.sl_description.specs.Fields.{Matches}
+use Rattle.sl_description.specs.Views.{description}
 use Rattle.sl_description.specs.declared.compiler.Compiled.{Compiled}
+use Rattle.sl_tool.specs.Answers.{Answers, Expands, IsTold}
+use Rattle.sl_tool.specs.Fetches.{IsOverlong}
+use Rattle.sl_tool.specs.Given.{IsAnsweredFor, IsCompiledText, IsRefusal, RefusesError}
+use Rattle.sl_tool.specs.Images.{File}
+use Rattle.sl_tool.specs.Lines.{refusal_line}
+use Rattle.sl_tool.specs.Request.{Request}
+use Rattle.sl_tool.specs.Verdicts.{Expansion, IsUnambiguous, cause_text, fault_text, file_at, line_at}
+use Rattle.sl_tool.specs.Verdicts.Judges.{bad_text}
+use Rattle.sl_tool.specs.Answers.Answers.{refused}
+use Rattle.sl_lex.specs.Faults.{Fault}
+use Rattle.sl_lex.specs.Reading.{HasBadPlace}
+use Rattle.sl_tool.specs.declared.answer.Answer.{Answer}
 use Rattle.sl_tool.specs.declared.status.Status.{Status}
 use Rattle.sl_tool.specs.declared.status.Status.TheVariants.{Refused}
-use Rattle.sl_sets.proofs.AlikeLemmas.{AreAlike, all_turned, no_conflict_alike}
 
 pub ok_then : {X E : Type 0} (P Q : X → Type 0) (r : Result X E) → ((x : X) → P x → Q x) → IfOk r P → IfOk r Q
 ok_then P Q (Ok x) f h = f x h
@@ -65,9 +71,9 @@ overlong (Some folder) name h = too_long_is (folder name) h
 
 -- ---- refusals
 
-pub refusal_answers : (r : Request) (spec image : File) (file why : List ℕ) (a : Answer) → IsRefusal file why a → Answers r spec image Refused (refusal_line file 0 why)
-    → Answers r spec image a.status a.text.items
-refusal_answers r spec image file why a h answers =
+pub refusal_answers : (r : Request) (spec : Expansion) (image : File) (file : List ℕ) (line : ℕ) (why : List ℕ) (a : Answer) → IsRefusal file line why a
+    → Answers r spec image Refused (refusal_line file line why) → Answers r spec image a.status a.text.items
+refusal_answers r spec image file line why a h answers =
     subst (λ (s : Status). Answers r spec image s a.text.items) (sym h.status) (subst (λ (t : List ℕ). Answers r spec image Refused t) (sym h.text) answers)
 
 -- ---- sets
@@ -87,60 +93,52 @@ length-sets d [] (k ∷ ks) h = absurd h
 length-sets d (c ∷ cs) [] h = absurd h
 length-sets d (c ∷ cs) (k ∷ ks) h = ap suc (length-sets d cs ks h.1)
 
-pub unambiguous : (text : List ℕ) (c : Compiled) → length text ≤ size_limit → IsCompiled text c → HasNoConflict has_cube c.sets.items
-    → IsUnambiguous (Some text) (description c.description)
-unambiguous text c within h none =
-    let d = description c.description in (
-      text,
-      views c.tokens.items,
-      record { is = refl; within = within },
-      h.describes,
-      no_conflict_alike has_cube (Matches d) c.sets.items d.constructors (alike_sets d d.constructors c.sets.items h.sets) none,
-    )
+pub unambiguous : (t : Text) (c : Compiled) → IsCompiledText t c → HasNoConflict has_cube c.sets.items → IsUnambiguous (Ok t) (description c.description)
+unambiguous t c h none =
+    let d = description c.description in
+    record {
+      text = t;
+      tokens = h.tokens;
+      has = record { is = refl; reads = h.reads };
+      describes = h.compiled.describes;
+      clear = no_conflict_alike has_cube (Matches d) c.sets.items d.constructors (alike_sets d d.constructors c.sets.items h.compiled.sets) none;
+    }
 
--- ---- places
+-- ---- expansions
 
-numbered_within : (index total : ℕ) (cs : List Constructor) (i : ℕ) (c : Constructor) → AreNumberedFrom index cs → slice_get cs i ≡ Some c
-    → index + length (spell_constructors cs) ≤ total → c.first < total
-numbered_within index total [] i c h e le = absurd (cc)
-numbered_within index total (b ∷ cs) zero c h e le =
-    let same : b ≡ c = cc in
-    let size = length-append (spell_constructor b) (spell_constructors cs) in
-    subst (λ (x : Constructor). x.first < total) same (omega (arith, h.0, size))
-numbered_within index total (b ∷ cs) (suc i) c h e le =
-    let size = length-append (spell_constructor b) (spell_constructors cs) in
-    numbered_within (index + length (spell_constructor b)) total cs i c h.1 e (omega (arith, size))
+-- What was refused for an error: the refusal that the expansion then is, and the answer tells it.
+abbrev IsToldFor : PreError → Answer → Refusal → Type 0
+IsToldFor error a r = ((x : Expansion) → RefusesAs error x → x ≡ Err r) × IsRefusal r.file r.line (cause_text r.cause) a
 
--- a constructor's first token is one of the tokens
-pub first_within : (s : List Symbol) (d : Description) (i : ℕ) (c : Constructor) → IsSpelled s d → slice_get d.constructors i ≡ Some c → c.first < length s
-first_within s d i c h e =
-    let size = ap length h.spelled ∙ length-append (spell_definitions d) (spell_constructors d.constructors) in
-    numbered_within (length (spell_definitions d)) (length s) d.constructors i c h.numbered e (omega (arith, size))
+pub refusal_of : (error : PreError) (a : Answer) → RefusesError error a → (r : Refusal) × IsToldFor error a r
+refusal_of (NoFile file line) a h = (with_place cause.NoFile file line, (λ x is. is, h))
+refusal_of (TooLong file line) a h = (with_place cause.TooLong file line, (λ x is. is, h))
+refusal_of (IncludeDepth file line) a h = (with_place cause.IncludeDepth file line, (λ x is. is, h))
+refusal_of (UndefinedName file line) a h = (with_place cause.UndefinedName file line, (λ x is. is, h))
+refusal_of (ReplaceDepth file line) a h = (with_place cause.ReplaceDepth file line, (λ x is. is, h))
+refusal_of (BadDirective file line) a h = (with_place cause.BadDirective file line, (λ x is. is, h))
+refusal_of (Unbalanced file line) a h = (with_place cause.Unbalanced file line, (λ x is. is, h))
+refusal_of ReadFault a h = absurd h
+refusal_of NoMemory a h = absurd h
 
-pub length-symbols : (ts : List Tok) → length (symbols_of (views ts)) ≡ length ts
-length-symbols [] = refl
-length-symbols (t ∷ ts) = ap suc (length-symbols ts)
+-- where a specification's expansion ended in this result
+module _ (told : Option Folder) (name : List ℕ) (result : Result Expanded PreError) (h : WhereTold told (λ folder. ExpandsAs seen result (expanded folder name))) where
+  so_told : (other : Result Expanded PreError) → result ≡ other → WhereTold told (λ folder. ExpandsAs seen other (expanded folder name))
+  so_told other is folder here = subst (λ (r : Result Expanded PreError). ExpandsAs seen r (expanded folder name)) is (h folder here)
 
--- ---- what is read in the program's lists
+  pub refusal_expands : (error : PreError) (a : Answer) (refusal : Refusal) → result ≡ Err error → IsToldFor error a refusal → Expands told name (Err refusal)
+  refusal_expands error a refusal is of = record { is = λ folder here. of.0 (expanded folder name) (so_told (Err error) is folder here); sound = tt }
 
-constructor_at : (cs : List program.Constructor) (i : ℕ) (c : program.Constructor) → i < length cs → c ≡ get_or cs i c
-    → slice_get (constructors cs) i ≡ Some (constructor c)
-constructor_at cs i c within is = slice_get-map constructor cs i ∙ ap (option_map constructor) (slice_get_read cs (length cs) i c refl within is)
+  pub text_expands : (e : Expanded) → result ≡ Ok e → IsSound (seen e) → Expands told name (Ok (seen e))
+  text_expands e is sound = record { is = so_told (Ok e) is; sound = sound }
 
-pub token_at : (ts : List Tok) (i : ℕ) (t : Tok) → i < length ts → t ≡ get_or ts i t → slice_get (views ts) i ≡ Some (view t)
-token_at ts i t within is = slice_get-map view ts i ∙ ap (option_map view) (slice_get_read ts (length ts) i t refl within is)
+-- ---- answers whatever the image is
 
-module _ (text : List ℕ) (c : Compiled) (is : IsCompiled text c) (i : ℕ) (within : i < length c.sets.items) where
-  pub constructor_within : i < length c.description.constructors.items
-  constructor_within =
-      let d = description c.description in
-      omega (arith, within, length-sets d d.constructors c.sets.items is.sets, length-map c.description.constructors.items constructor)
+pub for_any_image : (told : Option Folder) (r : Request) (t : Text) (a : Answer) → ((image : File) → Answers r (Ok t) image a.status a.text.items) → IsAnsweredFor told r t a
+for_any_image told r t a h = let image = some_file told r.image in (image.0, image.1, h image.0)
 
-  module _ (k : program.Constructor) (here : k ≡ get_or c.description.constructors.items i k) where
-    pub seen : slice_get (description c.description).constructors i ≡ Some (constructor k)
-    seen = constructor_at c.description.constructors.items i k constructor_within here
-
-    pub token_within : k.first < length c.tokens.items
-    token_within =
-        let first = first_within (symbols_of (views c.tokens.items)) (description c.description) i (constructor k) is.describes.spelled seen in
-        omega (arith, first, length-symbols c.tokens.items)
+-- a text with a bad place, for whatever image
+pub bad_answers : (told : Option Folder) (r : Request) (t : Text) (fault : Fault) (place : ℕ) (a : Answer) → HasBadPlace t.bytes fault place
+    → IsRefusal (file_at t place) (line_at t place) (fault_text fault) a → IsAnsweredFor told r t a
+bad_answers told r t fault place a bad h =
+    for_any_image told r t a (λ image. refusal_answers r (Ok t) image (file_at t place) (line_at t place) (fault_text fault) a h (refused (bad_text refl bad)))

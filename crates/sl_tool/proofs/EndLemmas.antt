@@ -3,9 +3,10 @@ use Rattle.std.proofs.Common.{◌≡◌, ◌≢◌, ℕ, ◌⊎◌, inl, inr, Bo
 use Rattle.std.specs.Prelude.{MatchOption}
 use Rattle.std.specs.Io.KnownBytes.{Appends}
 use Rattle.sl_outside.specs.Folder.{Folder}
-use Rattle.sl_tool.specs.Answers.{IsTold, Answers, Means, Ends}
+use Rattle.sl_tool.specs.Answers.{Expands, IsTold, Answers, Means, Ends}
 use Rattle.sl_tool.specs.Running.{status_of}
-use Rattle.sl_tool.specs.Verdicts.{File}
+use Rattle.sl_tool.specs.Images.{File}
+use Rattle.sl_tool.specs.Verdicts.{Expansion}
 use Rattle.sl_tool.specs.Answers.Answers.{refused, no_image, long_image, listed, ran}
 use Rattle.sl_tool.specs.Request.{Request, request_of, usage_line}
 use Rattle.sl_tool.specs.Writing.{AppendsFront}
@@ -28,7 +29,7 @@ run_is_whole : (has_stopped : Bool) → IsWhole (status_of has_stopped)
 run_is_whole true = tt
 run_is_whole false = tt
 
-answer_is_whole : (r : Request) (spec image : File) (s : Status) (text : List ℕ) → Answers r spec image s text → IsWhole s
+answer_is_whole : (r : Request) (spec : Expansion) (image : File) (s : Status) (text : List ℕ) → Answers r spec image s text → IsWhole s
 answer_is_whole r spec image s text (refused a) = tt
 answer_is_whole r spec image s text (no_image a b) = tt
 answer_is_whole r spec image s text (long_image a b c) = tt
@@ -38,7 +39,7 @@ answer_is_whole r spec image s text (ran a b c e) = subst (λ (x : Status). IsWh
 -- what is asked means, where it is this
 abbrev AskedMeans : Option Request → Option Folder → Status → List ℕ → Type 0
 AskedMeans asked told s text = MatchOption asked ((s ≡ Usage) × (text ≡ usage_line))
-    (λ r. (spec : File) × (image : File) × IsTold told r.spec spec × IsTold told r.image image × Answers r spec image s text)
+    (λ r. (spec : Expansion) × (image : File) × Expands told r.spec spec × IsTold told r.image image × Answers r spec image s text)
 
 asked_is_whole : (asked : Option Request) (told : Option Folder) (s : Status) (text : List ℕ) → AskedMeans asked told s text → IsWhole s
 asked_is_whole None told s text h = subst (λ (x : Status). IsWhole x) (sym h.0) tt

@@ -2,6 +2,7 @@ pub mod WritingLemmas
 pub mod LineLemmas
 pub mod ListingLemmas
 pub mod AnswerLemmas
+pub mod PlaceLemmas
 pub mod ListedLemmas
 pub mod EndLemmas
 pub mod OneListing

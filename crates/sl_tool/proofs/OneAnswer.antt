@@ -1,19 +1,22 @@
 -- A request has one answer.
-use Rattle.std.proofs.Common.{◌≡◌, ℕ, ◌/◌, ◌^◌, ◌≤◌, List, length, Some, None, refl, sym, subst, ◌∙◌, inl, inr, arith}
+use Rattle.std.proofs.Common.{◌≡◌, ℕ, ◌/◌, ◌^◌, ◌<◌, ◌≤◌, List, length, Some, None, refl, sym, subst, ◌∙◌, inl, inr, arith}
 use Rattle.std.specs.Prelude.{codes}
 use Rattle.sl_description.specs.Description.{Description}
 use Rattle.sl_description.specs.Fields.{Matches}
+use Rattle.sl_description.proofs.Takes.{some_is}
 use Rattle.sl_tool.specs.Lines.{refusal_line}
 use Rattle.sl_tool.specs.Listing.{Lists}
 use Rattle.sl_tool.specs.Request.{Command, ListImage, RunImage, Request}
 use Rattle.sl_tool.specs.Running.{IsRun}
-use Rattle.sl_tool.specs.Verdicts.{File, Judges, Refuses, Accepts}
+use Rattle.sl_outside.specs.Folder.{size_limit}
+use Rattle.sl_tool.specs.Images.{File, HasBytes}
+use Rattle.sl_tool.specs.Verdicts.{Expansion, Judges, Refuses, Accepts}
 use Rattle.sl_tool.specs.Answers.{Answers, IsImage, IsTooLarge, mnemonics}
 use Rattle.sl_tool.specs.Answers.Answers.{refused, no_image, long_image, listed, ran}
 use Rattle.sl_tool.specs.declared.status.Status.{Status}
 use Rattle.sl_tool.specs.declared.status.Status.TheVariants.{Done, Refused}
 use Rattle.sl_tool.proofs.OneListing.{listing_is_one}
-use Rattle.sl_tool.proofs.OneVerdict.{no_bytes, not_long, verdict_is_one, within_is_one}
+use Rattle.sl_tool.proofs.OneVerdict.{verdict_is_one}
 use Rattle.sl_tool.proofs.RunningLemmas.{run_is_told_once}
 
 -- These are this status and this text.
@@ -33,6 +36,18 @@ not_both x d e = absurd (cc)
 
 -- ---- images
 
+within_is_one : (file : File) (x y : List ℕ) → HasBytes file x → HasBytes file y → x ≡ y
+within_is_one file x y h g = some_is x y (sym h.is ∙ g.is)
+
+no_bytes : (file : File) (x : List ℕ) → file ≡ None → file ≡ Some x → ⊥
+no_bytes file x none some = let clash : None ≡ Some x = sym none ∙ some in absurd (cc)
+
+not_long : (file : File) (x y : List ℕ) → file ≡ Some x → size_limit < length x → HasBytes file y → ⊥
+not_long file x y is long h =
+    let same : x ≡ y = some_is x y (sym is ∙ h.is) in
+    let short : length x ≤ size_limit = subst (λ (z : List ℕ). length z ≤ size_limit) (sym same) h.within in
+    absurd (omega (arith, long, short))
+
 image_is_one : (d : Description) (image : File) (a b : List ℕ) → IsImage d image a → IsImage d image b → a ≡ b
 image_is_one d image a b h g = within_is_one image a b h.has g.has
 
@@ -51,7 +66,7 @@ not_list_and_run c steps a b = let clash : ListImage ≡ RunImage steps = sym a 
 steps_are_one : (c : Command) (m n : ℕ) → c ≡ RunImage m → c ≡ RunImage n → m ≡ n
 steps_are_one c m n a b = let same : RunImage m ≡ RunImage n = sym a ∙ b in cc
 
-module _ (r : Request) (spec image : File) where
+module _ (r : Request) (spec : Expansion) (image : File) where
   abbrev Accepted : Description → Type 0
   Accepted d = Judges r.spec spec (Accepts d)
 
@@ -120,7 +135,7 @@ module _ (r : Request) (spec image : File) where
 turned : (s t : Status) (x y : List ℕ) → Are t y s x → Are s x t y
 turned s t x y h = (sym h.0, sym h.1)
 
-pub answer_is_one : (r : Request) (spec image : File) (s t : Status) (x y : List ℕ) → Answers r spec image s x → Answers r spec image t y → (s ≡ t) × (x ≡ y)
+pub answer_is_one : (r : Request) (spec : Expansion) (image : File) (s t : Status) (x y : List ℕ) → Answers r spec image s x → Answers r spec image t y → (s ≡ t) × (x ≡ y)
 answer_is_one r spec image s t x y (refused h) g = turned s t x y (refused_alone r spec image t y x h g)
 answer_is_one r spec image s t x y (no_image {d = d} h none) g = turned s t x y (no_image_alone r spec image t y d h none g)
 answer_is_one r spec image s t x y (long_image {d = d} {bytes = b} h is long) g = turned s t x y (long_image_alone r spec image t y d b h is long g)

@@ -1,142 +1,157 @@
 -- A specification has one verdict.
-use Rattle.std.proofs.Common.{◌≡◌, ℕ, ◌<◌, ◌≤◌, List, length, Some, None, refl, sym, ap, subst, ◌∙◌, arith}
+use Rattle.std.proofs.Common.{◌≡◌, ℕ, List, Ok, Err, refl, sym, ap, subst, ◌∙◌}
 use Rattle.std.specs.Prelude.{slice_get, codes}
-use Rattle.sl_outside.specs.Folder.{size_limit}
-use Rattle.sl_lex.specs.Reading.{Token}
+use Rattle.sl_lex.specs.Faults.{Fault}
+use Rattle.sl_lex.specs.Reading.{Token, ReadsAs, HasBadPlace}
+use Rattle.sl_lex.proofs.OneReading.{one_bad_place, one_reading, reads_well}
+use Rattle.sl_preproc.specs.Expansion.{Refusal}
+use Rattle.sl_preproc.specs.Expanded.{Text}
 use Rattle.sl_sets.specs.Sets.{IsFirstConflict, HasNoConflict}
 use Rattle.sl_sets.specs.Reports.{IsReport}
 use Rattle.sl_sets.specs.declared.conflicts.Report.{Report}
 use Rattle.sl_sets.proofs.UniqueSets.{first_is_one, report_is_one}
 use Rattle.sl_description.specs.Description.{Constructor, Description}
-use Rattle.sl_description.specs.Describes.{Describes, IsLineOf, line_of}
+use Rattle.sl_description.specs.Describes.{Describes}
 use Rattle.sl_description.specs.Fields.{Matches}
 use Rattle.sl_description.proofs.OneDescription.{description_is_one}
 use Rattle.sl_description.proofs.Takes.{some_is}
-use Rattle.sl_tool.specs.Lines.{refusal_line}
 use Rattle.sl_tool.specs.ConflictLines.{conflict_lines}
-use Rattle.sl_tool.specs.Verdicts.{File, HasBytes, IsAmbiguous, IsUnambiguous, Judges, Verdict, Refuses, Accepts}
-use Rattle.sl_tool.specs.Verdicts.Judges.{absent, too_long, not_yet, ambiguous, accepted}
+use Rattle.sl_tool.specs.Lines.{refusal_line}
+use Rattle.sl_tool.specs.Verdicts.{BeginsAt, Expansion, HasTokens, IsAmbiguous, IsUnambiguous, Judges, Verdict, Refuses, Accepts, cause_text, fault_text, file_at, line_at, refusal_at}
+use Rattle.sl_tool.specs.Verdicts.Judges.{unexpanded, bad_text, not_yet, ambiguous, accepted}
 
--- ---- places
+-- ---- expansions
 
-line_is_one : (text : List ℕ) (tokens : List Token) (index line other : ℕ) → IsLineOf text tokens index line → IsLineOf text tokens index other → line ≡ other
-line_is_one text tokens index line other h g =
-    let same : h.0 ≡ g.0 = some_is h.0 g.0 (sym h.1 ∙ g.1) in
-    h.2 ∙ ap (λ (t : Token). line_of text t.from) same ∙ sym g.2
+ok_is : (t u : Text) (x : Expansion) → x ≡ Ok t → x ≡ Ok u → t ≡ u
+ok_is t u x a b = let same : Ok t ≡ Ok u = sym a ∙ b in cc
 
--- ---- what a name holds
+err_is : (r q : Refusal) (x : Expansion) → x ≡ Err r → x ≡ Err q → r ≡ q
+err_is r q x a b = let same : Err r ≡ Err q = sym a ∙ b in cc
 
-pub within_is_one : (file : File) (x y : List ℕ) → HasBytes file x → HasBytes file y → x ≡ y
-within_is_one file x y h g = some_is x y (sym h.is ∙ g.is)
+not_both : (r : Refusal) (t : Text) (x : Expansion) → x ≡ Err r → x ≡ Ok t → ⊥
+not_both r t x a b = let clash : Err r ≡ Ok t = sym a ∙ b in absurd (cc)
 
-pub no_bytes : (file : File) (x : List ℕ) → file ≡ None → file ≡ Some x → ⊥
-no_bytes file x none some = let clash : None ≡ Some x = sym none ∙ some in absurd (cc)
+-- ---- texts and tokens
 
-pub not_long : (file : File) (x y : List ℕ) → file ≡ Some x → size_limit < length x → HasBytes file y → ⊥
-not_long file x y is long h =
-    let same : x ≡ y = some_is x y (sym is ∙ h.is) in
-    let short : length x ≤ size_limit = subst (λ (z : List ℕ). length z ≤ size_limit) (sym same) h.within in
-    absurd (omega (arith, long, short))
+tokens_are_one : (x : Expansion) (t u : Text) (ts us : List Token) → HasTokens x t ts → HasTokens x u us → (t ≡ u) × (ts ≡ us)
+tokens_are_one x t u ts us h g =
+    let same = ok_is t u x h.is g.is in
+    (same, one_reading t.bytes ts us h.reads (subst (λ (v : Text). ReadsAs v.bytes us) (sym same) g.reads))
 
--- ---- what the specification is
+not_bad : (x : Expansion) (t u : Text) (ts : List Token) (fault : Fault) (place : ℕ) → HasTokens x t ts → x ≡ Ok u → HasBadPlace u.bytes fault place → ⊥
+not_bad x t u ts fault place h is bad =
+    reads_well t.bytes ts fault place h.reads (subst (λ (v : Text). HasBadPlace v.bytes fault place) (ok_is u t x is h.is) bad)
 
--- The text of a file describes nothing.
-abbrev Undescribed : File → Type 0
-Undescribed file = (text : List ℕ) × HasBytes file text × ((tokens : List Token) (d : Description) → Describes text tokens d → ⊥)
+-- The tokens of an expansion describe this.
+record IsDescription (x : Expansion) (t : Text) (tokens : List Token) (d : Description) : Type 0 where
+  has : HasTokens x t tokens
+  describes : Describes tokens d
 
--- The text of a file describes this.
-abbrev IsDescription : File → List ℕ → List Token → Description → Type 0
-IsDescription file text tokens d = HasBytes file text × Describes text tokens d
+of_clear : (x : Expansion) (d : Description) (h : IsUnambiguous x d) → IsDescription x h.text h.tokens d
+of_clear x d h = record { has = h.has; describes = h.describes }
 
-undescribed_is_none : (file : File) (text : List ℕ) (tokens : List Token) (d : Description) → Undescribed file → IsDescription file text tokens d → ⊥
-undescribed_is_none file text tokens d h g =
-    h.2 tokens d (subst (λ (t : List ℕ). Describes t tokens d) (within_is_one file text h.0 g.0 h.1) g.1)
+description_of_one : (x : Expansion) (t u : Text) (ts us : List Token) (d e : Description) → IsDescription x t ts d → IsDescription x u us e → (t ≡ u) × (ts ≡ us) × (d ≡ e)
+description_of_one x t u ts us d e h g =
+    let same = tokens_are_one x t u ts us h.has g.has in
+    (same.0, same.1, description_is_one ts d e h.describes (subst (λ (vs : List Token). Describes vs e) (sym same.1) g.describes))
 
-text_is_one : (file : File) (x y : List ℕ) (ts us : List Token) (d e : Description) → IsDescription file x ts d → IsDescription file y us e → (ts ≡ us) × (d ≡ e)
-text_is_one file x y ts us d e h g =
-    description_is_one x ts us d e h.1 (subst (λ (t : List ℕ). Describes t us e) (sym (within_is_one file x y h.0 g.0)) g.1)
+undescribed : (x : Expansion) (t u : Text) (ts us : List Token) (d : Description) → HasTokens x t ts → ((e : Description) → Describes ts e → ⊥) → IsDescription x u us d → ⊥
+undescribed x t u ts us d h none g =
+    let same = tokens_are_one x t u ts us h g.has in
+    none d (subst (λ (vs : List Token). Describes vs d) (sym same.1) g.describes)
 
-of_clear : (file : File) (d : Description) → (h : IsUnambiguous file d) → IsDescription file h.0 h.1 d
-of_clear file d h = (h.2, h.3)
+clear_is_one : (x : Expansion) (d e : Description) → IsUnambiguous x d → IsUnambiguous x e → d ≡ e
+clear_is_one x d e h g = (description_of_one x h.text g.text h.tokens g.tokens d e (of_clear x d h) (of_clear x e g)).2
 
-clear_is_one : (file : File) (d e : Description) → IsUnambiguous file d → IsUnambiguous file e → d ≡ e
-clear_is_one file d e h g = (text_is_one file h.0 g.0 h.1 g.1 d e (of_clear file d h) (of_clear file e g)).1
-
-not_clear : (file : File) (text : List ℕ) (tokens : List Token) (d e : Description) (i j : ℕ) → IsDescription file text tokens d → IsFirstConflict (Matches d) d.constructors i j
-    → IsUnambiguous file e → ⊥
-not_clear file text tokens d e i j h conflict g =
-    let same : d ≡ e = (text_is_one file text g.0 tokens g.1 d e h (of_clear file e g)).1 in
-    let none : HasNoConflict (Matches d) d.constructors = subst (λ (x : Description). HasNoConflict (Matches x) x.constructors) (sym same) g.4 in
+not_clear : (x : Expansion) (t : Text) (ts : List Token) (d e : Description) (i j : ℕ) → IsDescription x t ts d → IsFirstConflict (Matches d) d.constructors i j
+    → IsUnambiguous x e → ⊥
+not_clear x t ts d e i j h conflict g =
+    let same : d ≡ e = (description_of_one x t g.text ts g.tokens d e h (of_clear x e g)).2 in
+    let none : HasNoConflict (Matches d) d.constructors = subst (λ (v : Description). HasNoConflict (Matches v) v.constructors) (sym same) g.clear in
     none i j conflict.here
 
-ambiguity_is_one : (text : List ℕ) (tokens : List Token) (d : Description) (first second other another : ℕ) (told said : Report)
-    → IsAmbiguous text tokens d first second told → IsAmbiguous text tokens d other another said → (first ≡ other) × (second ≡ another) × (told ≡ said)
-ambiguity_is_one text tokens d first second other another told said h g =
+-- ---- conflicts
+
+begin_is_one : (tokens : List Token) (index byte other : ℕ) → BeginsAt tokens index byte → BeginsAt tokens index other → byte ≡ other
+begin_is_one tokens index byte other h g =
+    let same : h.0 ≡ g.0 = some_is h.0 g.0 (sym h.1 ∙ g.1) in
+    h.2 ∙ ap (λ (t : Token). t.from) same ∙ sym g.2
+
+ambiguity_is_one : (tokens : List Token) (d : Description) (first second other another : ℕ) (told said : Report)
+    → IsAmbiguous tokens d first second told → IsAmbiguous tokens d other another said → (first ≡ other) × (second ≡ another) × (told ≡ said)
+ambiguity_is_one tokens d first second other another told said h g =
     let same = first_is_one (Matches d) d.constructors h.first h.second g.first g.second h.conflict g.conflict in
     let c = h.conflict.here in
     let k = g.conflict.here in
     let one_first : c.first ≡ k.first = some_is c.first k.first (sym c.first_is ∙ ap (λ (i : ℕ). slice_get d.constructors i) same.0 ∙ k.first_is) in
     let one_second : c.second ≡ k.second = some_is c.second k.second (sym c.second_is ∙ ap (λ (i : ℕ). slice_get d.constructors i) same.1 ∙ k.second_is) in
-    let first_in : IsLineOf text tokens c.first.first other = subst (λ (x : Constructor). IsLineOf text tokens x.first other) (sym one_first) g.first_is_in in
-    let second_in : IsLineOf text tokens c.second.first another = subst (λ (x : Constructor). IsLineOf text tokens x.first another) (sym one_second) g.second_is_in in
+    let first_in : BeginsAt tokens c.first.first other = subst (λ (x : Constructor). BeginsAt tokens x.first other) (sym one_first) g.first_begins in
+    let second_in : BeginsAt tokens c.second.first another = subst (λ (x : Constructor). BeginsAt tokens x.first another) (sym one_second) g.second_begins in
     let of_first : IsReport (Matches d) c.first k.second said = subst (λ (x : Constructor). IsReport (Matches d) x k.second said) (sym one_first) g.report in
     let of_both : IsReport (Matches d) c.first c.second said = subst (λ (x : Constructor). IsReport (Matches d) c.first x said) (sym one_second) of_first in (
-      line_is_one text tokens c.first.first first other h.first_is_in first_in,
-      line_is_one text tokens c.second.first second another h.second_is_in second_in,
+      begin_is_one tokens c.first.first first other h.first_begins first_in,
+      begin_is_one tokens c.second.first second another h.second_begins second_in,
       report_is_one (Matches d) c.first c.second told said h.report of_both,
     )
 
 -- ---- what is the verdict alone
 
-module _ (name : List ℕ) (file : File) where
-  absent_alone : (v : Verdict) → file ≡ None → Judges name file v → v ≡ Refuses (refusal_line name 0 (codes "no such file"))
-  absent_alone v none (absent a) = refl
-  absent_alone v none (too_long {bytes = b} is long) = absurd (no_bytes file b none is)
-  absent_alone v none (not_yet {text = t} h a) = absurd (no_bytes file t none h.is)
-  absent_alone v none (ambiguous {text = t} h a b) = absurd (no_bytes file t none h.is)
-  absent_alone v none (accepted clear) = absurd (no_bytes file clear.0 none clear.2.is)
+module _ (name : List ℕ) (x : Expansion) where
+  unexpanded_alone : (v : Verdict) (r : Refusal) → x ≡ Err r → Judges name x v → v ≡ Refuses (refusal_line r.file r.line (cause_text r.cause))
+  unexpanded_alone v r is (unexpanded {r = q} a) = ap (λ (z : Refusal). Refuses (refusal_line z.file z.line (cause_text z.cause))) (err_is q r x a is)
+  unexpanded_alone v r is (bad_text {t = t} a b) = absurd (not_both r t x is a)
+  unexpanded_alone v r is (not_yet {t = t} h a) = absurd (not_both r t x is h.is)
+  unexpanded_alone v r is (ambiguous {t = t} h a b) = absurd (not_both r t x is h.is)
+  unexpanded_alone v r is (accepted clear) = absurd (not_both r clear.text x is clear.has.is)
 
-  too_long_alone : (v : Verdict) (bytes : List ℕ) → file ≡ Some bytes → size_limit < length bytes → Judges name file v → v ≡ Refuses (refusal_line name 0 (codes "too long"))
-  too_long_alone v bytes is long (absent none) = absurd (no_bytes file bytes none is)
-  too_long_alone v bytes is long (too_long a b) = refl
-  too_long_alone v bytes is long (not_yet {text = t} h a) = absurd (not_long file bytes t is long h)
-  too_long_alone v bytes is long (ambiguous {text = t} h a b) = absurd (not_long file bytes t is long h)
-  too_long_alone v bytes is long (accepted clear) = absurd (not_long file bytes clear.0 is long clear.2)
+  bad_text_alone : (v : Verdict) (t : Text) (fault : Fault) (place : ℕ) → x ≡ Ok t → HasBadPlace t.bytes fault place → Judges name x v → v ≡ Refuses (refusal_at t place (fault_text fault))
+  bad_text_alone v t fault place is bad (unexpanded {r = r} a) = absurd (not_both r t x a is)
+  bad_text_alone v t fault place is bad (bad_text {t = u} {fault = other} {place = there} a b) =
+      let same : u ≡ t = ok_is u t x a is in
+      let here : HasBadPlace t.bytes other there = subst (λ (z : Text). HasBadPlace z.bytes other there) same b in
+      let one = one_bad_place t.bytes other fault there place here bad in
+      ap (λ (z : Text). Refuses (refusal_at z there (fault_text other))) same ∙ ap (λ (z : Fault). Refuses (refusal_at t there (fault_text z))) one.0
+      ∙ ap (λ (z : ℕ). Refuses (refusal_at t z (fault_text fault))) one.1
+  bad_text_alone v t fault place is bad (not_yet {t = u} {tokens = ts} h a) = absurd (not_bad x u t ts fault place h is bad)
+  bad_text_alone v t fault place is bad (ambiguous {t = u} {tokens = ts} h a b) = absurd (not_bad x u t ts fault place h is bad)
+  bad_text_alone v t fault place is bad (accepted clear) = absurd (not_bad x clear.text t clear.tokens fault place clear.has is bad)
 
-  not_yet_alone : (v : Verdict) → Undescribed file → Judges name file v → v ≡ Refuses (refusal_line name 0 (codes "not yet"))
-  not_yet_alone v u (absent none) = absurd (no_bytes file u.0 none u.1.is)
-  not_yet_alone v u (too_long {bytes = b} is long) = absurd (not_long file b u.0 is long u.1)
-  not_yet_alone v u (not_yet h a) = refl
-  not_yet_alone v u (ambiguous {text = t} {tokens = ts} {d = d} h describes a) = absurd (undescribed_is_none file t ts d u (h, describes))
-  not_yet_alone v u (accepted {d = d} clear) = absurd (undescribed_is_none file clear.0 clear.1 d u (of_clear file d clear))
+  not_yet_alone : (v : Verdict) (t : Text) (ts : List Token) → HasTokens x t ts → ((d : Description) → Describes ts d → ⊥) → Judges name x v → v ≡ Refuses (refusal_line name 0 (codes "not yet"))
+  not_yet_alone v t ts h none (unexpanded {r = r} a) = absurd (not_both r t x a h.is)
+  not_yet_alone v t ts h none (bad_text {t = u} {fault = fault} {place = place} a b) = absurd (not_bad x t u ts fault place h a b)
+  not_yet_alone v t ts h none (not_yet g a) = refl
+  not_yet_alone v t ts h none (ambiguous {t = u} {tokens = us} {d = d} g describes k) =
+      absurd (undescribed x t u ts us d h none (record { has = g; describes = describes }))
+  not_yet_alone v t ts h none (accepted {d = d} clear) = absurd (undescribed x t clear.text ts clear.tokens d h none (of_clear x d clear))
 
-  ambiguous_alone : (v : Verdict) (text : List ℕ) (tokens : List Token) (d : Description) (first second : ℕ) (told : Report) → IsDescription file text tokens d
-      → IsAmbiguous text tokens d first second told → Judges name file v → v ≡ Refuses (conflict_lines name first second told)
-  ambiguous_alone v text tokens d first second told h conflict (absent none) = absurd (no_bytes file text none h.0.is)
-  ambiguous_alone v text tokens d first second told h conflict (too_long {bytes = b} is long) = absurd (not_long file b text is long h.0)
-  ambiguous_alone v text tokens d first second told h conflict (not_yet {text = t} g none) = absurd (undescribed_is_none file text tokens d (t, g, none) h)
-  ambiguous_alone v text tokens d first second told h conflict (ambiguous {text = t} {tokens = ts} {d = e} {first_line = other} {second_line = another} {told = said} g describes k) =
-      let same_text : t ≡ text = within_is_one file t text g h.0 in
-      let same = text_is_one file t text ts tokens e d (g, describes) h in
-      let in_text : IsAmbiguous text ts e other another said = subst (λ (u : List ℕ). IsAmbiguous u ts e other another said) same_text k in
-      let in_tokens : IsAmbiguous text tokens e other another said = subst (λ (us : List Token). IsAmbiguous text us e other another said) same.0 in_text in
-      let there : IsAmbiguous text tokens d other another said = subst (λ (z : Description). IsAmbiguous text tokens z other another said) same.1 in_tokens in
-      let one = ambiguity_is_one text tokens d other another first second said told there conflict in
-      ap (λ (n : ℕ). Refuses (conflict_lines name n another said)) one.0 ∙ ap (λ (n : ℕ). Refuses (conflict_lines name first n said)) one.1
-      ∙ ap (λ (z : Report). Refuses (conflict_lines name first second z)) one.2
-  ambiguous_alone v text tokens d first second told h conflict (accepted {d = e} clear) = absurd (not_clear file text tokens d e conflict.first conflict.second h conflict.conflict clear)
+  ambiguous_alone : (v : Verdict) (t : Text) (ts : List Token) (d : Description) (first second : ℕ) (told : Report) → IsDescription x t ts d
+      → IsAmbiguous ts d first second told → Judges name x v → v ≡ Refuses (conflict_lines (file_at t first) (line_at t first) (file_at t second) (line_at t second) told)
+  ambiguous_alone v t ts d first second told h conflict (unexpanded {r = r} a) = absurd (not_both r t x a h.has.is)
+  ambiguous_alone v t ts d first second told h conflict (bad_text {t = u} {fault = fault} {place = place} a b) = absurd (not_bad x t u ts fault place h.has a b)
+  ambiguous_alone v t ts d first second told h conflict (not_yet {t = u} {tokens = us} g none) = absurd (undescribed x u t us ts d g none h)
+  ambiguous_alone v t ts d first second told h conflict (ambiguous {t = u} {tokens = us} {d = e} {first = other} {second = another} {told = said} g describes k) =
+      let same = description_of_one x u t us ts e d (record { has = g; describes = describes }) h in
+      let in_tokens : IsAmbiguous ts e other another said = subst (λ (vs : List Token). IsAmbiguous vs e other another said) same.1 k in
+      let there : IsAmbiguous ts d other another said = subst (λ (z : Description). IsAmbiguous ts z other another said) same.2 in_tokens in
+      let one = ambiguity_is_one ts d other another first second said told there conflict in
+      ap (λ (z : Text). Refuses (conflict_lines (file_at z other) (line_at z other) (file_at z another) (line_at z another) said)) same.0
+      ∙ ap (λ (n : ℕ). Refuses (conflict_lines (file_at t n) (line_at t n) (file_at t another) (line_at t another) said)) one.0
+      ∙ ap (λ (n : ℕ). Refuses (conflict_lines (file_at t first) (line_at t first) (file_at t n) (line_at t n) said)) one.1
+      ∙ ap (λ (z : Report). Refuses (conflict_lines (file_at t first) (line_at t first) (file_at t second) (line_at t second) z)) one.2
+  ambiguous_alone v t ts d first second told h conflict (accepted {d = e} clear) = absurd (not_clear x t ts d e conflict.first conflict.second h conflict.conflict clear)
 
-  accepted_alone : (v : Verdict) (d : Description) → IsUnambiguous file d → Judges name file v → v ≡ Accepts d
-  accepted_alone v d clear (absent none) = absurd (no_bytes file clear.0 none clear.2.is)
-  accepted_alone v d clear (too_long {bytes = b} is long) = absurd (not_long file b clear.0 is long clear.2)
-  accepted_alone v d clear (not_yet {text = t} g none) = absurd (undescribed_is_none file clear.0 clear.1 d (t, g, none) (of_clear file d clear))
-  accepted_alone v d clear (ambiguous {text = t} {tokens = ts} {d = e} g describes k) = absurd (not_clear file t ts e d k.first k.second (g, describes) k.conflict clear)
-  accepted_alone v d clear (accepted {d = e} other) = ap (λ (z : Description). Accepts z) (clear_is_one file e d other clear)
+  accepted_alone : (v : Verdict) (d : Description) → IsUnambiguous x d → Judges name x v → v ≡ Accepts d
+  accepted_alone v d clear (unexpanded {r = r} a) = absurd (not_both r clear.text x a clear.has.is)
+  accepted_alone v d clear (bad_text {t = u} {fault = fault} {place = place} a b) = absurd (not_bad x clear.text u clear.tokens fault place clear.has a b)
+  accepted_alone v d clear (not_yet {t = u} {tokens = us} g none) = absurd (undescribed x u clear.text us clear.tokens d g none (of_clear x d clear))
+  accepted_alone v d clear (ambiguous {t = u} {tokens = us} {d = e} g describes k) =
+      absurd (not_clear x u us e d k.first k.second (record { has = g; describes = describes }) k.conflict clear)
+  accepted_alone v d clear (accepted {d = e} other) = ap (λ (z : Description). Accepts z) (clear_is_one x e d other clear)
 
-  pub verdict_is_one : (v w : Verdict) → Judges name file v → Judges name file w → v ≡ w
-  verdict_is_one v w (absent none) g = sym (absent_alone w none g)
-  verdict_is_one v w (too_long {bytes = b} is long) g = sym (too_long_alone w b is long g)
-  verdict_is_one v w (not_yet {text = u} h none) g = sym (not_yet_alone w (u, h, none) g)
-  verdict_is_one v w (ambiguous {text = u} {tokens = ts} {d = d} {first_line = first} {second_line = second} {told = told} h describes k) g =
-      sym (ambiguous_alone w u ts d first second told (h, describes) k g)
+  pub verdict_is_one : (v w : Verdict) → Judges name x v → Judges name x w → v ≡ w
+  verdict_is_one v w (unexpanded {r = r} is) g = sym (unexpanded_alone w r is g)
+  verdict_is_one v w (bad_text {t = t} {fault = fault} {place = place} is bad) g = sym (bad_text_alone w t fault place is bad g)
+  verdict_is_one v w (not_yet {t = t} {tokens = ts} h none) g = sym (not_yet_alone w t ts h none g)
+  verdict_is_one v w (ambiguous {t = t} {tokens = ts} {d = d} {first = first} {second = second} {told = told} h describes k) g =
+      sym (ambiguous_alone w t ts d first second told (record { has = h; describes = describes }) k g)
   verdict_is_one v w (accepted {d = d} clear) g = sym (accepted_alone w d clear g)

@@ -19,7 +19,7 @@ apart_lines (Two only_first only_second) = point_line (codes "first") only_first
 abbrev pub ambiguity_text : List ℕ → ℕ → List ℕ
 ambiguity_text file line = codes "ambiguous in instruction with " ++ place_text file line
 
--- the refusal at the first of the two lines, the least point of both, and how they differ
-abbrev pub conflict_lines : List ℕ → ℕ → ℕ → Report → List ℕ
-conflict_lines file first_line second_line told =
-    refusal_line file first_line (ambiguity_text file second_line) ++ (point_line (codes "both") told.both ++ apart_lines told.apart)
+-- the refusal at the first of the two places, the least point of both, and how they differ
+abbrev pub conflict_lines : List ℕ → ℕ → List ℕ → ℕ → Report → List ℕ
+conflict_lines first_file first_line second_file second_line told =
+    refusal_line first_file first_line (ambiguity_text second_file second_line) ++ (point_line (codes "both") told.both ++ apart_lines told.apart)

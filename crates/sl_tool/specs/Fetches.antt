@@ -2,7 +2,7 @@
 use Rattle.std.specs.Prelude.{ℕ, ◌<◌, List, length, Option, Some, None}
 use Rattle.sl_outside.specs.Folder.{Folder, size_limit}
 use Rattle.sl_tool.specs.Answers.{IsTold}
-use Rattle.sl_tool.specs.Verdicts.{HasBytes}
+use Rattle.sl_tool.specs.Images.{HasBytes}
 use Rattle.sl_tool.specs.declared.files.Fetched.{Fetched}
 use Rattle.sl_tool.specs.declared.files.Fetched.TheVariants.{Bytes, Absent, TooLong}
 

@@ -4,7 +4,9 @@ pub mod Request
 pub mod ConflictLines
 pub mod RunLines
 pub mod Running
+pub mod Images
 pub mod Verdicts
+pub mod Places
 pub mod Answers
 pub mod Requests
 pub mod Writing

@@ -1,49 +1,97 @@
 -- What becomes of a specification.
-use Rattle.std.specs.Prelude.{◌≡◌, ℕ, ◌<◌, ◌≤◌, List, length, Option, Some, None, codes}
-use Rattle.sl_outside.specs.Folder.{size_limit}
-use Rattle.sl_lex.specs.Reading.{Token}
+use Rattle.std.specs.Prelude.{◌≡◌, ℕ, List, [], Some, Result, Ok, Err, slice_get, slice_index_or, codes}
+use Rattle.sl_lex.specs.Faults.{Fault}
+use Rattle.sl_lex.specs.Faults.Fault.{NoLexeme, OpenQuote, TooWide}
+use Rattle.sl_lex.specs.Reading.{Token, ReadsAs, HasBadPlace}
+use Rattle.sl_directive.specs.declared.fault.Cause.{Cause}
+use Rattle.sl_directive.specs.declared.fault.Cause.TheVariants.{NoFile, TooLong, IncludeDepth, UndefinedName, ReplaceDepth, BadDirective, Unbalanced}
+use Rattle.sl_preproc.specs.Expansion.{Refusal}
+use Rattle.sl_preproc.specs.Expanded.{Text, place_at}
 use Rattle.sl_sets.specs.Sets.{IsFirstConflict, HasNoConflict}
 use Rattle.sl_sets.specs.Reports.{IsReport}
 use Rattle.sl_sets.specs.declared.conflicts.Report.{Report}
 use Rattle.sl_description.specs.Description.{Description}
-use Rattle.sl_description.specs.Describes.{Describes, IsLineOf}
+use Rattle.sl_description.specs.Describes.{Describes}
 use Rattle.sl_description.specs.Fields.{Matches}
+use Rattle.sl_description.specs.Symbols.{without_blanks}
 use Rattle.sl_tool.specs.Lines.{refusal_line}
 use Rattle.sl_tool.specs.ConflictLines.{conflict_lines}
 
--- what a name holds: a file's bytes, or no file
-abbrev pub File : Type 0
-File = Option (List ℕ)
+-- what a main file expands to: a text with its places, or the first refusal
+abbrev pub Expansion : Type 0
+Expansion = Result Text Refusal
 
--- The file has these bytes, which are not too many.
-pub record HasBytes (file : File) (bytes : List ℕ) : Type 0 where
-  pub is : file ≡ Some bytes
-  pub within : length bytes ≤ size_limit
+-- ---- places
 
--- The first conflict of a description, between constructors whose first tokens stand in these lines, and what is told of it.
-pub record IsAmbiguous (text : List ℕ) (tokens : List Token) (d : Description) (first_line second_line : ℕ) (told : Report) : Type 0 where
+-- the file and the line from which the line of this byte comes
+abbrev pub file_at : Text → ℕ → List ℕ
+file_at t byte = slice_index_or t.files (place_at t byte).file []
+
+abbrev pub line_at : Text → ℕ → ℕ
+line_at t byte = (place_at t byte).line
+
+-- The token of this index, blanks not counted, begins at this byte.
+abbrev pub BeginsAt : List Token → ℕ → ℕ → Type 0
+BeginsAt tokens index byte = (t : Token) × (slice_get (without_blanks tokens) index ≡ Some t) × (byte ≡ t.from)
+
+-- ---- refusals
+
+-- why there is no expansion
+abbrev pub cause_text : Cause → List ℕ
+cause_text NoFile = codes "no such file"
+cause_text TooLong = codes "too long"
+cause_text IncludeDepth = codes "includes too deep"
+cause_text UndefinedName = codes "undefined name"
+cause_text ReplaceDepth = codes "replacement too deep"
+cause_text BadDirective = codes "bad directive"
+cause_text Unbalanced = codes "unbalanced condition"
+
+-- why a text has no tokens
+abbrev pub fault_text : Fault → List ℕ
+fault_text NoLexeme = codes "bad byte"
+fault_text OpenQuote = codes "open string"
+fault_text TooWide = codes "wide integer"
+
+-- a refusal at the place of a byte
+abbrev pub refusal_at : Text → ℕ → List ℕ → List ℕ
+refusal_at t byte why = refusal_line (file_at t byte) (line_at t byte) why
+
+-- The first conflict of a description, between constructors whose first tokens begin at these bytes, and what is told of it.
+pub record IsAmbiguous (tokens : List Token) (d : Description) (first_byte second_byte : ℕ) (told : Report) : Type 0 where
   pub first : ℕ
   pub second : ℕ
   pub conflict : IsFirstConflict (Matches d) d.constructors first second
-  pub first_is_in : IsLineOf text tokens conflict.here.first.first first_line
-  pub second_is_in : IsLineOf text tokens conflict.here.second.first second_line
+  pub first_begins : BeginsAt tokens conflict.here.first.first first_byte
+  pub second_begins : BeginsAt tokens conflict.here.second.first second_byte
   pub report : IsReport (Matches d) conflict.here.first conflict.here.second told
 
--- The file is a description with no conflict.
-abbrev pub IsUnambiguous : File → Description → Type 0
-IsUnambiguous file d = (text : List ℕ) × (tokens : List Token) × HasBytes file text × Describes text tokens d × HasNoConflict (Matches d) d.constructors
+-- ---- verdicts
+
+-- The expansion is a text with these tokens.
+pub record HasTokens (x : Expansion) (t : Text) (tokens : List Token) : Type 0 where
+  pub is : x ≡ Ok t
+  pub reads : ReadsAs t.bytes tokens
+
+-- The expansion is a description with no conflict.
+pub record IsUnambiguous (x : Expansion) (d : Description) : Type 0 where
+  pub text : Text
+  pub tokens : List Token
+  pub has : HasTokens x text tokens
+  pub describes : Describes tokens d
+  pub clear : HasNoConflict (Matches d) d.constructors
 
 -- A specification is refused with some lines, or accepted as this description.
 pub data Verdict : Type 0 where
   Refuses : List ℕ → Verdict
   Accepts : Description → Verdict
 
--- The verdict on the specification of this name, which holds this file.
-pub data Judges (name : List ℕ) (file : File) : Verdict → Type 0 where
-  absent : file ≡ None → Judges name file (Refuses (refusal_line name 0 (codes "no such file")))
-  too_long : {bytes : List ℕ} → file ≡ Some bytes → size_limit < length bytes → Judges name file (Refuses (refusal_line name 0 (codes "too long")))
-  not_yet : {text : List ℕ} → HasBytes file text → ((tokens : List Token) (d : Description) → Describes text tokens d → ⊥)
-      → Judges name file (Refuses (refusal_line name 0 (codes "not yet")))
-  ambiguous : {text : List ℕ} {tokens : List Token} {d : Description} {first_line second_line : ℕ} {told : Report} → HasBytes file text → Describes text tokens d
-      → IsAmbiguous text tokens d first_line second_line told → Judges name file (Refuses (conflict_lines name first_line second_line told))
-  accepted : {d : Description} → IsUnambiguous file d → Judges name file (Accepts d)
+-- The verdict on the specification of this name, which expands so.
+pub data Judges (name : List ℕ) (x : Expansion) : Verdict → Type 0 where
+  unexpanded : {r : Refusal} → x ≡ Err r → Judges name x (Refuses (refusal_line r.file r.line (cause_text r.cause)))
+  bad_text : {t : Text} {fault : Fault} {place : ℕ} → x ≡ Ok t → HasBadPlace t.bytes fault place → Judges name x (Refuses (refusal_at t place (fault_text fault)))
+  not_yet : {t : Text} {tokens : List Token} → HasTokens x t tokens → ((d : Description) → Describes tokens d → ⊥)
+      → Judges name x (Refuses (refusal_line name 0 (codes "not yet")))
+  ambiguous : {t : Text} {tokens : List Token} {d : Description} {first second : ℕ} {told : Report} → HasTokens x t tokens → Describes tokens d
+      → IsAmbiguous tokens d first second told
+      → Judges name x (Refuses (conflict_lines (file_at t first) (line_at t first) (file_at t second) (line_at t second) told))
+  accepted : {d : Description} → IsUnambiguous x d → Judges name x (Accepts d)

@@ -14,6 +14,7 @@ mod files;
 mod laws;
 mod lines;
 mod listing;
+mod refusals;
 mod reports;
 mod request;
 mod run_lines;

@@ -8,20 +8,26 @@ use sl_cube::Point;
 use sl_sets::{Apart, Report};
 use std::alloc::{AllocError, Global};
 
-/// The lines that tell of a conflict between the constructors of these lines of the file: where they
+/// The lines that tell of a conflict between the constructors at these lines of these files: where they
 /// stand, the least point of both, and how they differ. The only error is want of memory.
 pub fn conflict_text(
     alloc: Global,
-    file: &[u8],
+    first_file: &str,
     first_line: u64,
+    second_file: &str,
     second_line: u64,
     told: &Report,
 ) -> Result<Vec<u8>, AllocError>
-    ensures { IfOk result (λ text. text.items ≡ conflict_lines file.now first_line second_line told.now) }
+    ensures { IfOk result (λ text. text.items ≡ conflict_lines first_file.now first_line second_file.now second_line told.now) }
 {
     let mut out = Vec::new(alloc);
-    let refused = ambiguity(alloc, file, second_line)?;
-    push_refusal(&mut out, file, first_line, refused.as_slice())?;
+    let refused = ambiguity(alloc, second_file.as_bytes(), second_line)?;
+    push_refusal(
+        &mut out,
+        first_file.as_bytes(),
+        first_line,
+        refused.as_slice(),
+    )?;
     push_named_point(&mut out, b"both", &told.both)?;
     push_apart(&mut out, &told.apart)?;
     Ok(out)

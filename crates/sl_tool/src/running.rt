@@ -3,13 +3,13 @@
 ghost use Rattle.std.specs.Prelude.{◌≡◌, ◌<◌, ◌≤◌, ◌^◌, IfOk, length};
 ghost use Rattle.std.specs.List.{AllByRecursion};
 ghost use Rattle.sl_word.specs.Bytes.{address_sizes as sizes_of_state};
-ghost use Rattle.sl_description.specs.Compiles.{IsCompiled};
 ghost use Rattle.sl_description.specs.Registers.{address_sizes_of};
 ghost use Rattle.sl_description.specs.Rules.{IsSound};
 ghost use Rattle.sl_description.specs.Views.{description, seen_registers, statements};
 ghost use Rattle.sl_run.specs.Machine.{RegisterFits};
 ghost use Rattle.sl_sets.specs.Cubes.{has_cube};
 ghost use Rattle.sl_sets.specs.Sets.{HasNoConflict};
+ghost use Rattle.sl_tool.specs.Given.{HasCompiled};
 ghost use Rattle.sl_tool.specs.Opened.{HasRun, IsOpened, TellsRun};
 ghost use Rattle.sl_tool.specs.Running.{IsRun, status_of};
 
@@ -48,13 +48,12 @@ fn opened(alloc: Global, d: &Description, sizes: &[u8], image: &[u8]) -> Result<
 /// The machine after at most so many steps from the image, and how they ended.
 fn run(
     alloc: Global,
-    text: &[u8],
     compiled: &Compiled,
     sizes: &[u8],
     image: &[u8],
     steps: u64,
 ) -> Result<(State, Outcome), AllocError>
-    requires compiled { IsCompiled text.now compiled.now }
+    requires compiled { HasCompiled compiled.now }
     requires clear { HasNoConflict has_cube compiled.now.sets.items }
     requires sizes { sizes.now ≡ address_sizes_of (description compiled.now.description) }
     requires fits { length image.now ≤ 256 ^ compiled.now.description.address_bytes }
@@ -106,12 +105,11 @@ fn run_text(
 /// only error is want of memory.
 pub fn run_image(
     alloc: Global,
-    text: &[u8],
     compiled: &Compiled,
     image: &[u8],
     steps: u64,
 ) -> Result<(Vec<u8>, bool), AllocError>
-    requires compiled { IsCompiled text.now compiled.now }
+    requires compiled { HasCompiled compiled.now }
     requires clear { HasNoConflict has_cube compiled.now.sets.items }
     requires fits { length image.now ≤ 256 ^ compiled.now.description.address_bytes }
     ensures { IfOk result (λ r. IsRun (description compiled.now.description) image.now steps (status_of r.1) r.0.items) }
@@ -119,7 +117,7 @@ pub fn run_image(
     let d = &compiled.description;
     let sizes = address_sizes(alloc, d)?;
     let opening = opened(alloc, d, sizes.as_slice(), image)?;
-    let (state, outcome) = run(alloc, text, compiled, sizes.as_slice(), image, steps)?;
+    let (state, outcome) = run(alloc, compiled, sizes.as_slice(), image, steps)?;
     let lines = run_text(alloc, compiled, &opening, &state, outcome)?;
     Ok((lines, outcome.stopped))
 }

@@ -20,7 +20,7 @@ returns c =
     let cubes = compiled.sets.items in
     let constructors = compiled.description.constructors.items in
     let image = c.args.image.now in
-    let sets = c.requires.compiled.sets in
+    let sets = c.requires.compiled.1.sets in
     let stands = subst (λ (ks : List Cube). StandsFor c.in_ok-chooser.chooser ks) c.as_slice.ensures.value c.in_ok-chooser.ensures in
     let counted = sym (length-sets d d.constructors cubes sets) ∙ length-map constructors constructor in
     ok_then (λ lines. Lists has_cube cubes (map (λ k. k.mnemonic.now) c.as_slice-2.result.now) compiled.description.address_bytes (d.token_bits / 8) image 0 lines.items)

@@ -22,7 +22,7 @@ run_steps-requires-clause-sound c =
     let d = description c.args.compiled.now.description in
     let m = resolution c.args.compiled.now.resolution in
     subst (λ (sizes : List ℕ). AreSound sizes (statements c.as_slice-2.result.now)) (sym c.in_ok-state.ensures.sizes)
-    (subst (λ (xs : List (Vec Sum Global)). AreSound (address_sizes_of d) (statements xs)) (sym c.as_slice-2.ensures.value) (sections_are_sound d m c.requires.compiled.resolved))
+    (subst (λ (xs : List (Vec Sum Global)). AreSound (address_sizes_of d) (statements xs)) (sym c.as_slice-2.ensures.value) (sections_are_sound d m c.requires.compiled.1.resolved))
 
 pub returns : goal.returns
 returns c =
@@ -33,7 +33,7 @@ returns c =
     let start = byte_at c.in_ok-state.state in
     let stands = subst (λ (ks : List Cube). StandsFor c.in_ok-chooser.chooser ks) c.as_slice.ensures.value c.in_ok-chooser.ensures in
     let counted : length cubes ≡ length c.as_slice-2.result.now =
-    sym (length-sets d d.constructors cubes c.requires.compiled.sets) ∙ sym (sections_counted d m c.requires.compiled.resolved)
+    sym (length-sets d d.constructors cubes c.requires.compiled.1.sets) ∙ sym (sections_counted d m c.requires.compiled.1.resolved)
     ∙ length-map compiled.resolution.sections.items (λ (v : Vec Sum Global). sums v.items) ∙ ap length (sym c.as_slice-2.ensures.value) in
     let ran = c.in_ok-outcome.ensures.runs cubes stands c.requires.clear counted in
     let o = c.in_ok-outcome.outcome in
@@ -46,6 +46,6 @@ returns c =
       sizes = c.in_ok-outcome.ensures.sizes ∙ c.in_ok-state.ensures.sizes;
       endian = c.in_ok-outcome.ensures.endian ∙ c.in_ok-state.ensures.endian;
       image = c.in_ok-state.ensures.image;
-      runs = run_alike has_cube (Matches d) cubes d.constructors (alike_sets d d.constructors cubes c.requires.compiled.sets) m.sections d.address_bytes (d.token_bits / 8) d.endian c.args.steps
+      runs = run_alike has_cube (Matches d) cubes d.constructors (alike_sets d d.constructors cubes c.requires.compiled.1.sets) m.sections d.address_bytes (d.token_bits / 8) d.endian c.args.steps
           start (byte_at c.run_steps.new.state) 0 o.ran o.counter o.stopped (image_bytes c.args.image.now start c.in_ok-state.ensures.image (λ i. let fits = c.type_inv.image i in omega arith)) with_sections;
     }

@@ -12,11 +12,11 @@ run_text-requires-clause-registers c =
     let d = description c.args.compiled.now.description in
     let m = resolution c.args.compiled.now.resolution in
     subst (λ (sizes : List ℕ). AllByRecursion (RegisterFits sizes) m.registers) (sym c.in_ok-state.ensures.sizes)
-    (registers_fit d m.registers (resolved_parts d m c.requires.compiled.resolved).0)
+    (registers_fit d m.registers (resolved_parts d m c.requires.compiled.1.resolved).0)
 
 pub returns : goal.returns
 returns c =
     let d = description c.args.compiled.now.description in
     let m = resolution c.args.compiled.now.resolution in
-    ran_is d m c.args.image.now c.args.steps c.in_ok-opening.opening c.in_ok-state.state c.in_ok-state.outcome c.in_ok-lines.lines.items c.requires.compiled.resolved
-    c.requires.compiled.describes.sound.definitions.greatest_address c.in_ok-opening.ensures c.in_ok-state.ensures c.in_ok-lines.ensures
+    ran_is d m c.args.image.now c.args.steps c.in_ok-opening.opening c.in_ok-state.state c.in_ok-state.outcome c.in_ok-lines.lines.items c.requires.compiled.1.resolved
+    c.requires.compiled.1.describes.sound.definitions.greatest_address c.in_ok-opening.ensures c.in_ok-state.ensures c.in_ok-lines.ensures
