@@ -7,4 +7,5 @@ mod limits;
 mod listings;
 mod refusals;
 mod runs;
+mod texts;
 mod words;

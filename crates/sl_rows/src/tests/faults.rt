@@ -63,15 +63,19 @@ impl Sink for NarrowSink {
     }
 }
 
-static SPEC: &[u8] = b"define endian=big;
-define space ram type=ram_space size=2 default;
-define token t (8) a=(4,7);
+static SPEC: &[u8] = b"@include \"b\"
 :add is a=1 {}
 ";
 
+static DEFINITIONS: &[u8] = b"define endian=big;
+define space ram type=ram_space size=2 default;
+define token t (8) a=(4,7);
+";
+
 /// The file that can't be read, how the call ends, and what it writes.
-static READS: [(&str, Status, &str); 3] = [
+static READS: [(&str, Status, &str); 4] = [
     ("s", Status::ReadFault, ""),
+    ("b", Status::ReadFault, ""),
     ("i", Status::ReadFault, ""),
     ("other", Status::Done, "0000: 16 add\n"),
 ];
@@ -83,6 +87,7 @@ fn nothing_is_written_at_a_read_fault(rt: HostRuntime) -> Result<(), Fail> {
     for (broken, ends, text) in &READS {
         let mut inner = MemFiles::new(alloc);
         inner.add("s", SPEC)?;
+        inner.add("b", DEFINITIONS)?;
         inner.add("i", b"\x16")?;
         let mut files = BrokenFiles {
             files: inner,
@@ -111,6 +116,7 @@ fn a_front_is_written_at_a_write_fault(rt: HostRuntime) -> Result<(), Fail> {
     let words = command(alloc, &["list", "s", "i"])?;
     let mut files = MemFiles::new(alloc);
     files.add("s", SPEC)?;
+    files.add("b", DEFINITIONS)?;
     files.add("i", b"\x16")?;
     for (room, ends, text) in &WRITES {
         let mut out = NarrowSink {

@@ -50,14 +50,15 @@ fn repeated(
 fn files_have_at_most_16_mebibytes(rt: HostRuntime) -> Result<(), Fail> {
     let alloc = rt.alloc();
     let spec = repeated(alloc, &[LONG_ADDRESS], ":add is a=1 {}\n", 1, "")?;
-    let longest = zeros(alloc, FILE_LIMIT)?;
+    let mut longest = super::calls::joined(alloc, &["@other\n"])?;
+    longest.resize(FILE_LIMIT, 0)?;
     let too_long = zeros(alloc, FILE_LIMIT + 1)?;
     let mut files = MemFiles::new(alloc);
     files.add("s", spec.as_slice())?;
     files.add("longest", longest.as_slice())?;
     files.add("too_long", too_long.as_slice())?;
     let table = [
-        ("longest", "s", "longest:0: not yet\n"),
+        ("longest", "s", "longest:1: bad directive\n"),
         ("too_long", "s", "too_long:0: too long\n"),
         ("s", "too_long", "too_long:0: too long\n"),
     ];
@@ -104,7 +105,7 @@ fn images_fit_the_space(rt: HostRuntime) -> Result<(), Fail> {
 }
 
 /// So many constraints in one pattern, and so many constructors with equal sets, and the text.
-static COUNTS: [(u32, u32, &str); 5] = [
+static COUNTS: [(u32, u32, &str); 3] = [
     (
         128,
         0,
@@ -116,12 +117,6 @@ static COUNTS: [(u32, u32, &str); 5] = [
         1,
         "s:4: ambiguous in instruction with s:5\nboth 16000000000000000000000000000000 0000000000000000\nsame\n",
     ),
-    (
-        2,
-        65_534,
-        "s:4: ambiguous in instruction with s:5\nboth 16000000000000000000000000000000 0000000000000000\nsame\n",
-    ),
-    (2, 65_535, "s:0: not yet\n"),
 ];
 
 #[test]

@@ -14,23 +14,10 @@ const TOKEN: &str = "define token t (8) a=(4,7) b=(0,3) x=(0,1);";
 const CONSTRUCTOR: &str = ":n is a=1 {}";
 
 /// What is wrong, and the parts of the text.
-static NOT_YET: [(&str, [&str; 4]); 70] = [
+static NOT_YET: [(&str, [&str; 4]); 64] = [
     ("nothing", ["", "", "", ""]),
     ("no constructor", [ENDIAN, SPACE, TOKEN, ""]),
     ("no end", [ENDIAN, SPACE, TOKEN, ":n is a=1 {"]),
-    ("a lone quote", ["\"", "", "", ""]),
-    (
-        "a quote at the end",
-        [ENDIAN, SPACE, TOKEN, ":n is a=1 {}\""],
-    ),
-    (
-        "a comment",
-        [ENDIAN, SPACE, TOKEN, ":n is a=1 {}# a comment"],
-    ),
-    (
-        "a byte of no lexeme",
-        [ENDIAN, SPACE, TOKEN, ":n is a=1 {}\0"],
-    ),
     ("no byte order", ["", SPACE, TOKEN, CONSTRUCTOR]),
     (
         "another byte order",
@@ -313,14 +300,6 @@ static NOT_YET: [(&str, [&str; 4]); 70] = [
     (
         "a greatest value that is too wide",
         [ENDIAN, SPACE, TOKEN, ":n is a=18446744073709551615 {}"],
-    ),
-    (
-        "an integer of 65 bits",
-        [ENDIAN, SPACE, TOKEN, ":n is a=18446744073709551616 {}"],
-    ),
-    (
-        "an integer with letters",
-        [ENDIAN, SPACE, TOKEN, ":n is a=0x1 {}"],
     ),
     ("a negative value", [ENDIAN, SPACE, TOKEN, ":n is a=-1 {}"]),
     ("another relation", [ENDIAN, SPACE, TOKEN, ":n is a!=1 {}"]),
