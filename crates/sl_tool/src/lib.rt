@@ -1,11 +1,14 @@
 //! The tool as one call: [`run_tool`] takes the words of a command line, reads the files that they
 //! name, writes one text and gives a [`Status`].
 //!
-//! The one request so far is `list SPEC IMAGE`. The specification's text is read as a description of
-//! one space, one token and constructors that test fields for equality; each constructor becomes a
+//! `list SPEC IMAGE` prints a listing, and `run SPEC IMAGE [--steps N]` runs instructions and prints
+//! registers, changed memory and the fault. For both, the specification's main file is expanded, the
+//! text is split into tokens, and the tokens are read as a description: one space, one token, registers,
+//! and constructors that test fields for equality and may add to registers. Each constructor becomes a
 //! set of points, a cube. Where two sets are in conflict the specification is refused as ambiguous;
-//! otherwise the image is listed, and at each place the one most specific matching constructor is
-//! chosen. `specs/Answers.antt` says which text and status that makes.
+//! otherwise the one most specific matching constructor is chosen at each place.
+//! `specs/Verdicts.antt` says what becomes of a specification, and `specs/Answers.antt` which text and
+//! status answer a request.
 #![tactic(auto)]
 
 mod answer;

@@ -16,6 +16,6 @@ pub enum Status {
     WriteFault,
     /// Memory ran out. Nothing was written, or a front of the text.
     NoMemory,
-    /// A run met a fault. No call ends so yet.
+    /// A run met a fault: no constructor matches where it would go on.
     Stopped,
 }

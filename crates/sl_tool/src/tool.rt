@@ -17,11 +17,11 @@ use std::alloc::Global;
 /// Answers the words of a command line, the program's name first, from these files, and writes the
 /// answer to the sink.
 ///
-/// At `Done`, `Refused` and `Usage` the whole text was written: the listing, the lines that say why
-/// the specification or the image is refused, or the usage line. At `ReadFault` nothing was written,
-/// and a fault of the files was counted in this call. At `WriteFault` a front of the text was
-/// written, and a fault of the sink was counted in this call. At `NoMemory` nothing was written, or
-/// a front of the text. `Stopped` doesn't come yet.
+/// At `Done`, `Refused`, `Usage` and `Stopped` the whole text was written: the listing or the run, the
+/// lines that say why the specification or the image is refused, the usage line, or the run up to its
+/// fault. At `ReadFault` nothing was written, and a fault of the files was counted in this call. At
+/// `WriteFault` a front of the text was written, and a fault of the sink was counted in this call. At
+/// `NoMemory` nothing was written, or a front of the text.
 pub fn run_tool<F: Files, K: Sink>(
     alloc: Global,
     words: &[String],
