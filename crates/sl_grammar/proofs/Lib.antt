@@ -1,0 +1,6 @@
+pub mod Steps
+pub mod Measures
+pub mod ExpressionSteps
+pub mod ExpressionComplete
+pub mod PatternComplete
+pub mod Taken

@@ -1,0 +1,5 @@
+pub mod Reader
+pub mod Lists
+pub mod Climb
+pub mod Expressions
+pub mod Patterns

@@ -1,0 +1,4 @@
+//! Laws of the definitions.
+
+/// Nothing so far.
+pub fn nothing() {}
