@@ -4,3 +4,5 @@ pub mod ExpressionSteps
 pub mod ExpressionComplete
 pub mod PatternComplete
 pub mod Taken
+pub mod ExpressionSound
+pub mod ListsTaken
