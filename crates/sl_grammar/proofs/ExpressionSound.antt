@@ -37,7 +37,7 @@ Sound kind n p = (i j : Input) (e : Expression) → p i ≡ Ok (e, j) → Reads 
 abbrev SoundInner : Kind → (ℕ → Reader Expression) → Type 0
 SoundInner kind inner = (n : ℕ) → Sound kind n (inner n)
 
-some_is : {A : Type 0} {a b : A} → ◌≡◌ {A = Option A} (Some a) (Some b) → a ≡ b
+pub some_is : {A : Type 0} {a b : A} → ◌≡◌ {A = Option A} (Some a) (Some b) → a ≡ b
 some_is e = cc
 
 binary_is : (k : Mark) (op : BinaryOp) → binary_of k ≡ Some op → k ≡ binary_mark op

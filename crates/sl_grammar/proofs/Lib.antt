@@ -6,3 +6,6 @@ pub mod PatternComplete
 pub mod Taken
 pub mod ExpressionSound
 pub mod ListsTaken
+pub mod PatternSound
+pub mod LocalSteps
+pub mod ExpressionLocal

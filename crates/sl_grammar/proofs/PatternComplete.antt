@@ -124,7 +124,7 @@ of_ellipsis : (inner : ℕ → Reader Pattern) (i : Input) (p : Pattern) (rest :
 unfolding element same_mark enter
 of_ellipsis inner i p rest s h = rw h refl
 
-abbrev Climbs : ℕ → ℕ → ℕ → Pattern → Reader Pattern
+abbrev pub Climbs : ℕ → ℕ → ℕ → Pattern → Reader Pattern
 Climbs k n m p = climb (pattern_turn n) pattern_right_rank joined (pattern k) m p
 
 climb_stops : (k n m : ℕ) (p : Pattern) (rest : List Sym) (s : ℕ) → pattern_turn n p (first rest) ≡ None → Climbs k n m p (at rest s) ≡ Ok (p, at rest s)

@@ -3,3 +3,4 @@ pub mod Lists
 pub mod Climb
 pub mod Expressions
 pub mod Patterns
+pub mod Parallel
