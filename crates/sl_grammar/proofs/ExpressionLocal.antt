@@ -125,7 +125,7 @@ prefixed_local kind inner here op = local_then enter _ local_enter (λ _. local_
 space_local : (kind : Kind) (inner : ℕ → Reader Expression) → Local (Option Name) (space_in kind inner)
 unfolding space_in
 space_local kind inner =
-    local_optional m.OpenBracket (enter >> (name_here >>= (λ w. expect m.CloseBracket >> pure w)))
+    local_optional (is_mark m.OpenBracket) (enter >> (name_here >>= (λ w. expect m.CloseBracket >> pure w)))
     (local_then enter _ local_enter (λ _. local_then name_here _ local_name (λ w. local_then (expect m.CloseBracket) _ (local_expect m.CloseBracket) (λ _. local_pure w))))
 
 starred_local : (kind : Kind) (inner : ℕ → Reader Expression) → LocalInner inner → Local Expression (starred kind inner)

@@ -9,3 +9,4 @@ pub mod ListsTaken
 pub mod PatternSound
 pub mod LocalSteps
 pub mod ExpressionLocal
+pub mod Rules

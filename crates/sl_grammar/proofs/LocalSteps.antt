@@ -117,12 +117,12 @@ pub local_size : Local ℕ size_here
 unfolding size_here
 local_size = local_peek size_by size_by_local
 
-pub local_optional : {A : Type 0} (k : Mark) (p : Reader A) → Local A p → Local (Option A) (optional k p)
-local_optional k p here = local_look (is_mark k) (p >>= (λ a. pure (Some a))) (pure None) (local_then p _ here (λ a. local_pure (Some a))) (local_pure None)
+pub local_optional : {A : Type 0} (test : Option Sym → Bool) (p : Reader A) → Local A p → Local (Option A) (optional test p)
+local_optional test p here = local_look test (p >>= (λ a. pure (Some a))) (pure None) (local_then p _ here (λ a. local_pure (Some a))) (local_pure None)
 
 pub local_size_option : Local (Option ℕ) size_option
 unfolding size_option
-local_size_option = local_optional m.Colon (skip >> size_here) (local_skips size_here local_size)
+local_size_option = local_optional (is_mark m.Colon) (skip >> size_here) (local_skips size_here local_size)
 
 enter_alike : (x : Sym) (xs ys zs : List Sym) (r : ℕ) → Parallel (Unit {0}) (x ∷ ys) (x ∷ zs) (enter (at (xs ++ x ∷ ys) r)) (enter (at (xs ++ x ∷ zs) r))
 unfolding enter

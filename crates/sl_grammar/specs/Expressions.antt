@@ -148,7 +148,7 @@ module _ (kind : Kind) (inner : ℕ → Reader Expression) where
     pure (prefix op e)
 
   unfoldable pub space_in : Reader (Option Name)
-  space_in = optional m.OpenBracket (do enter; w ← name_here; expect m.CloseBracket; pure w)
+  space_in = optional (is_mark m.OpenBracket) (do enter; w ← name_here; expect m.CloseBracket; pure w)
 
   unfoldable pub starred : Reader Expression
   starred = do

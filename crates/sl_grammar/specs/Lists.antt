@@ -19,3 +19,7 @@ separated_from p (suc n) found = p >>= (λ a. look (is_mark m.Comma) (skip >> se
 
 abbrev pub separated : {A : Type 0} → Reader A → Reader (List A)
 separated p = λ i. separated_from p (suc (left i)) [] i
+
+-- such a list, which may be empty, before a closing bracket
+unfoldable pub listed : {A : Type 0} → Reader A → Reader (List A)
+listed p = look (is_mark m.Close) (pure []) (separated p)

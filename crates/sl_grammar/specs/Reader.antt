@@ -143,10 +143,10 @@ size_by o = refuse
 unfoldable pub size_here : Reader ℕ
 size_here = peek >>= size_by
 
--- what may lack: it is there where the mark comes next
-abbrev pub optional : {A : Type 0} → Mark → Reader A → Reader (Option A)
-optional k p = look (is_mark k) (p >>= (λ a. pure (Some a))) (pure None)
+-- what may lack: it is there where the symbol that comes next passes the test
+abbrev pub optional : {A : Type 0} → (Option Sym → Bool) → Reader A → Reader (Option A)
+optional test p = look test (p >>= (λ a. pure (Some a))) (pure None)
 
 -- `:n`, which may lack
 unfoldable pub size_option : Reader (Option ℕ)
-size_option = optional m.Colon (skip >> size_here)
+size_option = optional (is_mark m.Colon) (skip >> size_here)
