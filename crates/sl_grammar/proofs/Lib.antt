@@ -10,3 +10,4 @@ pub mod PatternSound
 pub mod LocalSteps
 pub mod ExpressionLocal
 pub mod Rules
+pub mod PartRules

@@ -4,3 +4,4 @@ pub mod Climb
 pub mod Expressions
 pub mod Patterns
 pub mod Parallel
+pub mod Statements
