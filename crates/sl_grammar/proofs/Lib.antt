@@ -11,3 +11,4 @@ pub mod LocalSteps
 pub mod ExpressionLocal
 pub mod Rules
 pub mod PartRules
+pub mod StatementRules
