@@ -12,3 +12,5 @@ pub mod ExpressionLocal
 pub mod Rules
 pub mod PartRules
 pub mod StatementRules
+pub mod BodyRules
+pub mod DefinitionRules

@@ -49,6 +49,13 @@ local_back feature = record {
   forward = λ i ys h. tt;
 }
 
+-- a form that began two symbols before
+pub local_deep : {A : Type 0} (feature : Feature) → Local A (λ i. Err (fault (unsupported feature) (suc (suc (left i)))))
+local_deep feature = record {
+  alike = λ x xs ys zs r. both_fault (unsupported feature) (suc (suc (length xs))) _ _ (omega (arith, length-append xs (x ∷ ys))) (omega (arith, length-append xs (x ∷ zs)));
+  forward = λ i ys h. tt;
+}
+
 first_alike : (x : Sym) (xs ys zs : List Sym) → first (xs ++ x ∷ ys) ≡ first (xs ++ x ∷ zs)
 first_alike x [] ys zs = refl
 first_alike x (w ∷ xs) ys zs = refl

@@ -56,7 +56,7 @@ all_may : {A : Type 0} (spell : Spelling A) (Good : A → Type 0) (May : List Sy
 all_may spell Good May goes parts [] rest goods may = may
 all_may spell Good May goes parts (a ∷ as') rest goods may = parts.follows a (spell_all spell as' rest) goods.0
 
-long_all : {A : Type 0} (spell : Spelling A) → Long spell → (as' : List A) (rest : List Sym) → length rest ≤ length (spell_all spell as' rest)
+pub long_all : {A : Type 0} (spell : Spelling A) → Long spell → (as' : List A) (rest : List Sym) → length rest ≤ length (spell_all spell as' rest)
 long_all spell long [] rest = omega arith
 long_all spell long (a ∷ as') rest = omega (arith, long a (spell_all spell as' rest), long_all spell long as' rest)
 

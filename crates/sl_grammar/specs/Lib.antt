@@ -5,3 +5,4 @@ pub mod Expressions
 pub mod Patterns
 pub mod Parallel
 pub mod Statements
+pub mod Definitions
