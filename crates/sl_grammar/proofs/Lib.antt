@@ -14,3 +14,4 @@ pub mod PartRules
 pub mod StatementRules
 pub mod BodyRules
 pub mod DefinitionRules
+pub mod ConstructorRules

@@ -64,11 +64,12 @@ separated_ok spell cost Good p sound (suc n) found i j as' e =
     ]
 
 -- parts one behind the other
-pub record TookMany {A : Type 0} (spell : Spelling A) (Good : A → Type 0) (found : List A) (i : Input) (as' : List A) (j : Input) : Type 0 where
+pub record TookMany {A : Type 0} (spell : Spelling A) (Good : A → Type 0) (goes : Option Sym → Bool) (found : List A) (i : Input) (as' : List A) (j : Input) : Type 0 where
   pub new : List A
   pub whole : found ++ new ≡ as'
   pub tokens : i.rest ≡ spell_all spell new j.rest
   pub goods : Each Good new
+  pub ended : goes (first j.rest) ≡ false
 
 -- what a reader outside expressions took
 pub record Takes {A : Type 0} (spell : Spelling A) (Good : A → Type 0) (i : Input) (a : A) (j : Input) : Type 0 where
@@ -77,7 +78,7 @@ pub record Takes {A : Type 0} (spell : Spelling A) (Good : A → Type 0) (i : In
 
 pub many_ok : {A : Type 0} (spell : Spelling A) (Good : A → Type 0) (goes : Option Sym → Bool) (p : Reader A)
     → ((i j : Input) (a : A) → p i ≡ Ok (a, j) → Takes spell Good i a j) → (n : ℕ) (found : List A) (i j : Input) (as' : List A)
-    → many_from goes p n found i ≡ Ok (as', j) → TookMany spell Good found i as' j
+    → many_from goes p n found i ≡ Ok (as', j) → TookMany spell Good goes found i as' j
 unfolding many_from
 many_ok spell Good goes p sound zero found i j as' e = absurd (cc)
 many_ok spell Good goes p sound (suc n) found i j as' e =
@@ -91,6 +92,7 @@ many_ok spell Good goes p sound (suc n) found i j as' e =
             whole = sym (append_assoc found (a.0 ∷ []) more.new) ∙ more.whole;
             tokens = part.tokens ∙ ap (spell a.0) more.tokens;
             goods = (part.good, more.goods);
+            ended = more.ended;
           }
-      | inr h ↦ along (λ bs l. TookMany spell Good found i bs l) found as' i j h.1 (record { new = []; whole = append-nil found; tokens = refl; goods = tt })
+      | inr h ↦ along (λ bs l. TookMany spell Good goes found i bs l) found as' i j h.1 (record { new = []; whole = append-nil found; tokens = refl; goods = tt; ended = h.0 })
     ]

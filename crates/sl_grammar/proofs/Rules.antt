@@ -73,8 +73,9 @@ many_are spell Good May goes p rule long parts (a ∷ as') (suc n) found rest r 
     ∙ many_are spell Good May goes p rule long parts as' n (found ++ a ∷ []) rest r goods.1 off may (omega arith)
     ∙ ap (λ xs. Ok (xs, at rest r)) (append_assoc found (a ∷ []) as')
 
-many_takes : {A : Type 0} (spell : Spelling A) (Good : A → Type 0) (i : Input) (as' : List A) (j : Input) → TookMany spell Good [] i as' j → Takes (spell_all spell) (Each Good) i as' j
-many_takes spell Good i as' j took = subst (λ bs. Takes (spell_all spell) (Each Good) i bs j) took.whole (record { tokens = took.tokens; good = took.goods })
+many_takes : {A : Type 0} (spell : Spelling A) (Good : A → Type 0) (goes : Option Sym → Bool) (i : Input) (as' : List A) (j : Input) → TookMany spell Good goes [] i as' j
+    → Takes (spell_all spell) (Each Good) i as' j
+many_takes spell Good goes i as' j took = subst (λ bs. Takes (spell_all spell) (Each Good) i bs j) took.whole (record { tokens = took.tokens; good = took.goods })
 
 -- May of the whole list: the part's, and that the list is at its end
 abbrev pub Ends : (Option Sym → Bool) → (List Sym → Type 0) → List Sym → Type 0
@@ -84,7 +85,7 @@ pub many_rule : {A : Type 0} (spell : Spelling A) (Good : A → Type 0) (May : L
     → Parts spell Good May goes → Rule (spell_all spell) (Each Good) (Ends goes May) (many goes p)
 many_rule spell Good May goes p rule long parts = record {
   complete = λ as' rest r goods may. many_are spell Good May goes p rule long parts as' (suc (length (spell_all spell as' rest))) [] rest r goods may.0 may.1 (omega arith);
-  sound = λ i j as' e. many_takes spell Good i as' j (many_ok spell Good goes p rule.sound (suc (left i)) [] i j as' e);
+  sound = λ i j as' e. many_takes spell Good goes i as' j (many_ok spell Good goes p rule.sound (suc (left i)) [] i j as' e);
   here = local_many goes p rule.here (rule_shrinks spell Good May p rule long);
 }
 

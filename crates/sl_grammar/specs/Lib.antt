@@ -6,3 +6,4 @@ pub mod Patterns
 pub mod Parallel
 pub mod Statements
 pub mod Definitions
+pub mod Items
