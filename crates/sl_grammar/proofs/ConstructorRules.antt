@@ -49,7 +49,7 @@ stops_unimpl : (rest : List Sym) → PatternStops pattern_loosest (keyword k.Uni
 stops_unimpl rest = stops_by (keyword k.Unimpl ∷ rest) refl refl refl refl
 
 stops_section : (x : Section) (rest : List Sym) → PatternStops pattern_loosest (spell_section x rest)
-stops_section (statements body) rest = stops_brace _
+stops_section (statements found) rest = stops_brace _
 stops_section unimplemented rest = stops_unimpl rest
 
 stops_actions : (xs : Option (List Action)) (rest : List Sym) → PatternStops pattern_loosest rest → PatternStops pattern_loosest (spell_option spell_actions xs rest)

@@ -607,7 +607,7 @@ member_local = local_peek member_by member_by_local
 pub member_rule : Rule spell_member IsMember Any member
 member_rule = record { complete = λ x rest r good may. member_is x rest r good; sound = member_ok; here = member_local }
 
-long_member : (x : Member) (rest : List Sym) → length rest < length (spell_member x rest)
+pub long_member : (x : Member) (rest : List Sym) → length rest < length (spell_member x rest)
 long_member (member_word w) rest = omega arith
 long_member (member_text t) rest = omega arith
 long_member (member_integer n) rest = omega arith
@@ -622,3 +622,23 @@ member_begins (member_negative n) rest = refl
 
 pub members_rule : Rule (spell_all spell_member) (Each IsMember) (Ends (until m.CloseBracket) Any) (many (until m.CloseBracket) member)
 members_rule = many_rule spell_member IsMember Any (until m.CloseBracket) member member_rule long_member (record { begins = λ x rest good. member_begins x rest; follows = λ x rest good. tt })
+
+-- ---- how many symbols
+
+long_option : (x : Option ByteOrder) (rest : List Sym) → length rest ≤ length (spell_option spell_order x rest)
+long_option None rest = omega arith
+long_option (Some w) rest = omega arith
+
+pub long_names : (x : Names) (rest : List Sym) → length rest < length (spell_names x rest)
+long_names (one w) rest = omega arith
+long_names (several ws) rest = omega (arith, long_all spell_name (λ w zs. omega arith) ws (mark m.CloseBracket ∷ rest))
+
+pub long_definition : (d : Definition) (rest : List Sym) → length rest ≤ length (spell_definition d rest)
+long_definition (endian x) rest = omega arith
+long_definition (alignment n) rest = omega arith
+long_definition (space w attributes) rest = omega (arith, long_all spell_space_attribute long_space_attribute attributes rest)
+long_definition (bit_ranges head more) rest = omega (arith, long_all spell_bit_range (λ b zs. omega arith) more rest)
+long_definition (pcode_ops ws) rest = omega (arith, long_names ws rest)
+long_definition (token w size own fields) rest = omega (arith, long_option own (spell_all spell_field fields rest), long_all spell_field long_field fields rest)
+long_definition (context w fields) rest = omega (arith, long_all spell_field long_field fields rest)
+long_definition (registers w offset size ws) rest = omega (arith, long_names ws rest)

@@ -15,3 +15,4 @@ pub mod StatementRules
 pub mod BodyRules
 pub mod DefinitionRules
 pub mod ConstructorRules
+pub mod ItemRules

@@ -171,10 +171,10 @@ abbrev pub Shrinks : {A : Type 0} → Reader A → Type 0
 Shrinks p = (i j : Input) (a : _) → p i ≡ Ok (a, j) → length j.rest < length i.rest
 
 -- two readings with enough rounds are one
-abbrev Enough : {A : Type 0} → (ℕ → Reader A) → Type 0
+abbrev pub Enough : {A : Type 0} → (ℕ → Reader A) → Type 0
 Enough q = (m n : ℕ) (i : Input) → length i.rest < m → length i.rest < n → q m i ≡ q n i
 
-local_rounds : {A : Type 0} (q : ℕ → Reader A) → ((n : ℕ) → Local A (q n)) → Enough q → Local A (λ i. q (suc (length i.rest)) i)
+pub local_rounds : {A : Type 0} (q : ℕ → Reader A) → ((n : ℕ) → Local A (q n)) → Enough q → Local A (λ i. q (suc (length i.rest)) i)
 local_rounds {A} q here enough = record {
   alike = λ x xs ys zs r. (
     let first = at (xs ++ x ∷ ys) r in
@@ -194,13 +194,17 @@ many_from_local goes p here (suc n) found =
     local_look goes (p >>= (λ a. many_from goes p n (found ++ a ∷ []))) (pure found)
     (local_then p _ here (λ a. many_from_local goes p here n (found ++ a ∷ []))) (local_pure found)
 
-same_then : {A B : Type 0} (o : Outcome A) (f g : A → Reader B) → ((a : A) (j : Input) → o ≡ Ok (a, j) → f a j ≡ g a j) → and_then o f ≡ and_then o g
+pub same_then : {A B : Type 0} (o : Outcome A) (f g : A → Reader B) → ((a : A) (j : Input) → o ≡ Ok (a, j) → f a j ≡ g a j) → and_then o f ≡ and_then o g
 same_then (Ok p) f g h = h p.0 p.1 refl
 same_then (Err e) f g h = refl
 
-same_if : {A : Type 0} (b : Bool) (p q r : Reader A) (i : Input) → (b ≡ true → p i ≡ q i) → cond {A = Reader A} b p r i ≡ cond {A = Reader A} b q r i
+pub same_if : {A : Type 0} (b : Bool) (p q r : Reader A) (i : Input) → (b ≡ true → p i ≡ q i) → cond {A = Reader A} b p r i ≡ cond {A = Reader A} b q r i
 same_if true p q r i h = h refl
 same_if false p q r i h = refl
+
+pub same_else : {A : Type 0} (b : Bool) (p q r : Reader A) (i : Input) → q i ≡ r i → cond {A = Reader A} b p q i ≡ cond {A = Reader A} b p r i
+same_else true p q r i h = refl
+same_else false p q r i h = h
 
 many_enough : {A : Type 0} (goes : Option Sym → Bool) (p : Reader A) → Shrinks p → (m n : ℕ) (found : List A) (i : Input) → length i.rest < m → length i.rest < n
     → many_from goes p m found i ≡ many_from goes p n found i
