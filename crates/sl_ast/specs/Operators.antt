@@ -1,7 +1,7 @@
 -- The operators: their marks, how tight they bind, and which expressions take them.
-use Rattle.std.specs.Prelude.{ℕ, suc, Bool, true, false, cond, ◌==◌, Option, None, Some, List, [], ◌∷◌, codes}
+use Rattle.std.specs.Prelude.{ℕ, suc, Bool, true, false, cond, ◌==◌, Option, List, [], ◌∷◌, codes}
 use Rattle.sl_ast.specs.Symbols.{find}
-use Rattle.sl_ast.specs.Trees.{Name, Expression, integer, named, paren, call, sized, dropped, bits, prefix, star, binary, Pattern, bare, constraint, group, ellipsis, joined}
+use Rattle.sl_ast.specs.Trees.{Name, Expression, integer, named, paren, call, binary, Pattern, bare, constraint, group, joined}
 use Rattle.sl_ast.specs.declared.expressions.BinaryOp.{BinaryOp}
 use Rattle.sl_ast.specs.declared.expressions.BinaryOp.TheVariants as b
 use Rattle.sl_ast.specs.declared.expressions.PrefixOp.{PrefixOp}

@@ -1,8 +1,7 @@
 -- A specification without its `with` blocks: each constructor of a block stands in the block's place, with the
 -- table, the pattern and the actions that the blocks round it give it (SLEIGH manual, "The with block").
-use Rattle.std.specs.Prelude.{ℕ, ◌+◌, ◌-◌, List, [], ◌∷◌, ◌++◌, length, Option, None, Some}
-use Rattle.sl_ast.specs.Symbols.{Sym}
-use Rattle.sl_ast.specs.Trees.{Name, Pattern, group, joined, Action, Constructor, Head, Inside, nothing, constructor_then, block_then, Item, define, attach_list, attach_one, macro, constructor, block}
+use Rattle.std.specs.Prelude.{ℕ, ◌+◌, List, [], ◌∷◌, ◌++◌, length, Option, None, Some}
+use Rattle.sl_ast.specs.Trees.{Pattern, group, joined, Action, Constructor, Head, Inside, nothing, constructor_then, block_then, Item, constructor, block}
 use Rattle.sl_ast.specs.Spelling.{spell_head, spell_constructor, spell_item}
 use Rattle.sl_ast.specs.declared.patterns.PatternOp.TheVariants.{And}
 

@@ -1,10 +1,9 @@
 -- Which trees stand for a text: operators bind as the language says, each form stands where it may, no form
 -- is left out by the language, and no expression, pattern or block goes past its limit.
-use Rattle.std.specs.Prelude.{◌≡◌, ℕ, zero, suc, ◌+◌, ◌≤◌, Bool, true, List, [], ◌∷◌, Option, None, Some}
+use Rattle.std.specs.Prelude.{◌≡◌, ℕ, zero, suc, ◌+◌, ◌≤◌, true, List, [], ◌∷◌, Option, None, Some}
 use Rattle.sl_ast.specs.Symbols.{Word, plain, quoted}
-use Rattle.sl_ast.specs.Trees.{Name, Expression, Expressions, integer, named, paren, call, sized, dropped, bits, prefix, star, binary, no_more, with_more, Pattern, bare, constraint, group, ellipsis, joined, Operand, Action, set, global_set, StarForm, Left, left_name, left_bits, left_star, Direct, Dest, direct, computed, Target, calls, calls_computed, Exported, exports, exports_star, Statement, local, declare, assign, goto, branch, call_to, return, build, export, invoke, label, SpaceAttribute, of_type, of_size, of_word_size, is_default, Definition, endian, alignment, space, bit_ranges, pcode_ops, token, context, registers, Member, member_word, member_text, member_integer, member_negative, Piece, piece_word, piece_text, piece_blank, piece_caret, piece_char, Section, statements, unimplemented, Constructor, Head, Inside, nothing, constructor_then, block_then, Macro, Item, define, attach_list, attach_one, macro, constructor, block}
+use Rattle.sl_ast.specs.Trees.{Name, Expression, Expressions, integer, named, paren, call, sized, dropped, bits, prefix, star, binary, no_more, with_more, Pattern, bare, constraint, group, ellipsis, joined, Action, set, global_set, StarForm, Left, left_name, left_bits, left_star, Dest, direct, computed, Target, calls, calls_computed, Exported, exports, exports_star, Statement, local, declare, assign, goto, branch, call_to, return, build, export, invoke, label, SpaceAttribute, of_type, of_size, of_word_size, is_default, Definition, space, Member, member_word, Piece, piece_word, Section, statements, unimplemented, Constructor, Head, Inside, nothing, constructor_then, block_then, Item, define, attach_list, attach_one, macro, constructor, block}
 use Rattle.sl_ast.specs.Operators.{rank, right_rank, left_rank, pattern_rank, pattern_right_rank, Kind, in_section, in_action, in_constraint, is_section, has_names, has_prefix, has_operator, takes_size, takes_bits, takes_drop, takes_ellipsis, missing_function, missing_statement, widest}
-use Rattle.sl_ast.specs.declared.symbols.Keyword.{Keyword}
 use Rattle.sl_ast.specs.declared.symbols.Keyword.TheVariants as k
 
 abbrev pub Each : {A : Type 0} → (A → Type 0) → List A → Type 0

@@ -1,17 +1,16 @@
 -- The rules of sections' bodies and of lists of actions.
-use Rattle.std.proofs.Common.{◌≡◌, ℕ, zero, suc, ◌+◌, ◌<◌, ◌≤◌, Bool, true, false, not, List, [], ◌∷◌, length, Option, None, Some, Ok, refl, ap, sym, ◌∙◌, arith}
-use Rattle.sl_ast.specs.Operators.{in_section, in_action, loosest}
-use Rattle.sl_ast.specs.Spelling.{Spelling, name, keyword, spell_option, spell_space, spell_size, spell_expression, spell_star, spell_value, spell_label, spell_computed, spell_direct, spell_dest, spell_target, spell_exported, spell_operand, spell_left, spell_statement, spell_commas, spell_separated, spell_all, spell_body, spell_action, spell_actions}
-use Rattle.sl_ast.specs.Symbols.{Word, plain, quoted, Sym, number, word, mark}
+use Rattle.std.proofs.Common.{◌≡◌, ℕ, ◌<◌, ◌≤◌, true, List, [], ◌∷◌, length, Option, None, Some, Ok, refl, arith}
+use Rattle.sl_ast.specs.Operators.{in_action}
+use Rattle.sl_ast.specs.Spelling.{Spelling, name, keyword, spell_option, spell_size, spell_expression, spell_star, spell_value, spell_direct, spell_dest, spell_target, spell_exported, spell_operand, spell_left, spell_statement, spell_commas, spell_separated, spell_all, spell_body, spell_action, spell_actions}
+use Rattle.sl_ast.specs.Symbols.{quoted, Sym, word, mark}
 use Rattle.sl_ast.specs.Trees.{Name, Expression, Operand, by_name, by_integer, Action, set, global_set, StarForm, Left, left_name, left_bits, left_star, Direct, to_label, to_operand, Dest, direct, computed, Target, calls, calls_computed, Exported, exports, exports_star, Statement, local, declare, assign, goto, branch, call_to, return, build, export, invoke, label}
 use Rattle.sl_ast.specs.Validity.{Each, IsExpression, IsStatement, IsAction}
 use Rattle.sl_ast.specs.declared.symbols.Keyword.TheVariants as k
-use Rattle.sl_ast.specs.declared.symbols.Mark.{Mark}
 use Rattle.sl_ast.specs.declared.symbols.Mark.TheVariants as m
 use Rattle.sl_grammar.specs.Expressions.{whole}
 use Rattle.sl_grammar.specs.Lists.{many}
 use Rattle.sl_grammar.specs.Parallel.{Local}
-use Rattle.sl_grammar.specs.Reader.{Input, at, first, Reader, ◌>>=◌, ◌>>◌, pure, is_mark, same_mark, same_keyword, expect, expect_keyword, name_here}
+use Rattle.sl_grammar.specs.Reader.{Input, at, first, same_mark, same_keyword, expect, expect_keyword, name_here}
 use Rattle.sl_grammar.specs.Statements.{operand, statement, until, body, set_here, global_set_here, action_by, action, actions}
 use Rattle.sl_grammar.proofs.ExpressionComplete as ec
 use Rattle.sl_grammar.proofs.ExpressionLocal.{whole_local}
@@ -19,7 +18,7 @@ use Rattle.sl_grammar.proofs.ListsTaken.{Takes}
 use Rattle.sl_grammar.proofs.LocalSteps.{local_then, local_pure, local_peek, local_expect, local_expect_keyword, local_name}
 use Rattle.sl_grammar.proofs.Measures.{long_expression, long_space, long_size}
 use Rattle.sl_grammar.proofs.PartRules.{symbol_then, tree_then, whole_takes, Free, stops_semicolon, operand_rule}
-use Rattle.sl_grammar.proofs.Rules.{Rule, Any, Ends, Long, Parts, many_rule, long_all}
+use Rattle.sl_grammar.proofs.Rules.{Rule, Any, Ends, Long, many_rule, long_all}
 use Rattle.sl_grammar.proofs.StatementRules.{statement_rule}
 use Rattle.sl_grammar.proofs.Taken.{then_ok, along, expect_ok, expect_keyword_ok, name_ok}
 
@@ -120,7 +119,7 @@ body_ok i j ss h =
     let found = statements_rule.sound a.1 b.1 b.0 b.2 in
     along (λ y l. Takes spell_body (Each IsStatement) i y l) b.0 ss c.1 j c.3 (record {
       tokens = symbol_then i (mark m.OpenBrace) a.1 _ (expect_ok m.OpenBrace i a.1 a.0 a.2)
-        (tree_then (spell_all spell_statement) (Each IsStatement) a.1 b.0 b.1 _ found (expect_ok m.CloseBrace b.1 c.1 c.0 c.2).tokens);
+          (tree_then (spell_all spell_statement) (Each IsStatement) a.1 b.0 b.1 _ found (expect_ok m.CloseBrace b.1 c.1 c.0 c.2).tokens);
       good = found.good;
     })
 
@@ -151,7 +150,7 @@ set_ok i j x h =
     let value = whole_takes in_action b.1 c.1 c.0 c.2 in
     along (λ y l. Takes spell_action IsAction i y l) (set a.0 c.0) x d.1 j d.3 (record {
       tokens = symbol_then i (name a.0) a.1 _ (name_ok i a.1 a.0 a.2) (symbol_then a.1 (mark m.Equals) b.1 _ (expect_ok m.Equals a.1 b.1 b.0 b.2)
-        (tree_then spell_expression (IsExpression in_action) b.1 c.0 c.1 _ value (expect_ok m.Semicolon c.1 d.1 d.0 d.2).tokens));
+          (tree_then spell_expression (IsExpression in_action) b.1 c.0 c.1 _ value (expect_ok m.Semicolon c.1 d.1 d.0 d.2).tokens));
       good = value.good;
     })
 
@@ -176,9 +175,9 @@ global_set_ok i j x h =
     let g = then_ok (expect m.Semicolon f.1) _ x j f.3 in
     along (λ y l. Takes spell_action IsAction i y l) (global_set c.0 e.0) x g.1 j g.3 (record {
       tokens = symbol_then i (keyword k.GlobalSet) a.1 _ (expect_keyword_ok k.GlobalSet i a.1 a.0 a.2) (symbol_then a.1 (mark m.Open) b.1 _ (expect_ok m.Open a.1 b.1 b.0 b.2)
-        (tree_then spell_operand Free b.1 c.0 c.1 _ (operand_rule.sound b.1 c.1 c.0 c.2) (symbol_then c.1 (mark m.Comma) d.1 _ (expect_ok m.Comma c.1 d.1 d.0 d.2)
+          (tree_then spell_operand Free b.1 c.0 c.1 _ (operand_rule.sound b.1 c.1 c.0 c.2) (symbol_then c.1 (mark m.Comma) d.1 _ (expect_ok m.Comma c.1 d.1 d.0 d.2)
           (symbol_then d.1 (name e.0) e.1 _ (name_ok d.1 e.1 e.0 e.2) (symbol_then e.1 (mark m.Close) f.1 _ (expect_ok m.Close e.1 f.1 f.0 f.2)
-            (expect_ok m.Semicolon f.1 g.1 g.0 g.2).tokens)))));
+          (expect_ok m.Semicolon f.1 g.1 g.0 g.2).tokens)))));
       good = tt;
     })
 
@@ -186,7 +185,7 @@ global_set_local : Local Action global_set_here
 unfolding global_set_here
 global_set_local = local_then (expect_keyword k.GlobalSet) _ (local_expect_keyword k.GlobalSet) (λ _. local_then (expect m.Open) _ (local_expect m.Open) (λ _. local_then operand _ operand_rule.here
     (λ to. local_then (expect m.Comma) _ (local_expect m.Comma) (λ _. local_then name_here _ local_name (λ w. local_then (expect m.Close) _ (local_expect m.Close)
-      (λ _. local_then (expect m.Semicolon) _ (local_expect m.Semicolon) (λ _. local_pure (global_set to w))))))))
+    (λ _. local_then (expect m.Semicolon) _ (local_expect m.Semicolon) (λ _. local_pure (global_set to w))))))))
 
 action_is : (x : Action) (rest : List Sym) (r : ℕ) → IsAction x → action (at (spell_action x rest) r) ≡ Ok (x, at rest r)
 unfolding action
@@ -244,7 +243,7 @@ actions_ok i j xs h =
     let found = many_actions_rule.sound a.1 b.1 b.0 b.2 in
     along (λ y l. Takes spell_actions (Each IsAction) i y l) b.0 xs c.1 j c.3 (record {
       tokens = symbol_then i (mark m.OpenBracket) a.1 _ (expect_ok m.OpenBracket i a.1 a.0 a.2)
-        (tree_then (spell_all spell_action) (Each IsAction) a.1 b.0 b.1 _ found (expect_ok m.CloseBracket b.1 c.1 c.0 c.2).tokens);
+          (tree_then (spell_all spell_action) (Each IsAction) a.1 b.0 b.1 _ found (expect_ok m.CloseBracket b.1 c.1 c.0 c.2).tokens);
       good = found.good;
     })
 

@@ -1,31 +1,29 @@
 -- The rules of constructors and of what stands before a block.
-use Rattle.std.proofs.Common.{◌≡◌, ℕ, zero, suc, ◌+◌, ◌<◌, ◌≤◌, ◌&&◌, Bool, true, false, not, List, [], ◌∷◌, length, Option, None, Some, Ok, refl, ap, sym, ◌∙◌, arith}
-use Rattle.sl_ast.specs.Operators.{Kind, in_constraint, is_section, loosest, pattern_loosest, pattern_mark}
-use Rattle.sl_ast.specs.Spelling.{Spelling, name, keyword, spell_name, spell_option, spell_all, spell_pattern, spell_actions, spell_body, spell_piece, spell_section, spell_constructor, spell_head}
-use Rattle.sl_ast.specs.Symbols.{Word, plain, quoted, Sym, number, word, text, mark, blank, caret, char}
-use Rattle.sl_ast.specs.Trees.{Name, Expression, Pattern, bare, constraint, group, ellipsis, joined, Action, Piece, piece_word, piece_text, piece_blank, piece_caret, piece_char, Section, statements, unimplemented, Statement, Constructor, Head}
+use Rattle.std.proofs.Common.{◌≡◌, ℕ, ◌<◌, ◌≤◌, true, false, List, ◌∷◌, length, Option, None, Some, Ok, refl, arith}
+use Rattle.sl_ast.specs.Operators.{in_constraint, pattern_loosest, pattern_mark}
+use Rattle.sl_ast.specs.Spelling.{keyword, spell_name, spell_option, spell_all, spell_pattern, spell_actions, spell_body, spell_piece, spell_section, spell_constructor, spell_head}
+use Rattle.sl_ast.specs.Symbols.{plain, quoted, Sym, word, text, mark, blank, caret, char}
+use Rattle.sl_ast.specs.Trees.{Name, Pattern, bare, constraint, group, ellipsis, joined, Action, Piece, piece_word, piece_text, piece_blank, piece_caret, piece_char, Section, statements, unimplemented, Constructor, Head}
 use Rattle.sl_ast.specs.Validity.{Each, IfWritten, IsPattern, IsAction, IsStatement, IsPiece, IsSection, IsConstructor, IsHead}
-use Rattle.sl_ast.specs.declared.symbols.Keyword.{Keyword}
 use Rattle.sl_ast.specs.declared.symbols.Keyword.TheVariants as k
-use Rattle.sl_ast.specs.declared.symbols.Mark.{Mark}
 use Rattle.sl_ast.specs.declared.symbols.Mark.TheVariants as m
 use Rattle.sl_grammar.specs.Expressions.{operator_of}
 use Rattle.sl_grammar.specs.Items.{is_name, is_shown, piece_by, piece, section_by, section, constructor_here, is_pattern, head}
 use Rattle.sl_grammar.specs.Lists.{many}
 use Rattle.sl_grammar.specs.Parallel.{Local}
 use Rattle.sl_grammar.specs.Patterns.{relation_in, joining_in, whole_pattern}
-use Rattle.sl_grammar.specs.Reader.{Input, at, first, Reader, ◌>>=◌, ◌>>◌, pure, skip, next, is_mark, is_keyword, same_mark, same_keyword, expect, expect_keyword, name_here, optional}
+use Rattle.sl_grammar.specs.Reader.{Input, at, first, pure, is_mark, same_mark, same_keyword, expect, expect_keyword, name_here, optional}
 use Rattle.sl_grammar.specs.Statements.{body, actions}
 use Rattle.sl_grammar.proofs.BodyRules.{body_rule, long_body, actions_rule, long_actions}
 use Rattle.sl_grammar.proofs.DefinitionRules.{took_one}
-use Rattle.sl_grammar.proofs.ExpressionSteps.{Closed, Stops, no_turn}
+use Rattle.sl_grammar.proofs.ExpressionSteps.{no_turn}
 use Rattle.sl_grammar.proofs.ListsTaken.{Takes}
 use Rattle.sl_grammar.proofs.LocalSteps.{local_then, local_pure, local_peek, local_refuse, local_skips, local_expect, local_expect_keyword}
 use Rattle.sl_grammar.proofs.Measures.{long_pattern}
 use Rattle.sl_grammar.proofs.PartRules.{symbol_then, tree_then, Free, name_rule, pattern_rule, wrap_ok, wrap_local}
-use Rattle.sl_grammar.proofs.PatternComplete.{Follows, PatternStops, no_pattern_turn}
-use Rattle.sl_grammar.proofs.Rules.{Rule, Any, Ends, Long, many_rule, long_all, optional_rule}
-use Rattle.sl_grammar.proofs.Taken.{then_ok, along, Took, took_next, expect_ok, expect_keyword_ok}
+use Rattle.sl_grammar.proofs.PatternComplete.{PatternStops, no_pattern_turn}
+use Rattle.sl_grammar.proofs.Rules.{Rule, Any, Ends, many_rule, long_all, optional_rule}
+use Rattle.sl_grammar.proofs.Taken.{then_ok, along, expect_ok, expect_keyword_ok}
 
 -- ---- what stops a pattern
 
@@ -188,11 +186,13 @@ unfolding constructor_here expect expect_keyword same_mark same_keyword
 constructor_is c rest r good =
     let acts = spell_option spell_actions c.actions (spell_section c.section rest) in
     let pattern = keyword k.Is ∷ spell_pattern c.pattern acts in
-    rw (table_rule.complete c.table (mark m.Colon ∷ spell_all spell_piece c.display pattern) r (free_option c.table) (refl, tt),
+    rw (
+      table_rule.complete c.table (mark m.Colon ∷ spell_all spell_piece c.display pattern) r (free_option c.table) (refl, tt),
       display_rule.complete c.display pattern r good.display (is_ends (spell_pattern c.pattern acts)),
       pattern_rule.complete c.pattern acts r good.pattern (stops_actions c.actions (spell_section c.section rest) (stops_section c.section rest)),
       actions_option.complete c.actions (spell_section c.section rest) r good.actions (section_no_bracket c.section rest, tt),
-      section_is c.section rest r good.section) refl
+      section_is c.section rest r good.section,
+    ) refl
 
 constructor_ok : (i j : Input) (c : Constructor) → constructor_here i ≡ Ok (c, j) → Takes spell_constructor IsConstructor i c j
 unfolding constructor_here
@@ -210,7 +210,7 @@ constructor_ok i j c h =
     let what = section_ok g.1 l.1 l.0 l.2 in
     along (λ y n. Takes spell_constructor IsConstructor i y n) (record { table = a.0; display = d.0; pattern = f.0; actions = g.0; section = l.0 }) c l.1 j l.3 (record {
       tokens = tree_then (spell_option spell_name) (IfWritten Free) i a.0 a.1 _ (table_rule.sound i a.1 a.0 a.2) (symbol_then a.1 (mark m.Colon) b.1 _ (expect_ok m.Colon a.1 b.1 b.0 b.2)
-        (tree_then (spell_all spell_piece) (Each IsPiece) b.1 d.0 d.1 _ display (symbol_then d.1 (keyword k.Is) e.1 _ (expect_keyword_ok k.Is d.1 e.1 e.0 e.2)
+          (tree_then (spell_all spell_piece) (Each IsPiece) b.1 d.0 d.1 _ display (symbol_then d.1 (keyword k.Is) e.1 _ (expect_keyword_ok k.Is d.1 e.1 e.0 e.2)
           (tree_then spell_pattern IsPattern e.1 f.0 f.1 _ pattern (tree_then (spell_option spell_actions) (IfWritten (Each IsAction)) f.1 g.0 g.1 _ acts what.tokens)))));
       good = record { display = display.good; pattern = pattern.good; actions = acts.good; section = what.good };
     })
@@ -219,8 +219,8 @@ constructor_local : Local Constructor constructor_here
 unfolding constructor_here
 constructor_local = local_then (optional is_name name_here) _ table_rule.here (λ table. local_then (expect m.Colon) _ (local_expect m.Colon) (λ _.
     local_then (many is_shown piece) _ display_rule.here (λ display. local_then (expect_keyword k.Is) _ (local_expect_keyword k.Is) (λ _.
-      local_then whole_pattern _ pattern_rule.here (λ pattern. local_then (optional (is_mark m.OpenBracket) actions) _ actions_option.here (λ acts.
-        local_then section _ section_local (λ what. local_pure (record { table = table; display = display; pattern = pattern; actions = acts; section = what }))))))))
+    local_then whole_pattern _ pattern_rule.here (λ pattern. local_then (optional (is_mark m.OpenBracket) actions) _ actions_option.here (λ acts.
+    local_then section _ section_local (λ what. local_pure (record { table = table; display = display; pattern = pattern; actions = acts; section = what }))))))))
 
 pub constructor_rule : Rule spell_constructor IsConstructor Any constructor_here
 constructor_rule = record { complete = λ c rest r good may. constructor_is c rest r good; sound = constructor_ok; here = constructor_local }
@@ -228,9 +228,14 @@ constructor_rule = record { complete = λ c rest r good may. constructor_is c re
 pub long_constructor : (c : Constructor) (rest : List Sym) → length rest < length (spell_constructor c rest)
 long_constructor c rest =
     let acts = spell_option spell_actions c.actions (spell_section c.section rest) in
-    omega (arith, long_table c.table (mark m.Colon ∷ spell_all spell_piece c.display (keyword k.Is ∷ spell_pattern c.pattern acts)),
-      long_all spell_piece long_piece c.display (keyword k.Is ∷ spell_pattern c.pattern acts), long_pattern c.pattern acts,
-      long_actions_option c.actions (spell_section c.section rest), long_section c.section rest)
+    omega (
+      arith,
+      long_table c.table (mark m.Colon ∷ spell_all spell_piece c.display (keyword k.Is ∷ spell_pattern c.pattern acts)),
+      long_all spell_piece long_piece c.display (keyword k.Is ∷ spell_pattern c.pattern acts),
+      long_pattern c.pattern acts,
+      long_actions_option c.actions (spell_section c.section rest),
+      long_section c.section rest,
+    )
 
 -- ---- what stands before a block
 
@@ -258,9 +263,11 @@ head_is : (h : Head) (rest : List Sym) (r : ℕ) → IsHead h → head (at (spel
 unfolding head expect expect_keyword same_mark same_keyword
 head_is h rest r good =
     let acts = spell_option spell_actions h.actions (mark m.OpenBrace ∷ rest) in
-    rw (table_rule.complete h.table (mark m.Colon ∷ spell_option spell_pattern h.pattern acts) r (free_option h.table) (refl, tt),
+    rw (
+      table_rule.complete h.table (mark m.Colon ∷ spell_option spell_pattern h.pattern acts) r (free_option h.table) (refl, tt),
       pattern_option.complete h.pattern acts r good.pattern (no_pattern h.actions rest, stops_actions h.actions (mark m.OpenBrace ∷ rest) (stops_brace rest)),
-      actions_option.complete h.actions (mark m.OpenBrace ∷ rest) r good.actions (brace_no_bracket rest, tt)) refl
+      actions_option.complete h.actions (mark m.OpenBrace ∷ rest) r good.actions (brace_no_bracket rest, tt),
+    ) refl
 
 head_ok : (i j : Input) (x : Head) → head i ≡ Ok (x, j) → Takes spell_head IsHead i x j
 unfolding head
@@ -275,7 +282,7 @@ head_ok i j x h =
     let acts = actions_option.sound d.1 e.1 e.0 e.2 in
     along (λ y n. Takes spell_head IsHead i y n) (record { table = b.0; pattern = d.0; actions = e.0 }) x f.1 j f.3 (record {
       tokens = symbol_then i (keyword k.With) a.1 _ (expect_keyword_ok k.With i a.1 a.0 a.2) (tree_then (spell_option spell_name) (IfWritten Free) a.1 b.0 b.1 _ (table_rule.sound a.1 b.1 b.0 b.2)
-        (symbol_then b.1 (mark m.Colon) c.1 _ (expect_ok m.Colon b.1 c.1 c.0 c.2) (tree_then (spell_option spell_pattern) (IfWritten IsPattern) c.1 d.0 d.1 _ pattern
+          (symbol_then b.1 (mark m.Colon) c.1 _ (expect_ok m.Colon b.1 c.1 c.0 c.2) (tree_then (spell_option spell_pattern) (IfWritten IsPattern) c.1 d.0 d.1 _ pattern
           (tree_then (spell_option spell_actions) (IfWritten (Each IsAction)) d.1 e.0 e.1 _ acts (expect_ok m.OpenBrace e.1 f.1 f.0 f.2).tokens))));
       good = record { pattern = pattern.good; actions = acts.good };
     })
@@ -284,8 +291,8 @@ head_local : Local Head head
 unfolding head
 head_local = local_then (expect_keyword k.With) _ (local_expect_keyword k.With) (λ _. local_then (optional is_name name_here) _ table_rule.here (λ table.
     local_then (expect m.Colon) _ (local_expect m.Colon) (λ _. local_then (optional is_pattern whole_pattern) _ pattern_option.here (λ pattern.
-      local_then (optional (is_mark m.OpenBracket) actions) _ actions_option.here (λ acts. local_then (expect m.OpenBrace) _ (local_expect m.OpenBrace)
-        (λ _. local_pure (record { table = table; pattern = pattern; actions = acts })))))))
+    local_then (optional (is_mark m.OpenBracket) actions) _ actions_option.here (λ acts. local_then (expect m.OpenBrace) _ (local_expect m.OpenBrace)
+    (λ _. local_pure (record { table = table; pattern = pattern; actions = acts })))))))
 
 pub head_rule : Rule spell_head IsHead Any head
 head_rule = record { complete = λ h rest r good may. head_is h rest r good; sound = head_ok; here = head_local }

@@ -1,8 +1,8 @@
 -- The rules of definitions and attached lists.
-use Rattle.std.proofs.Common.{◌≡◌, ℕ, zero, suc, ◌+◌, ◌<◌, ◌≤◌, ◌==◌, Bool, true, false, cond, not, List, [], ◌∷◌, length, Option, None, Some, Ok, Err, refl, ap, sym, ◌∙◌, subst, arith}
-use Rattle.sl_ast.specs.Spelling.{Spelling, name, keyword, order_word, attribute_word, kind_word, spell_name, spell_option, spell_all, spell_order, spell_space_attribute, spell_bit_range, spell_attribute, spell_field, spell_names, spell_definition, spell_member}
-use Rattle.sl_ast.specs.Symbols.{Word, plain, quoted, Sym, number, word, text, mark, blank, caret, char}
-use Rattle.sl_ast.specs.Trees.{Name, SpaceAttribute, of_type, of_size, of_word_size, is_default, BitRange, Field, Names, one, several, Definition, endian, alignment, space, bit_ranges, pcode_ops, token, context, registers, Member, member_word, member_text, member_integer, member_negative}
+use Rattle.std.proofs.Common.{◌≡◌, ℕ, suc, ◌<◌, ◌≤◌, ◌==◌, Bool, true, false, cond, List, [], ◌∷◌, length, Option, None, Some, Ok, Err, refl, ◌∙◌, subst, arith}
+use Rattle.sl_ast.specs.Spelling.{Spelling, name, keyword, order_word, kind_word, spell_name, spell_option, spell_all, spell_order, spell_space_attribute, spell_bit_range, spell_attribute, spell_field, spell_names, spell_definition, spell_member}
+use Rattle.sl_ast.specs.Symbols.{plain, quoted, Sym, number, word, text, mark}
+use Rattle.sl_ast.specs.Trees.{SpaceAttribute, of_type, of_size, of_word_size, is_default, BitRange, Field, Names, one, several, Definition, endian, alignment, space, bit_ranges, pcode_ops, token, context, registers, Member, member_word, member_text, member_integer, member_negative}
 use Rattle.sl_ast.specs.Validity.{Each, IfWritten, IsSpaceAttribute, IsDefinition, IsMember}
 use Rattle.sl_ast.specs.declared.definitions.AttachKind.{AttachKind}
 use Rattle.sl_ast.specs.declared.definitions.AttachKind.TheVariants as a
@@ -11,20 +11,18 @@ use Rattle.sl_ast.specs.declared.definitions.ByteOrder.TheVariants as o
 use Rattle.sl_ast.specs.declared.definitions.FieldAttribute.{FieldAttribute}
 use Rattle.sl_ast.specs.declared.definitions.FieldAttribute.TheVariants as fa
 use Rattle.sl_ast.specs.declared.symbols.Feature.TheVariants as f
-use Rattle.sl_ast.specs.declared.symbols.Keyword.{Keyword}
 use Rattle.sl_ast.specs.declared.symbols.Keyword.TheVariants as k
-use Rattle.sl_ast.specs.declared.symbols.Mark.{Mark}
 use Rattle.sl_ast.specs.declared.symbols.Mark.TheVariants as m
 use Rattle.sl_grammar.specs.Definitions.{order_by, order, checked_size, word_size_by, type_here, size_attribute, word_size_here, space_attribute_by, space_attribute, bit_range, is_attribute, attribute_by, attribute, field, name_list, names_by, names, alignment_here, space_here, bit_ranges_here, pcode_ops_here, token_here, context_here, registers_here, definition_by, definition, kind_by, attach_kind, member_by, member}
 use Rattle.sl_grammar.specs.Lists.{many}
 use Rattle.sl_grammar.specs.Parallel.{Local}
-use Rattle.sl_grammar.specs.Reader.{Input, at, left, first, fault, unsupported, Outcome, Reader, ◌>>=◌, ◌>>◌, and_then, pure, peek, skip, next, is_mark, is_keyword, same_mark, same_keyword, expect, expect_keyword, integer_here, name_here, optional}
+use Rattle.sl_grammar.specs.Reader.{Input, at, left, first, fault, unsupported, Outcome, Reader, ◌>>◌, and_then, pure, skip, next, is_keyword, same_mark, same_keyword, expect, expect_keyword, integer_here, name_here, optional}
 use Rattle.sl_grammar.specs.Statements.{until}
 use Rattle.sl_grammar.proofs.BodyRules.{bracket_ends}
 use Rattle.sl_grammar.proofs.ListsTaken.{Takes}
 use Rattle.sl_grammar.proofs.LocalSteps.{local_then, local_pure, local_deep, local_peek, local_refuse, local_skip, local_skips, local_if, local_expect, local_expect_keyword, local_integer, local_name}
 use Rattle.sl_grammar.proofs.PartRules.{symbol_then, tree_then, name_takes, Free, name_rule, wrap_ok, wrap_local}
-use Rattle.sl_grammar.proofs.Rules.{Rule, Any, Ends, Long, Parts, many_rule, long_all, optional_rule}
+use Rattle.sl_grammar.proofs.Rules.{Rule, Any, Ends, many_rule, long_all, optional_rule}
 use Rattle.sl_grammar.proofs.Steps.{equal_is}
 use Rattle.sl_grammar.proofs.Taken.{then_ok, along, Took, took_next, expect_ok, expect_keyword_ok, integer_ok, name_ok}
 
@@ -94,7 +92,7 @@ type_ok i j x h =
     let c = then_ok (name_here b.1) _ x j b.3 in
     along (λ y l. Takes spell_space_attribute IsSpaceAttribute i y l) (of_type c.0) x c.1 j c.3 (record {
       tokens = symbol_then i (keyword k.Type) a.1 _ (expect_keyword_ok k.Type i a.1 a.0 a.2)
-        (symbol_then a.1 (mark m.Equals) b.1 _ (expect_ok m.Equals a.1 b.1 b.0 b.2) (name_ok b.1 c.1 c.0 c.2).tokens);
+          (symbol_then a.1 (mark m.Equals) b.1 _ (expect_ok m.Equals a.1 b.1 b.0 b.2) (name_ok b.1 c.1 c.0 c.2).tokens);
       good = tt;
     })
 
@@ -106,7 +104,7 @@ size_attribute_ok i j x h =
     let c = then_ok (integer_here b.1) _ x j b.3 in
     along (λ y l. Takes spell_space_attribute IsSpaceAttribute i y l) (of_size c.0) x c.1 j c.3 (record {
       tokens = symbol_then i (keyword k.Size) a.1 _ (expect_keyword_ok k.Size i a.1 a.0 a.2)
-        (symbol_then a.1 (mark m.Equals) b.1 _ (expect_ok m.Equals a.1 b.1 b.0 b.2) (integer_ok b.1 c.1 c.0 c.2).tokens);
+          (symbol_then a.1 (mark m.Equals) b.1 _ (expect_ok m.Equals a.1 b.1 b.0 b.2) (integer_ok b.1 c.1 c.0 c.2).tokens);
       good = tt;
     })
 
@@ -136,7 +134,7 @@ word_size_ok i j x h =
     let c = word_size_by_ok (first b.1.rest) b.1 j x refl b.3 in
     subst (λ y. Takes spell_space_attribute IsSpaceAttribute i y j) c.is (record {
       tokens = symbol_then i (keyword k.WordSize) a.1 _ (expect_keyword_ok k.WordSize i a.1 a.0 a.2)
-        (symbol_then a.1 (mark m.Equals) b.1 _ (expect_ok m.Equals a.1 b.1 b.0 b.2) c.took.tokens);
+          (symbol_then a.1 (mark m.Equals) b.1 _ (expect_ok m.Equals a.1 b.1 b.0 b.2) c.took.tokens);
       good = c.good;
     })
 
@@ -213,9 +211,9 @@ bit_range_ok i j x h =
     let l = then_ok (expect m.CloseBracket g.1) _ x j g.3 in
     along (λ y n. Takes spell_bit_range Free i y n) (record { name = a.0; register = c.0; low = e.0; count = g.0 }) x l.1 j l.3 (record {
       tokens = symbol_then i (name a.0) a.1 _ (name_ok i a.1 a.0 a.2) (symbol_then a.1 (mark m.Equals) b.1 _ (expect_ok m.Equals a.1 b.1 b.0 b.2) (symbol_then b.1 (name c.0) c.1 _ (name_ok b.1 c.1 c.0 c.2)
-        (symbol_then c.1 (mark m.OpenBracket) d.1 _ (expect_ok m.OpenBracket c.1 d.1 d.0 d.2) (symbol_then d.1 (number e.0) e.1 _ (integer_ok d.1 e.1 e.0 e.2)
+          (symbol_then c.1 (mark m.OpenBracket) d.1 _ (expect_ok m.OpenBracket c.1 d.1 d.0 d.2) (symbol_then d.1 (number e.0) e.1 _ (integer_ok d.1 e.1 e.0 e.2)
           (symbol_then e.1 (mark m.Comma) f.1 _ (expect_ok m.Comma e.1 f.1 f.0 f.2) (symbol_then f.1 (number g.0) g.1 _ (integer_ok f.1 g.1 g.0 g.2)
-            (expect_ok m.CloseBracket g.1 l.1 l.0 l.2).tokens))))));
+          (expect_ok m.CloseBracket g.1 l.1 l.0 l.2).tokens))))));
       good = tt;
     })
 
@@ -223,8 +221,8 @@ bit_range_local : Local BitRange bit_range
 unfolding bit_range
 bit_range_local = local_then name_here _ local_name (λ w. local_then (expect m.Equals) _ (local_expect m.Equals) (λ _. local_then name_here _ local_name (λ register.
     local_then (expect m.OpenBracket) _ (local_expect m.OpenBracket) (λ _. local_then integer_here _ local_integer (λ low. local_then (expect m.Comma) _ (local_expect m.Comma)
-      (λ _. local_then integer_here _ local_integer (λ count. local_then (expect m.CloseBracket) _ (local_expect m.CloseBracket)
-        (λ _. local_pure (record { name = w; register = register; low = low; count = count })))))))))
+    (λ _. local_then integer_here _ local_integer (λ count. local_then (expect m.CloseBracket) _ (local_expect m.CloseBracket)
+    (λ _. local_pure (record { name = w; register = register; low = low; count = count })))))))))
 
 bit_range_rule : Rule spell_bit_range Free Any bit_range
 bit_range_rule = record { complete = λ x rest r good may. bit_range_is x rest r; sound = bit_range_ok; here = bit_range_local }
@@ -300,7 +298,7 @@ field_ok i j x h =
     let l = then_ok (many is_attribute attribute g.1) _ x j g.3 in
     along (λ y n. Takes spell_field Free i y n) (record { name = a.0; low = d.0; high = f.0; attributes = l.0 }) x l.1 j l.3 (record {
       tokens = symbol_then i (name a.0) a.1 _ (name_ok i a.1 a.0 a.2) (symbol_then a.1 (mark m.Equals) b.1 _ (expect_ok m.Equals a.1 b.1 b.0 b.2) (symbol_then b.1 (mark m.Open) c.1 _ (expect_ok m.Open b.1 c.1 c.0 c.2)
-        (symbol_then c.1 (number d.0) d.1 _ (integer_ok c.1 d.1 d.0 d.2) (symbol_then d.1 (mark m.Comma) e.1 _ (expect_ok m.Comma d.1 e.1 e.0 e.2) (symbol_then e.1 (number f.0) f.1 _ (integer_ok e.1 f.1 f.0 f.2)
+          (symbol_then c.1 (number d.0) d.1 _ (integer_ok c.1 d.1 d.0 d.2) (symbol_then d.1 (mark m.Comma) e.1 _ (expect_ok m.Comma d.1 e.1 e.0 e.2) (symbol_then e.1 (number f.0) f.1 _ (integer_ok e.1 f.1 f.0 f.2)
           (symbol_then f.1 (mark m.Close) g.1 _ (expect_ok m.Close f.1 g.1 g.0 g.2) (attributes_rule.sound g.1 l.1 l.0 l.2).tokens))))));
       good = tt;
     })
@@ -309,8 +307,8 @@ field_local : Local Field field
 unfolding field
 field_local = local_then name_here _ local_name (λ w. local_then (expect m.Equals) _ (local_expect m.Equals) (λ _. local_then (expect m.Open) _ (local_expect m.Open) (λ _.
     local_then integer_here _ local_integer (λ low. local_then (expect m.Comma) _ (local_expect m.Comma) (λ _. local_then integer_here _ local_integer (λ high.
-      local_then (expect m.Close) _ (local_expect m.Close) (λ _. local_then (many is_attribute attribute) _ attributes_rule.here
-        (λ attributes. local_pure (record { name = w; low = low; high = high; attributes = attributes })))))))))
+    local_then (expect m.Close) _ (local_expect m.Close) (λ _. local_then (many is_attribute attribute) _ attributes_rule.here
+    (λ attributes. local_pure (record { name = w; low = low; high = high; attributes = attributes })))))))))
 
 field_rule : Rule spell_field Free NoAttribute field
 field_rule = record { complete = λ x rest r good may. field_is x rest r may; sound = field_ok; here = field_local }
@@ -339,7 +337,7 @@ name_list_ok i j x h =
     let c = then_ok (expect m.CloseBracket b.1) _ x j b.3 in
     along (λ y l. Takes spell_names Free i y l) (several b.0) x c.1 j c.3 (record {
       tokens = symbol_then i (mark m.OpenBracket) a.1 _ (expect_ok m.OpenBracket i a.1 a.0 a.2)
-        (tree_then (spell_all spell_name) (Each Free) a.1 b.0 b.1 _ (name_list_rule.sound a.1 b.1 b.0 b.2) (expect_ok m.CloseBracket b.1 c.1 c.0 c.2).tokens);
+          (tree_then (spell_all spell_name) (Each Free) a.1 b.0 b.1 _ (name_list_rule.sound a.1 b.1 b.0 b.2) (expect_ok m.CloseBracket b.1 c.1 c.0 c.2).tokens);
       good = tt;
     })
 
@@ -376,8 +374,10 @@ definition_is (bit_ranges head more) rest r good =
     rw (bit_range_is head (spell_all spell_bit_range more (mark m.Semicolon ∷ rest)) r, bit_ranges_rule.complete more (mark m.Semicolon ∷ rest) r (each_free more) (semicolon_ends Any rest tt)) refl
 definition_is (pcode_ops ws) rest r good = rw (names_are ws (mark m.Semicolon ∷ rest) r) refl
 definition_is (token w size own fields) rest r good =
-    rw ((optional_rule spell_order Free Any (is_keyword k.Endian) order order_rule order_begins).complete own (spell_all spell_field fields (mark m.Semicolon ∷ rest)) r (free_option own) (no_order fields rest, tt),
-      fields_rule.complete fields (mark m.Semicolon ∷ rest) r (each_free fields) (semicolon_ends NoAttribute rest refl)) refl
+    rw (
+      (optional_rule spell_order Free Any (is_keyword k.Endian) order order_rule order_begins).complete own (spell_all spell_field fields (mark m.Semicolon ∷ rest)) r (free_option own) (no_order fields rest, tt),
+      fields_rule.complete fields (mark m.Semicolon ∷ rest) r (each_free fields) (semicolon_ends NoAttribute rest refl),
+    ) refl
   where
     free_option : (x : Option ByteOrder) → IfWritten {A = ByteOrder} Free x
     free_option None = tt
@@ -401,7 +401,7 @@ alignment_ok i j d h =
     let c = then_ok (integer_here b.1) _ d j b.3 in
     along (λ y l. Takes spell_definition IsDefinition i y l) (alignment c.0) d c.1 j c.3 (record {
       tokens = symbol_then i (keyword k.Alignment) a.1 _ (expect_keyword_ok k.Alignment i a.1 a.0 a.2)
-        (symbol_then a.1 (mark m.Equals) b.1 _ (expect_ok m.Equals a.1 b.1 b.0 b.2) (integer_ok b.1 c.1 c.0 c.2).tokens);
+          (symbol_then a.1 (mark m.Equals) b.1 _ (expect_ok m.Equals a.1 b.1 b.0 b.2) (integer_ok b.1 c.1 c.0 c.2).tokens);
       good = tt;
     })
 
@@ -425,7 +425,7 @@ bit_ranges_ok i j d h =
     let c = then_ok (many (until m.Semicolon) bit_range b.1) _ d j b.3 in
     along (λ y l. Takes spell_definition IsDefinition i y l) (bit_ranges b.0 c.0) d c.1 j c.3 (record {
       tokens = symbol_then i (keyword k.BitRange) a.1 _ (expect_keyword_ok k.BitRange i a.1 a.0 a.2)
-        (tree_then spell_bit_range Free a.1 b.0 b.1 _ (bit_range_ok a.1 b.1 b.0 b.2) (bit_ranges_rule.sound b.1 c.1 c.0 c.2).tokens);
+          (tree_then spell_bit_range Free a.1 b.0 b.1 _ (bit_range_ok a.1 b.1 b.0 b.2) (bit_ranges_rule.sound b.1 c.1 c.0 c.2).tokens);
       good = tt;
     })
 
@@ -454,7 +454,7 @@ token_ok i j d h =
     let l = then_ok (many (until m.Semicolon) field g.1) _ d j g.3 in
     along (λ y n. Takes spell_definition IsDefinition i y n) (token b.0 e.0 g.0 l.0) d l.1 j l.3 (record {
       tokens = symbol_then i (keyword k.Token) a.1 _ (expect_keyword_ok k.Token i a.1 a.0 a.2) (symbol_then a.1 (name b.0) b.1 _ (name_ok a.1 b.1 b.0 b.2) (symbol_then b.1 (mark m.Open) c.1 _ (expect_ok m.Open b.1 c.1 c.0 c.2)
-        (symbol_then c.1 (number e.0) e.1 _ (integer_ok c.1 e.1 e.0 e.2) (symbol_then e.1 (mark m.Close) f.1 _ (expect_ok m.Close e.1 f.1 f.0 f.2)
+          (symbol_then c.1 (number e.0) e.1 _ (integer_ok c.1 e.1 e.0 e.2) (symbol_then e.1 (mark m.Close) f.1 _ (expect_ok m.Close e.1 f.1 f.0 f.2)
           (tree_then (spell_option spell_order) (IfWritten Free) f.1 g.0 g.1 _ (own_order_rule.sound f.1 g.1 g.0 g.2) (fields_rule.sound g.1 l.1 l.0 l.2).tokens)))));
       good = tt;
     })
@@ -467,7 +467,7 @@ context_ok i j d h =
     let c = then_ok (many (until m.Semicolon) field b.1) _ d j b.3 in
     along (λ y l. Takes spell_definition IsDefinition i y l) (context b.0 c.0) d c.1 j c.3 (record {
       tokens = symbol_then i (keyword k.Context) a.1 _ (expect_keyword_ok k.Context i a.1 a.0 a.2)
-        (symbol_then a.1 (name b.0) b.1 _ (name_ok a.1 b.1 b.0 b.2) (fields_rule.sound b.1 c.1 c.0 c.2).tokens);
+          (symbol_then a.1 (name b.0) b.1 _ (name_ok a.1 b.1 b.0 b.2) (fields_rule.sound b.1 c.1 c.0 c.2).tokens);
       good = tt;
     })
 
@@ -484,9 +484,9 @@ registers_ok i j d h =
     let n = then_ok (names l.1) _ d j l.3 in
     along (λ y x. Takes spell_definition IsDefinition i y x) (registers a.0 e.0 l.0 n.0) d n.1 j n.3 (record {
       tokens = symbol_then i (name a.0) a.1 _ (name_ok i a.1 a.0 a.2) (symbol_then a.1 (keyword k.Offset) b.1 _ (expect_keyword_ok k.Offset a.1 b.1 b.0 b.2)
-        (symbol_then b.1 (mark m.Equals) c.1 _ (expect_ok m.Equals b.1 c.1 c.0 c.2) (symbol_then c.1 (number e.0) e.1 _ (integer_ok c.1 e.1 e.0 e.2)
+          (symbol_then b.1 (mark m.Equals) c.1 _ (expect_ok m.Equals b.1 c.1 c.0 c.2) (symbol_then c.1 (number e.0) e.1 _ (integer_ok c.1 e.1 e.0 e.2)
           (symbol_then e.1 (keyword k.Size) f.1 _ (expect_keyword_ok k.Size e.1 f.1 f.0 f.2) (symbol_then f.1 (mark m.Equals) g.1 _ (expect_ok m.Equals f.1 g.1 g.0 g.2)
-            (symbol_then g.1 (number l.0) l.1 _ (integer_ok g.1 l.1 l.0 l.2) (names_ok l.1 n.1 n.0 n.2).tokens))))));
+          (symbol_then g.1 (number l.0) l.1 _ (integer_ok g.1 l.1 l.0 l.2) (names_ok l.1 n.1 n.0 n.2).tokens))))));
       good = tt;
     })
 
@@ -513,22 +513,22 @@ definition_by_local (Some (word (quoted k.Alignment))) =
     local_then (expect_keyword k.Alignment) _ (local_expect_keyword k.Alignment) (λ _. local_then (expect m.Equals) _ (local_expect m.Equals) (λ _. local_then integer_here _ local_integer (λ n. local_pure (alignment n))))
 definition_by_local (Some (word (quoted k.Space))) =
     local_then (expect_keyword k.Space) _ (local_expect_keyword k.Space) (λ _. local_then name_here _ local_name (λ w. local_then (many (until m.Semicolon) space_attribute) _ space_attributes_rule.here
-      (λ attributes. local_pure (space w attributes))))
+    (λ attributes. local_pure (space w attributes))))
 definition_by_local (Some (word (quoted k.BitRange))) =
     local_then (expect_keyword k.BitRange) _ (local_expect_keyword k.BitRange) (λ _. local_then bit_range _ bit_range_local (λ head. local_then (many (until m.Semicolon) bit_range) _ bit_ranges_rule.here
-      (λ more. local_pure (bit_ranges head more))))
+    (λ more. local_pure (bit_ranges head more))))
 definition_by_local (Some (word (quoted k.PcodeOp))) = local_then (expect_keyword k.PcodeOp) _ (local_expect_keyword k.PcodeOp) (λ _. local_then names _ names_local (λ ws. local_pure (pcode_ops ws)))
 definition_by_local (Some (word (quoted k.Token))) =
     local_then (expect_keyword k.Token) _ (local_expect_keyword k.Token) (λ _. local_then name_here _ local_name (λ w. local_then (expect m.Open) _ (local_expect m.Open) (λ _.
-      local_then integer_here _ local_integer (λ size. local_then (expect m.Close) _ (local_expect m.Close) (λ _. local_then (optional (is_keyword k.Endian) order) _ own_order_rule.here (λ own.
-        local_then (many (until m.Semicolon) field) _ fields_rule.here (λ fields. local_pure (token w size own fields))))))))
+    local_then integer_here _ local_integer (λ size. local_then (expect m.Close) _ (local_expect m.Close) (λ _. local_then (optional (is_keyword k.Endian) order) _ own_order_rule.here (λ own.
+    local_then (many (until m.Semicolon) field) _ fields_rule.here (λ fields. local_pure (token w size own fields))))))))
 definition_by_local (Some (word (quoted k.Context))) =
     local_then (expect_keyword k.Context) _ (local_expect_keyword k.Context) (λ _. local_then name_here _ local_name (λ w. local_then (many (until m.Semicolon) field) _ fields_rule.here
-      (λ fields. local_pure (context w fields))))
+    (λ fields. local_pure (context w fields))))
 definition_by_local s =
     local_then name_here _ local_name (λ w. local_then (expect_keyword k.Offset) _ (local_expect_keyword k.Offset) (λ _. local_then (expect m.Equals) _ (local_expect m.Equals) (λ _.
-      local_then integer_here _ local_integer (λ offset. local_then (expect_keyword k.Size) _ (local_expect_keyword k.Size) (λ _. local_then (expect m.Equals) _ (local_expect m.Equals) (λ _.
-        local_then integer_here _ local_integer (λ size. local_then names _ names_local (λ ws. local_pure (registers w offset size ws)))))))))
+    local_then integer_here _ local_integer (λ offset. local_then (expect_keyword k.Size) _ (local_expect_keyword k.Size) (λ _. local_then (expect m.Equals) _ (local_expect m.Equals) (λ _.
+    local_then integer_here _ local_integer (λ size. local_then names _ names_local (λ ws. local_pure (registers w offset size ws)))))))))
 
 pub definition_local : Local Definition definition
 unfolding definition

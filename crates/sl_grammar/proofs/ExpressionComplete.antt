@@ -1,8 +1,8 @@
 -- What a tree of an expression spells is read as that tree.
-use Rattle.std.proofs.Common.{◌≡◌, ℕ, zero, suc, ◌+◌, ◌-◌, ◌<◌, ◌≤◌, Bool, true, false, List, [], ◌∷◌, ◌++◌, length, Option, None, Some, Ok, refl, ap, sym, ◌∙◌, subst, arith, append_assoc}
-use Rattle.sl_ast.specs.Operators.{Kind, in_section, in_action, in_constraint, is_section, rank, right_rank, left_rank, loosest, binary_mark, prefix_mark, takes_size, takes_bits, takes_drop}
-use Rattle.sl_ast.specs.Spelling.{name, spell_expression, spell_arguments, spell_more}
-use Rattle.sl_ast.specs.Symbols.{Sym, number, word, mark}
+use Rattle.std.proofs.Common.{◌≡◌, ℕ, zero, suc, ◌+◌, ◌-◌, ◌<◌, ◌≤◌, true, false, List, [], ◌∷◌, ◌++◌, length, Option, Ok, refl, ap, ◌∙◌, subst, arith, append_assoc}
+use Rattle.sl_ast.specs.Operators.{Kind, in_section, in_action, in_constraint, is_section, rank, right_rank, left_rank, loosest, binary_mark, takes_size, takes_bits, takes_drop}
+use Rattle.sl_ast.specs.Spelling.{spell_expression, spell_arguments}
+use Rattle.sl_ast.specs.Symbols.{Sym, number, mark}
 use Rattle.sl_ast.specs.Trees.{Name, Expression, Expressions, integer, named, paren, call, sized, dropped, bits, prefix, star, binary, no_more, with_more}
 use Rattle.sl_ast.specs.Validity.{Binds, AllBind, IsSome, weight, weights, IsExpression, heaviest}
 use Rattle.sl_ast.specs.Views.{arguments}
@@ -10,11 +10,11 @@ use Rattle.sl_ast.specs.declared.expressions.BinaryOp.{BinaryOp}
 use Rattle.sl_ast.specs.declared.expressions.BinaryOp.TheVariants as b
 use Rattle.sl_ast.specs.declared.expressions.PrefixOp.{PrefixOp}
 use Rattle.sl_ast.specs.declared.symbols.Mark.TheVariants as m
-use Rattle.sl_grammar.specs.Expressions.{atom, postfix, tight, expression, whole}
+use Rattle.sl_grammar.specs.Expressions.{atom, tight, expression, whole}
 use Rattle.sl_grammar.specs.Lists.{separated_from}
 use Rattle.sl_grammar.specs.Reader.{at, first, is_mark, same_mark}
-use Rattle.sl_grammar.proofs.ExpressionSteps.{Closed, Stops, stops_less, stops_close, stops_comma, stops_op, turn_is, begins, tight_is, of_integer, of_name, of_paren, of_call, of_atom, of_sized, of_dropped, of_bits, of_prefix, of_star, Climbs, climb_stops, of_binary, of_tight, left_le}
-use Rattle.sl_grammar.proofs.Measures.{cost, costs, cost_is, costs_are, count, long_arguments, last_rank, last_is}
+use Rattle.sl_grammar.proofs.ExpressionSteps.{Stops, stops_less, stops_close, stops_comma, stops_op, turn_is, begins, tight_is, of_integer, of_name, of_paren, of_call, of_atom, of_sized, of_dropped, of_bits, of_prefix, of_star, Climbs, climb_stops, of_binary, of_tight, left_le}
+use Rattle.sl_grammar.proofs.Measures.{cost, costs, cost_is, count, long_arguments, last_rank, last_is}
 use Rattle.sl_grammar.proofs.Steps.{last_part, one_part}
 
 -- The reading has come to the end of the tree, and operators may follow.
@@ -27,7 +27,7 @@ NoCall kind e rest = is_section kind ≡ true → takes_drop e ≡ false → is_
 
 pub record Facts (kind : Kind) (e : Expression) : Type 0 where
   pub as_atom : (k : ℕ) (rest : List Sym) (s : ℕ) → Binds kind e → takes_size e ≡ true → weight e ≤ k
-    → NoCall kind e rest → atom kind (expression kind k) (at (spell_expression e rest) (cost e s)) ≡ Ok (e, at rest s)
+      → NoCall kind e rest → atom kind (expression kind k) (at (spell_expression e rest) (cost e s)) ≡ Ok (e, at rest s)
   pub arrives : (k n : ℕ) (rest : List Sym) (s : ℕ) → Binds kind e → rank e ≤ n → weight e ≤ k → Stops kind (last_rank e) rest → Arrives kind k n e rest s
 
 -- where nothing can follow, the reading is done
@@ -45,19 +45,19 @@ tight_arrives kind k n e rest s h = (suc s, omega arith, of_tight kind k n (at (
 -- the facts of a tree that is an atom
 of_an_atom : (kind : Kind) (e : Expression) → takes_size e ≡ true
     → ((k : ℕ) (rest : List Sym) (s : ℕ) → Binds kind e → weight e ≤ k → NoCall kind e rest
-      → atom kind (expression kind k) (at (spell_expression e rest) (cost e s)) ≡ Ok (e, at rest s))
+    → atom kind (expression kind k) (at (spell_expression e rest) (cost e s)) ≡ Ok (e, at rest s))
     → Facts kind e
 of_an_atom kind e takes read = record {
   as_atom = λ k rest s binds _ fits no_open. read k rest s binds fits no_open;
   arrives = λ k n rest s binds low fits stops. tight_arrives kind k n e rest s
-    (tight_is kind (expression kind k) e rest (cost e s) takes
-    ∙ of_atom kind (expression kind k) (at (spell_expression e rest) (cost e s)) e rest s (read k rest s binds fits (λ section _. (stops.closed section).no_open)) stops.closed);
+      (tight_is kind (expression kind k) e rest (cost e s) takes
+      ∙ of_atom kind (expression kind k) (at (spell_expression e rest) (cost e s)) e rest s (read k rest s binds fits (λ section _. (stops.closed section).no_open)) stops.closed);
 }
 
 -- the facts of a tree that is none, and no operation of two operands
 of_a_tight : (kind : Kind) (e : Expression) → takes_size e ≡ false
     → ((k : ℕ) (rest : List Sym) (s : ℕ) → Binds kind e → weight e ≤ k → Stops kind 0 rest
-      → tight kind (expression kind k) (at (spell_expression e rest) (cost e s)) ≡ Ok (e, at rest s))
+    → tight kind (expression kind k) (at (spell_expression e rest) (cost e s)) ≡ Ok (e, at rest s))
     → last_rank e ≡ 0 → Facts kind e
 of_a_tight kind e takes read last = record {
   as_atom = λ k rest s binds atom fits no_open. absurd (cc);
@@ -116,7 +116,7 @@ dropped_is in_section e n facts k rest s binds fits =
     let is_atom = drop_is_atom e binds.1 in
     tight_is in_section (expression in_section k) e xs (cost e (suc s)) is_atom
     ∙ of_dropped (expression in_section k) (at (spell_expression e xs) (cost e (suc s))) e n rest s
-      (facts.as_atom k xs (suc s) binds.2 is_atom (omega arith) (λ _ no_drop. absurd (let h = binds.1 in cc))) binds.1
+    (facts.as_atom k xs (suc s) binds.2 is_atom (omega arith) (λ _ no_drop. absurd (let h = binds.1 in cc))) binds.1
 dropped_is in_action e n facts k rest s binds fits = absurd (let h = binds.0 in cc)
 dropped_is in_constraint e n facts k rest s binds fits = absurd (let h = binds.0 in cc)
 
@@ -128,7 +128,7 @@ bits_are in_section e l c facts k rest s binds fits =
     let is_atom = bits_is_atom e binds.1 in
     tight_is in_section (expression in_section k) e xs (cost e (suc s)) is_atom
     ∙ of_bits (expression in_section k) (at (spell_expression e xs) (cost e (suc s))) e l c rest s
-      (facts.as_atom k xs (suc s) binds.2 is_atom (omega arith) (λ _ _. refl)) binds.1
+    (facts.as_atom k xs (suc s) binds.2 is_atom (omega arith) (λ _ _. refl)) binds.1
 bits_are in_action e l c facts k rest s binds fits = absurd (let h = binds.0 in cc)
 bits_are in_constraint e l c facts k rest s binds fits = absurd (let h = binds.0 in cc)
 
@@ -154,15 +154,18 @@ star_is kind place width e facts (suc k) rest s binds fits stops =
 binary_step : (kind : Kind) (k n m : ℕ) (op : BinaryOp) (l r : Expression) (rest : List Sym) (s : ℕ) → Binds kind (binary op l r) → suc (right_rank op) ≤ n
     → Facts kind r → weight r < k → Stops kind (right_rank op) rest → suc (cost r s) < m
     → expression kind (suc k) n (at (spell_expression l (mark (binary_mark op) ∷ spell_expression r rest)) (cost l (suc (cost r s))))
-      ≡ Climbs kind k n m l (at (mark (binary_mark op) ∷ spell_expression r rest) (suc (cost r s)))
+    ≡ Climbs kind k n m l (at (mark (binary_mark op) ∷ spell_expression r rest) (suc (cost r s)))
     → Arrives kind k n (binary op l r) rest s
 binary_step kind zero n m op l r rest s binds low facts fits stops more come = absurd (omega arith)
 binary_step kind (suc k) n zero op l r rest s binds low facts fits stops more come = absurd (omega arith)
 binary_step kind (suc k) n (suc m) op l r rest s binds low facts fits stops more come =
-    let room = cost_is r s in
-    (m, omega arith, come ∙ of_binary kind (suc k) n m op l r (spell_expression r rest) rest (cost r s) s
-      (turn_is kind n l op binds.0 low binds.1)
-      (ends kind k (right_rank op) r rest s facts binds.4 binds.2 (omega arith) stops))
+    let room = cost_is r s in (
+      m,
+      omega arith,
+      come ∙ of_binary kind (suc k) n m op l r (spell_expression r rest) rest (cost r s) s
+          (turn_is kind n l op binds.0 low binds.1)
+          (ends kind k (right_rank op) r rest s facts binds.4 binds.2 (omega arith) stops),
+    )
 
 binary_is : (kind : Kind) (op : BinaryOp) (l r : Expression) → Facts kind l → Facts kind r → (k n : ℕ) (rest : List Sym) (s : ℕ) → Binds kind (binary op l r)
     → suc (right_rank op) ≤ n → weight l + 1 + weight r ≤ k → Stops kind (right_rank op) rest → Arrives kind k n (binary op l r) rest s
@@ -171,7 +174,7 @@ binary_is kind op l r first second k n rest s binds low fits stops =
     let last = last_is l in
     let left_low = binds.1 in
     let come = first.arrives k n (mark (binary_mark op) ∷ spell_expression r rest) (suc (cost r s)) binds.3 (omega arith) (omega arith)
-      (stops_less kind (right_rank op) (last_rank l) _ (last_below l op left_low) (stops_op kind op (spell_expression r rest))) in
+    (stops_less kind (right_rank op) (last_rank l) _ (last_below l op left_low) (stops_op kind op (spell_expression r rest))) in
     binary_step kind k n come.0 op l r rest s binds low second (omega arith) stops come.1 come.2
 
 -- ---- arguments
@@ -212,7 +215,7 @@ call_is kind w es come (suc k) rest s binds fits =
     let xs = spell_arguments es (mark m.Close ∷ rest) in
     let long = long_arguments es (mark m.Close ∷ rest) in
     of_call kind (expression kind (suc k)) w (listed es) xs rest (costs es s) s binds.0 binds.1
-      (come k (suc (length xs)) [] rest s binds.3 binds.2 (omega arith) (omega arith))
+    (come k (suc (length xs)) [] rest s binds.3 binds.2 (omega arith) (omega arith))
     ∙ ap (λ ds. Ok (call w ds, at rest s)) (arguments_listed es)
 
 -- ---- the induction

@@ -1,7 +1,7 @@
 -- The readers of expressions and patterns are local.
-use Rattle.std.proofs.Common.{◌≡◌, ℕ, zero, suc, ◌+◌, ◌<◌, ◌≤◌, ◌&&◌, Bool, true, false, cond, List, [], ◌∷◌, length, Option, None, Some, Ok, Err, refl, ap, sym, ◌∙◌, subst, arith}
+use Rattle.std.proofs.Common.{ℕ, zero, suc, ◌&&◌, length, Option, None, Some, ap, arith}
 use Rattle.sl_ast.specs.Operators.{Kind, in_section, in_action, in_constraint, is_section, right_rank, loosest, takes_size, takes_bits, takes_drop, missing_function, pattern_right_rank, pattern_loosest}
-use Rattle.sl_ast.specs.Symbols.{Word, plain, quoted, Sym, number, word, text, mark, blank, caret, char}
+use Rattle.sl_ast.specs.Symbols.{plain, quoted, Sym, number, word, mark}
 use Rattle.sl_ast.specs.Trees.{Name, Expression, integer, named, paren, call, sized, dropped, bits, prefix, star, binary, Pattern, bare, constraint, group, ellipsis, joined}
 use Rattle.sl_ast.specs.Validity.{heaviest}
 use Rattle.sl_ast.specs.Views.{arguments}
@@ -17,9 +17,9 @@ use Rattle.sl_grammar.specs.Expressions.{turn, bracketed, called, called_by, aft
 use Rattle.sl_grammar.specs.Lists.{separated}
 use Rattle.sl_grammar.specs.Parallel.{Local}
 use Rattle.sl_grammar.specs.Patterns.{pattern_turn, relation_in, constrained, related, after_field, grouped, part, part_by, element, pattern, whole_pattern}
-use Rattle.sl_grammar.specs.Reader.{Input, nesting, unsupported, Reader, ◌>>=◌, ◌>>◌, pure, skip, enter, unsupport, refuse, look, is_mark, expect, integer_here, name_here, size_here, size_option, optional}
+use Rattle.sl_grammar.specs.Reader.{nesting, unsupported, Reader, ◌>>=◌, ◌>>◌, pure, enter, refuse, is_mark, expect, integer_here, name_here, size_here, size_option}
 use Rattle.sl_grammar.proofs.ExpressionSound as es
-use Rattle.sl_grammar.proofs.LocalSteps.{local_then, local_pure, local_fault, local_back, local_peek, local_refuse, local_skip, local_skips, local_if, local_look, local_expect, local_integer, local_name, local_size, local_optional, local_size_option, local_enter, local_enters, local_room, Shrinks, local_separated}
+use Rattle.sl_grammar.proofs.LocalSteps.{local_then, local_pure, local_fault, local_back, local_peek, local_refuse, local_skips, local_if, local_look, local_expect, local_integer, local_name, local_size, local_optional, local_size_option, local_enter, local_enters, local_room, Shrinks, local_separated}
 use Rattle.sl_grammar.proofs.Measures.{long_expression}
 
 -- ---- loops over operators
@@ -35,8 +35,8 @@ module _ {A Op : Type 0} (step : A → Option Sym → Option Op) (right : Op →
   climb_local (suc n) l =
       local_peek (λ o. turned (λ op. enter >> (inner (right op) >>= (λ r. climb step right join inner n (join op l r)))) l (step l o))
       (λ o. turned_local (λ op. enter >> (inner (right op) >>= (λ r. climb step right join inner n (join op l r))))
-        (λ op. local_enters (inner (right op) >>= (λ r. climb step right join inner n (join op l r)))
-          (local_then (inner (right op)) _ (here (right op)) (λ r. climb_local n (join op l r)))) l (step l o))
+      (λ op. local_enters (inner (right op) >>= (λ r. climb step right join inner n (join op l r)))
+      (local_then (inner (right op)) _ (here (right op)) (λ r. climb_local n (join op l r)))) l (step l o))
 
   -- both readings have the same room, and so the same rounds
   pub grown_local : (l : A) → Local A (λ i. climb step right join inner (suc i.room) l i)
@@ -59,7 +59,7 @@ called_local : (kind : Kind) (inner : ℕ → Reader Expression) → LocalInner 
 unfolding called
 called_local kind inner here shrinks w =
     local_then enter _ local_enter (λ _. local_then (separated (inner loosest)) _ (local_separated (inner loosest) (here loosest) shrinks)
-      (λ es. local_then (expect m.Close) _ (local_expect m.Close) (λ _. local_pure (call w (arguments es)))))
+    (λ es. local_then (expect m.Close) _ (local_expect m.Close) (λ _. local_pure (call w (arguments es)))))
 
 called_by_local : (kind : Kind) (inner : ℕ → Reader Expression) → LocalInner inner → Shrinks (inner loosest) → (w : Name) (x : Option Feature) → Local Expression (called_by kind inner w x)
 called_by_local kind inner here shrinks w None = called_local kind inner here shrinks w
@@ -104,7 +104,7 @@ bits_behind_local : (kind : Kind) (inner : ℕ → Reader Expression) (e : Expre
 unfolding bits_behind
 bits_behind_local kind inner e =
     local_then enter _ local_enter (λ _. local_then integer_here _ local_integer (λ l. local_then (expect m.Comma) _ (local_expect m.Comma)
-      (λ _. local_then integer_here _ local_integer (λ c. local_then (expect m.CloseBracket) _ (local_expect m.CloseBracket) (λ _. local_pure (bits e l c))))))
+    (λ _. local_then integer_here _ local_integer (λ c. local_then (expect m.CloseBracket) _ (local_expect m.CloseBracket) (λ _. local_pure (bits e l c))))))
 
 behind_local : (kind : Kind) (inner : ℕ → Reader Expression) (e : Expression) → Local Expression (behind kind inner e)
 unfolding behind
@@ -132,7 +132,7 @@ starred_local : (kind : Kind) (inner : ℕ → Reader Expression) → LocalInner
 unfolding starred
 starred_local kind inner here =
     local_then enter _ local_enter (λ _. local_then (space_in kind inner) _ (space_local kind inner)
-      (λ place. local_then size_option _ local_size_option (λ width. local_then (inner 0) _ (here 0) (λ e. local_pure (star place width e)))))
+    (λ place. local_then size_option _ local_size_option (λ width. local_then (inner 0) _ (here 0) (λ e. local_pure (star place width e)))))
 
 prefix_by_local : (kind : Kind) (inner : ℕ → Reader Expression) → LocalInner inner → Shrinks (inner loosest) → (o : Option Sym) → Local Expression (prefix_by kind inner o)
 prefix_by_local kind inner here shrinks (Some (mark m.Minus)) = prefixed_local kind inner here p.Negate
@@ -169,7 +169,7 @@ constrained_local : (w : Name) (rel : Relation) → Local Pattern (constrained w
 unfolding constrained
 constrained_local w rel =
     local_then enter _ local_enter (λ _. local_then (expression in_constraint (suc heaviest) loosest) _ (expression_local in_constraint (suc heaviest) loosest)
-      (λ e. local_pure (constraint w rel e)))
+    (λ e. local_pure (constraint w rel e)))
 
 related_local : (w : Name) (x : Option Relation) → Local Pattern (related w x)
 related_local w None = local_pure (bare w)

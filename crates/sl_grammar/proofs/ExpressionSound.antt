@@ -1,10 +1,10 @@
 -- What is read as an expression is a tree whose spelling was taken.
-use Rattle.std.proofs.Common.{◌≡◌, ℕ, zero, suc, ◌+◌, ◌<◌, ◌≤◌, ◌&&◌, inl, inr, Bool, true, false, cond, nat_le, List, [], ◌∷◌, ◌++◌, length, Option, None, Some, Ok, Err, refl, ap, sym, ◌∙◌, subst, arith, append_assoc}
-use Rattle.sl_ast.specs.Operators.{Kind, in_section, in_action, in_constraint, is_section, has_names, has_prefix, has_operator, rank, right_rank, left_rank, loosest, binary_mark, prefix_mark, takes_size, takes_bits, takes_drop, missing_function}
+use Rattle.std.proofs.Common.{◌≡◌, ℕ, zero, suc, ◌≤◌, ◌&&◌, inl, inr, Bool, true, false, cond, nat_le, List, [], ◌∷◌, length, Option, None, Some, Ok, Err, refl, ap, ◌∙◌, subst, arith}
+use Rattle.sl_ast.specs.Operators.{Kind, in_section, in_action, in_constraint, is_section, has_prefix, has_operator, rank, right_rank, left_rank, loosest, binary_mark, prefix_mark, takes_size, takes_bits, takes_drop, missing_function}
 use Rattle.sl_ast.specs.Spelling.{name, spell_expression, spell_arguments, spell_more, spell_commas, spell_option, spell_space, spell_size}
-use Rattle.sl_ast.specs.Symbols.{Word, plain, quoted, Sym, number, word, text, mark, blank, caret, char}
-use Rattle.sl_ast.specs.Trees.{Name, Expression, Expressions, integer, named, paren, call, sized, dropped, bits, prefix, star, binary, no_more, with_more}
-use Rattle.sl_ast.specs.Validity.{Binds, AllBind, IsSome, Each, IsWidth, weight, IsExpression, heaviest}
+use Rattle.sl_ast.specs.Symbols.{plain, quoted, Sym, number, word, mark}
+use Rattle.sl_ast.specs.Trees.{Name, Expression, integer, named, paren, call, sized, dropped, bits, prefix, star, binary}
+use Rattle.sl_ast.specs.Validity.{Binds, AllBind, IsSome, Each, IsExpression, heaviest}
 use Rattle.sl_ast.specs.Views.{arguments}
 use Rattle.sl_ast.specs.declared.expressions.BinaryOp.{BinaryOp}
 use Rattle.sl_ast.specs.declared.expressions.PrefixOp.{PrefixOp}
@@ -15,13 +15,13 @@ use Rattle.sl_ast.specs.declared.symbols.Mark.{Mark}
 use Rattle.sl_ast.specs.declared.symbols.Mark.TheVariants as m
 use Rattle.sl_grammar.specs.Climb.{climb, turned}
 use Rattle.sl_grammar.specs.Expressions.{binary_of, operator_of, allowed, turn, bracketed, called, called_by, after_name, name_in, missing_name_in, atom, atom_by, size_behind, drop_behind, bits_behind, behind, postfix, prefixed, space_in, starred, prefix_by, tight, expression, with_room, whole}
-use Rattle.sl_grammar.specs.Lists.{separated, separated_from}
-use Rattle.sl_grammar.specs.Reader.{Input, at, left, first, Outcome, Reader, ◌>>=◌, and_then, pure, next, enter, expect, is_mark, look, refuse, integer_here, name_here, size_here, size_option}
+use Rattle.sl_grammar.specs.Lists.{separated}
+use Rattle.sl_grammar.specs.Reader.{Input, at, first, Outcome, Reader, and_then, pure, next, enter, expect, is_mark, refuse, integer_here, name_here, size_here, size_option}
 use Rattle.sl_grammar.proofs.ExpressionSteps.{Climbs}
 use Rattle.sl_grammar.proofs.ListsTaken.{cost_all, separated_ok}
 use Rattle.sl_grammar.proofs.Measures.{cost, costs, cost_is, space_cost}
 use Rattle.sl_grammar.proofs.Steps.{le_is}
-use Rattle.sl_grammar.proofs.Taken.{then_ok, along, look_ok, both_true, value_or, state_or, same_value, same_state, Took, Entered, mark_first, took_next, enter_ok, expect_ok, integer_ok, name_ok, size_ok, size_option_ok, TookOption}
+use Rattle.sl_grammar.proofs.Taken.{then_ok, along, look_ok, both_true, Took, mark_first, took_next, enter_ok, expect_ok, integer_ok, name_ok, size_ok, size_option_ok}
 
 -- the tree's symbols and room were taken, and it binds at the rank or tighter
 pub record Reads (kind : Kind) (n : ℕ) (i : Input) (e : Expression) (j : Input) : Type 0 where
@@ -181,7 +181,7 @@ arguments_ok : (kind : Kind) (inner : ℕ → Reader Expression) → SoundInner 
     → ReadsArguments kind i es j
 arguments_ok kind inner sound i j es h =
     let took = separated_ok spell_expression cost (Binds kind) (inner loosest)
-      (λ k l e f. (let read = sound loosest k l e f in record { tokens = read.tokens; room = read.room; good = read.binds })) (suc (length i.rest)) [] i j es h in
+    (λ k l e f. (let read = sound loosest k l e f in record { tokens = read.tokens; room = read.room; good = read.binds })) (suc (length i.rest)) [] i j es h in
     subst (λ ds. ReadsArguments kind i ds j) took.whole (record {
       tokens = took.tokens ∙ ap (spell_expression took.head) (commas_are took.tail j.rest);
       room = took.room ∙ ap (cost took.head) (costs_same took.tail j.room);
@@ -215,9 +215,9 @@ after_name_ok : (inner : ℕ → Reader Expression) → SoundInner in_section in
     → after_name in_section inner w k ≡ Ok (e, j) → Reads in_section 0 i e j
 unfolding after_name
 after_name_ok inner sound w i k j e took h = elim (look_ok (is_mark m.Open) _ _ k (Ok (e, j)) h) [
-    | inl f ↦ called_by_ok inner sound w i k j e took (mark_first m.Open (first k.rest) f.0) (missing_function w) refl f.1
-    | inr f ↦ along (λ x l. Reads in_section 0 i x l) (named w) e k j f.1 (record { tokens = took.tokens; room = took.room; binds = refl; low = omega arith })
-  ]
+  | inl f ↦ called_by_ok inner sound w i k j e took (mark_first m.Open (first k.rest) f.0) (missing_function w) refl f.1
+  | inr f ↦ along (λ x l. Reads in_section 0 i x l) (named w) e k j f.1 (record { tokens = took.tokens; room = took.room; binds = refl; low = omega arith })
+]
 
 name_in_ok : (kind : Kind) (inner : ℕ → Reader Expression) → SoundInner kind inner → (w : Name) (i j : Input) (e : Expression) → first i.rest ≡ Some (name w)
     → name_in kind inner kind w i ≡ Ok (e, j) → Reads kind 0 i e j
@@ -295,7 +295,7 @@ bits_behind_ok inner i k j e u read is takes h =
     let closed = expect_ok m.CloseBracket d.1 f.1 f.0 f.2 in
     along (λ x l. Reads in_section 0 i x l) (bits e b.0 d.0) u f.1 j f.3 (record {
       tokens = read.tokens ∙ ap (spell_expression e) (opened.tokens ∙ ap (λ xs. mark m.OpenBracket ∷ xs) (low.tokens ∙ ap (λ xs. number b.0 ∷ xs)
-        (comma.tokens ∙ ap (λ xs. mark m.Comma ∷ xs) (count.tokens ∙ ap (λ xs. number d.0 ∷ xs) closed.tokens))));
+          (comma.tokens ∙ ap (λ xs. mark m.Comma ∷ xs) (count.tokens ∙ ap (λ xs. number d.0 ∷ xs) closed.tokens))));
       room = read.room ∙ ap (cost e) (opened.room ∙ ap suc (low.room ∙ comma.room ∙ count.room ∙ closed.room));
       binds = (refl, takes, read.binds);
       low = omega arith;
@@ -305,15 +305,15 @@ bits_behind_ok inner i k j e u read is takes h =
 behind_ok : (inner : ℕ → Reader Expression) (i k j : Input) (e u : Expression) → Reads in_section 0 i e k → behind in_section inner e k ≡ Ok (u, j) → Reads in_section 0 i u j
 unfolding behind
 behind_ok inner i k j e u read h = elim (look_ok (λ o. is_mark m.Colon o && takes_size e) _ _ k (Ok (u, j)) h) [
-    | inl f ↦ let t = both_true (is_mark m.Colon (first k.rest)) (takes_size e) f.0 in size_behind_ok inner i k j e u read (mark_first m.Colon (first k.rest) t.0) t.1 f.1
-    | inr f ↦ elim (look_ok (λ o. is_mark m.Open o && takes_drop e) _ _ k (Ok (u, j)) f.1) [
-        | inl g ↦ let t = both_true (is_mark m.Open (first k.rest)) (takes_drop e) g.0 in drop_behind_ok inner i k j e u read (mark_first m.Open (first k.rest) t.0) t.1 g.1
-        | inr g ↦ elim (look_ok (λ o. is_mark m.OpenBracket o && takes_bits e) _ _ k (Ok (u, j)) g.1) [
-            | inl d ↦ let t = both_true (is_mark m.OpenBracket (first k.rest)) (takes_bits e) d.0 in bits_behind_ok inner i k j e u read (mark_first m.OpenBracket (first k.rest) t.0) t.1 d.1
-            | inr d ↦ along (λ x l. Reads in_section 0 i x l) e u k j d.1 read
-          ]
-      ]
+  | inl f ↦ let t = both_true (is_mark m.Colon (first k.rest)) (takes_size e) f.0 in size_behind_ok inner i k j e u read (mark_first m.Colon (first k.rest) t.0) t.1 f.1
+  | inr f ↦ elim (look_ok (λ o. is_mark m.Open o && takes_drop e) _ _ k (Ok (u, j)) f.1) [
+    | inl g ↦ let t = both_true (is_mark m.Open (first k.rest)) (takes_drop e) g.0 in drop_behind_ok inner i k j e u read (mark_first m.Open (first k.rest) t.0) t.1 g.1
+    | inr g ↦ elim (look_ok (λ o. is_mark m.OpenBracket o && takes_bits e) _ _ k (Ok (u, j)) g.1) [
+      | inl d ↦ let t = both_true (is_mark m.OpenBracket (first k.rest)) (takes_bits e) d.0 in bits_behind_ok inner i k j e u read (mark_first m.OpenBracket (first k.rest) t.0) t.1 d.1
+      | inr d ↦ along (λ x l. Reads in_section 0 i x l) e u k j d.1 read
+    ]
   ]
+]
 
 behind_in : (kind : Kind) (inner : ℕ → Reader Expression) (i k j : Input) (e u : Expression) → Reads kind 0 i e k
     → cond {A = Reader Expression} (is_section kind) (behind kind inner e) (pure e) k ≡ Ok (u, j) → Reads kind 0 i u j
@@ -352,20 +352,20 @@ record TookSpace (i : Input) (place : Option Name) (j : Input) : Type 0 where
 space_ok : (kind : Kind) (inner : ℕ → Reader Expression) (i j : Input) (place : Option Name) → space_in kind inner i ≡ Ok (place, j) → TookSpace i place j
 unfolding space_in
 space_ok kind inner i j place h = elim (look_ok (is_mark m.OpenBracket) _ _ i (Ok (place, j)) h) [
-    | inl f ↦
-        let z = then_ok (and_then (enter i) (λ _ a. and_then (name_here a) (λ w b. and_then (expect m.CloseBracket b) (λ _ c. Ok (w, c))))) _ place j f.1 in
-        let a = then_ok (enter i) _ z.0 z.1 z.2 in
-        let b = then_ok (name_here a.1) _ z.0 z.1 a.3 in
-        let c = then_ok (expect m.CloseBracket b.1) _ z.0 z.1 b.3 in
-        let opened = enter_ok i a.1 (mark m.OpenBracket) a.0 (mark_first m.OpenBracket (first i.rest) f.0) a.2 in
-        let w = name_ok a.1 b.1 b.0 b.2 in
-        let closed = expect_ok m.CloseBracket b.1 c.1 c.0 c.2 in
-        along (λ x l. TookSpace i x l) (Some z.0) place z.1 j z.3 (along (λ v l. TookSpace i (Some v) l) b.0 z.0 c.1 z.1 c.3 (record {
-          tokens = opened.tokens ∙ ap (λ xs. mark m.OpenBracket ∷ xs) (w.tokens ∙ ap (λ xs. name b.0 ∷ xs) closed.tokens);
-          room = opened.room ∙ ap suc (w.room ∙ closed.room);
-        }))
-    | inr f ↦ along (λ x l. TookSpace i x l) None place i j f.1 (record { tokens = refl; room = refl })
-  ]
+  | inl f ↦
+      let z = then_ok (and_then (enter i) (λ _ a. and_then (name_here a) (λ w b. and_then (expect m.CloseBracket b) (λ _ c. Ok (w, c))))) _ place j f.1 in
+      let a = then_ok (enter i) _ z.0 z.1 z.2 in
+      let b = then_ok (name_here a.1) _ z.0 z.1 a.3 in
+      let c = then_ok (expect m.CloseBracket b.1) _ z.0 z.1 b.3 in
+      let opened = enter_ok i a.1 (mark m.OpenBracket) a.0 (mark_first m.OpenBracket (first i.rest) f.0) a.2 in
+      let w = name_ok a.1 b.1 b.0 b.2 in
+      let closed = expect_ok m.CloseBracket b.1 c.1 c.0 c.2 in
+      along (λ x l. TookSpace i x l) (Some z.0) place z.1 j z.3 (along (λ v l. TookSpace i (Some v) l) b.0 z.0 c.1 z.1 c.3 (record {
+        tokens = opened.tokens ∙ ap (λ xs. mark m.OpenBracket ∷ xs) (w.tokens ∙ ap (λ xs. name b.0 ∷ xs) closed.tokens);
+        room = opened.room ∙ ap suc (w.room ∙ closed.room);
+      }))
+  | inr f ↦ along (λ x l. TookSpace i x l) None place i j f.1 (record { tokens = refl; room = refl })
+]
 
 starred_ok : (kind : Kind) (inner : ℕ → Reader Expression) → SoundInner kind inner → is_section kind ≡ true → (i j : Input) (e : Expression)
     → first i.rest ≡ Some (mark m.Star) → starred kind inner i ≡ Ok (e, j) → Reads kind 0 i e j

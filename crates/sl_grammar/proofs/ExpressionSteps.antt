@@ -1,23 +1,22 @@
 -- One lemma for each shape of an expression, from what is known of its parts.
-use Rattle.std.proofs.Common.{◌≡◌, ℕ, zero, suc, ◌+◌, ◌-◌, ◌<◌, ◌≤◌, ◌==◌, ◌&&◌, Bool, true, false, cond, nat_le, List, [], ◌∷◌, ◌++◌, length, Option, None, Some, Ok, refl, ap, sym, ◌∙◌, arith}
+use Rattle.std.proofs.Common.{◌≡◌, ℕ, zero, suc, ◌<◌, ◌≤◌, ◌==◌, ◌&&◌, Bool, true, false, cond, nat_le, List, [], ◌∷◌, length, Option, None, Some, Ok, refl, arith}
 use Rattle.sl_ast.specs.Operators.{Kind, in_section, in_action, in_constraint, is_section, has_names, has_prefix, has_operator, rank, right_rank, left_rank, loosest, binary_mark, prefix_mark, takes_size, takes_bits, takes_drop, missing_function}
 use Rattle.sl_ast.specs.Spelling.{name, spell_expression, spell_option, spell_space, spell_size}
-use Rattle.sl_ast.specs.Symbols.{Word, plain, quoted, Sym, number, word, mark}
-use Rattle.sl_ast.specs.Trees.{Name, Expression, Expressions, integer, named, paren, call, sized, dropped, bits, prefix, star, binary, no_more, with_more}
+use Rattle.sl_ast.specs.Symbols.{Sym, number, mark}
+use Rattle.sl_ast.specs.Trees.{Name, Expression, integer, named, paren, call, sized, dropped, bits, prefix, star, binary}
 use Rattle.sl_ast.specs.Validity.{IfWritten, IsWidth}
 use Rattle.sl_ast.specs.Views.{arguments}
 use Rattle.sl_ast.specs.declared.expressions.BinaryOp.{BinaryOp}
 use Rattle.sl_ast.specs.declared.expressions.BinaryOp.TheVariants as b
 use Rattle.sl_ast.specs.declared.expressions.PrefixOp.{PrefixOp}
 use Rattle.sl_ast.specs.declared.expressions.PrefixOp.TheVariants as p
-use Rattle.sl_ast.specs.declared.symbols.Mark.{Mark}
 use Rattle.sl_ast.specs.declared.symbols.Mark.TheVariants as m
-use Rattle.sl_grammar.specs.Climb.{climb, turned}
-use Rattle.sl_grammar.specs.Expressions.{binary_of, operator_of, allowed, turn, bracketed, called, called_by, after_name, atom, atom_by, size_behind, drop_behind, bits_behind, behind, postfix, prefixed, space_in, starred, prefix_by, tight, expression}
+use Rattle.sl_grammar.specs.Climb.{climb}
+use Rattle.sl_grammar.specs.Expressions.{operator_of, allowed, turn, bracketed, called, after_name, atom, size_behind, drop_behind, bits_behind, behind, postfix, prefixed, space_in, starred, tight, expression}
 use Rattle.sl_grammar.specs.Lists.{separated_from}
-use Rattle.sl_grammar.specs.Reader.{Input, at, left, first, Reader, enter, expect, same_mark, is_mark, look, integer_here, name_here, size_here, size_option}
-use Rattle.sl_grammar.proofs.Measures.{cost, costs, space_cost, last_rank}
-use Rattle.sl_grammar.proofs.Steps.{le_true, le_false, equal_is, enters, size_is, size_option_is}
+use Rattle.sl_grammar.specs.Reader.{Input, at, first, Reader, enter, expect, same_mark, is_mark, integer_here, name_here}
+use Rattle.sl_grammar.proofs.Measures.{space_cost}
+use Rattle.sl_grammar.proofs.Steps.{le_true, le_false, equal_is, size_is, size_option_is}
 
 -- ---- what follows a tree
 

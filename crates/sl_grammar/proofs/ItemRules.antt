@@ -1,28 +1,26 @@
 -- The rules of blocks, items and whole specifications.
-use Rattle.std.proofs.Common.{◌≡◌, ℕ, zero, suc, ◌+◌, ◌<◌, ◌≤◌, inl, inr, Bool, true, false, not, List, [], ◌∷◌, ◌++◌, length, Option, None, Some, Ok, Err, Result, refl, ap, sym, ◌∙◌, subst, arith}
+use Rattle.std.proofs.Common.{◌≡◌, ℕ, zero, suc, ◌<◌, ◌≤◌, inl, inr, true, false, List, [], ◌∷◌, length, Option, None, Some, Ok, Err, Result, refl, ap, sym, ◌∙◌, subst, arith}
 use Rattle.sl_ast.specs.Spelling.{Spelling, name, keyword, kind_word, spell_name, spell_option, spell_all, spell_separated, spell_names, spell_definition, spell_member, spell_body, spell_piece, spell_pattern, spell_actions, spell_section, spell_constructor, spell_head, spell_inside, spell_macro, spell_item, spell}
-use Rattle.sl_ast.specs.Symbols.{Word, plain, quoted, Sym, number, word, text, mark, blank, caret, char}
-use Rattle.sl_ast.specs.Trees.{Name, Statement, Member, member_word, member_text, member_integer, member_negative, Names, Definition, Constructor, Head, Inside, nothing, constructor_then, block_then, Macro, Item, define, attach_list, attach_one, macro, constructor, block}
+use Rattle.sl_ast.specs.Symbols.{quoted, Sym, word, mark}
+use Rattle.sl_ast.specs.Trees.{Name, Member, member_word, member_text, member_integer, member_negative, Names, Definition, Constructor, Head, Inside, nothing, constructor_then, block_then, Macro, Item, define, attach_list, attach_one, macro, constructor, block}
 use Rattle.sl_ast.specs.Validity.{Each, IsStatement, IsDefinition, IsMember, IsConstructor, IsHead, IsInside, deepest, IsItem, AreItems}
 use Rattle.sl_ast.specs.declared.definitions.AttachKind.{AttachKind}
-use Rattle.sl_ast.specs.declared.symbols.Keyword.{Keyword}
 use Rattle.sl_ast.specs.declared.symbols.Keyword.TheVariants as k
-use Rattle.sl_ast.specs.declared.symbols.Mark.{Mark}
 use Rattle.sl_ast.specs.declared.symbols.Mark.TheVariants as m
 use Rattle.sl_grammar.specs.Definitions.{definition, names, attach_kind, member}
 use Rattle.sl_grammar.specs.Items.{constructor_here, head, inside_by, inside_from, inside, block_at, define_here, attach_here, macro_here, item_by, item, is_there, value_of, specification}
-use Rattle.sl_grammar.specs.Lists.{many_from, many, listed}
+use Rattle.sl_grammar.specs.Lists.{many, listed}
 use Rattle.sl_grammar.specs.Parallel.{Local}
-use Rattle.sl_grammar.specs.Reader.{Fault, nesting, Input, at, first, left, Outcome, Reader, ◌>>=◌, ◌>>◌, and_then, pure, peek, is_mark, same_mark, same_keyword, look, expect, expect_keyword, name_here}
+use Rattle.sl_grammar.specs.Reader.{Fault, nesting, Input, at, first, Outcome, Reader, ◌>>=◌, and_then, pure, peek, is_mark, same_mark, same_keyword, expect, expect_keyword, name_here}
 use Rattle.sl_grammar.specs.Statements.{until, body}
 use Rattle.sl_grammar.proofs.BodyRules.{body_rule, long_body, bracket_ends, long_separated}
 use Rattle.sl_grammar.proofs.ConstructorRules.{constructor_rule, long_constructor, head_rule, long_head}
 use Rattle.sl_grammar.proofs.DefinitionRules.{definition_is, definition_ok, definition_local, attach_kind_is, attach_kind_ok, attach_kind_local, names_rule, member_rule, members_rule, each_free, long_names, long_definition, long_member}
 use Rattle.sl_grammar.proofs.ListsTaken.{Takes, many_ok}
 use Rattle.sl_grammar.proofs.LocalSteps.{local_then, local_pure, local_fault, local_peek, local_refuse, local_look, local_expect, local_expect_keyword, local_name, local_rounds, same_then, same_else, Shrinks}
-use Rattle.sl_grammar.proofs.PartRules.{symbol_then, tree_then, name_takes, Free, name_rule, wrap_ok, wrap_local}
-use Rattle.sl_grammar.proofs.Rules.{Rule, Any, Ends, Long, Separated, many_rule, long_all, listed_is, listed_ok, listed_local, rule_shrinks}
-use Rattle.sl_grammar.proofs.Taken.{then_ok, along, look_ok, Took, mark_first, took_next, expect_ok, expect_keyword_ok, name_ok}
+use Rattle.sl_grammar.proofs.PartRules.{symbol_then, tree_then, Free, name_rule, wrap_ok, wrap_local}
+use Rattle.sl_grammar.proofs.Rules.{Rule, Any, Ends, Separated, many_rule, long_all, listed_is, listed_ok, listed_local, rule_shrinks}
+use Rattle.sl_grammar.proofs.Taken.{then_ok, along, look_ok, expect_ok, expect_keyword_ok, name_ok}
 
 -- ---- blocks
 
@@ -55,7 +53,7 @@ InsideIs x = (d n : ℕ) (rest : List Sym) (r : ℕ) → IsInside d x → length
 -- the first symbol of a constructor is a name or a colon
 begins_constructor : (p : Reader Inside) (inner : Reader Block) (c : Constructor) (rest : List Sym)
     → (is_mark m.CloseBrace (first (spell_constructor c rest)) ≡ false)
-      × (inside_by inner p (first (spell_constructor c rest)) ≡ (constructor_here >>= (λ c. p >>= (λ more. pure (constructor_then c more)))))
+    × (inside_by inner p (first (spell_constructor c rest)) ≡ (constructor_here >>= (λ c. p >>= (λ more. pure (constructor_then c more)))))
 unfolding same_mark
 begins_constructor p inner c rest = by_table c.table (spell_all spell_piece c.display (keyword k.Is ∷ spell_pattern c.pattern (spell_option spell_actions c.actions (spell_section c.section rest))))
   where
@@ -135,9 +133,9 @@ inside_ok : (d : ℕ) → SoundBlock d → (n : ℕ) (i j : Input) (x : Inside) 
 unfolding inside_from
 inside_ok d sound zero i j x h = absurd (cc)
 inside_ok d sound (suc n) i j x h = elim (look_ok (is_mark m.CloseBrace) _ _ i (Ok (x, j)) h) [
-    | inl f ↦ along (λ y l. Takes spell_inside (IsInside d) i y l) nothing x i j f.1 (record { tokens = refl; good = tt })
-    | inr f ↦ inside_by_ok d n sound (inside_ok d sound n) (first i.rest) i j x f.1
-  ]
+  | inl f ↦ along (λ y l. Takes spell_inside (IsInside d) i y l) nothing x i j f.1 (record { tokens = refl; good = tt })
+  | inr f ↦ inside_by_ok d n sound (inside_ok d sound n) (first i.rest) i j x f.1
+]
 
 block_ok : (d : ℕ) → SoundBlock d
 unfolding block_at
@@ -198,7 +196,7 @@ unfolding block_at
 block_local zero = local_fault nesting
 block_local (suc d) =
     local_then head _ head_rule.here (λ h. local_then (inside (block_at d)) _ (inside_local (block_at d) (block_local d) (block_shrinks d))
-      (λ found. local_then (expect m.CloseBrace) _ (local_expect m.CloseBrace) (λ _. local_pure (h, found))))
+    (λ found. local_then (expect m.CloseBrace) _ (local_expect m.CloseBrace) (λ _. local_pure (h, found))))
 
 -- ---- definitions and attached lists
 
@@ -215,7 +213,7 @@ define_ok i j x h =
     let d = definition_ok a.1 b.1 b.0 b.2 in
     along (λ y l. Takes spell_item IsItem i y l) (define b.0) x c.1 j c.3 (record {
       tokens = symbol_then i (keyword k.Define) a.1 _ (expect_keyword_ok k.Define i a.1 a.0 a.2)
-        (tree_then spell_definition IsDefinition a.1 b.0 b.1 _ d (expect_ok m.Semicolon b.1 c.1 c.0 c.2).tokens);
+          (tree_then spell_definition IsDefinition a.1 b.0 b.1 _ d (expect_ok m.Semicolon b.1 c.1 c.0 c.2).tokens);
       good = d.good;
     })
 
@@ -229,8 +227,11 @@ attach_list_is : (kind : AttachKind) (ws : Names) (ms : List Member) (rest : Lis
 unfolding attach_here expect expect_keyword same_mark same_keyword
 attach_list_is kind ws ms rest r good =
     let after = mark m.OpenBracket ∷ spell_all spell_member ms (mark m.CloseBracket ∷ mark m.Semicolon ∷ rest) in
-    rw (attach_kind_is kind (spell_names ws after) r, names_rule.complete ws after r tt tt,
-      members_rule.complete ms (mark m.CloseBracket ∷ mark m.Semicolon ∷ rest) r good (bracket_ends (mark m.Semicolon ∷ rest))) refl
+    rw (
+      attach_kind_is kind (spell_names ws after) r,
+      names_rule.complete ws after r tt tt,
+      members_rule.complete ms (mark m.CloseBracket ∷ mark m.Semicolon ∷ rest) r good (bracket_ends (mark m.Semicolon ∷ rest)),
+    ) refl
 
 member_no_bracket : (x : Member) (rest : List Sym) → is_mark m.OpenBracket (first (spell_member x rest)) ≡ false
 unfolding same_mark
@@ -263,7 +264,7 @@ attach_ok i j x h =
           let ms = members_rule.sound d.1 e.1 e.0 e.2 in
           along (λ y n. Takes spell_item IsItem i y n) (attach_list b.0 c.0 e.0) x l.1 j l.3 (record {
             tokens = symbol_then i (keyword k.Attach) a.1 _ word_then (symbol_then a.1 (keyword (kind_word b.0)) b.1 _ kind (tree_then spell_names Free b.1 c.0 c.1 _ ws
-              (symbol_then c.1 (mark m.OpenBracket) d.1 _ (expect_ok m.OpenBracket c.1 d.1 d.0 d.2) (tree_then (spell_all spell_member) (Each IsMember) d.1 e.0 e.1 _ ms
+                (symbol_then c.1 (mark m.OpenBracket) d.1 _ (expect_ok m.OpenBracket c.1 d.1 d.0 d.2) (tree_then (spell_all spell_member) (Each IsMember) d.1 e.0 e.1 _ ms
                 (symbol_then e.1 (mark m.CloseBracket) g.1 _ (expect_ok m.CloseBracket e.1 g.1 g.0 g.2) (expect_ok m.Semicolon g.1 l.1 l.0 l.2).tokens)))));
             good = ms.good;
           })
@@ -273,7 +274,7 @@ attach_ok i j x h =
           let one = member_rule.sound c.1 d.1 d.0 d.2 in
           along (λ y n. Takes spell_item IsItem i y n) (attach_one b.0 c.0 d.0) x e.1 j e.3 (record {
             tokens = symbol_then i (keyword k.Attach) a.1 _ word_then (symbol_then a.1 (keyword (kind_word b.0)) b.1 _ kind (tree_then spell_names Free b.1 c.0 c.1 _ ws
-              (tree_then spell_member IsMember c.1 d.0 d.1 _ one (expect_ok m.Semicolon d.1 e.1 e.0 e.2).tokens)));
+                (tree_then spell_member IsMember c.1 d.0 d.1 _ one (expect_ok m.Semicolon d.1 e.1 e.0 e.2).tokens)));
             good = one.good;
           })
     ]
@@ -283,7 +284,7 @@ unfolding attach_here
 attach_local = local_then (expect_keyword k.Attach) _ (local_expect_keyword k.Attach) (λ _. local_then attach_kind _ attach_kind_local (λ kind. local_then names _ names_rule.here (λ ws.
     local_look (is_mark m.OpenBracket) _ _
     (local_then (expect m.OpenBracket) _ (local_expect m.OpenBracket) (λ _. local_then (many (until m.CloseBracket) member) _ members_rule.here (λ members.
-      local_then (expect m.CloseBracket) _ (local_expect m.CloseBracket) (λ _. local_then (expect m.Semicolon) _ (local_expect m.Semicolon) (λ _. local_pure (attach_list kind ws members))))))
+    local_then (expect m.CloseBracket) _ (local_expect m.CloseBracket) (λ _. local_then (expect m.Semicolon) _ (local_expect m.Semicolon) (λ _. local_pure (attach_list kind ws members))))))
     (local_then member _ member_rule.here (λ x. local_then (expect m.Semicolon) _ (local_expect m.Semicolon) (λ _. local_pure (attach_one kind ws x)))))))
 
 -- ---- macros
@@ -294,8 +295,10 @@ name_separated = record { begins = λ w rest. refl; comma = λ rest. tt; close =
 macro_is : (d : Macro) (rest : List Sym) (r : ℕ) → Each IsStatement d.body → macro_here (at (spell_macro d rest) r) ≡ Ok (macro d, at rest r)
 unfolding macro_here expect expect_keyword same_mark same_keyword name_here
 macro_is d rest r good =
-    rw (listed_is spell_name Free Any name_here name_rule (λ w zs. omega arith) name_separated d.parameters (spell_body d.body rest) r (each_free d.parameters),
-      body_rule.complete d.body rest r good tt) refl
+    rw (
+      listed_is spell_name Free Any name_here name_rule (λ w zs. omega arith) name_separated d.parameters (spell_body d.body rest) r (each_free d.parameters),
+      body_rule.complete d.body rest r good tt,
+    ) refl
 
 parameters_ok : (i j : Input) (ws : List Name) → listed name_here i ≡ Ok (ws, j) → Takes (spell_separated spell_name) (Each Free) i ws j
 parameters_ok = listed_ok spell_name Free name_here (λ i j w h. (let took = name_ok i j w h in record { tokens = took.tokens; room = took.room; good = tt }))
@@ -312,7 +315,7 @@ macro_ok i j x h =
     let found = body_rule.sound e.1 f.1 f.0 f.2 in
     along (λ y l. Takes spell_item IsItem i y l) (macro (record { name = b.0; parameters = d.0; body = f.0 })) x f.1 j f.3 (record {
       tokens = symbol_then i (keyword k.Macro) a.1 _ (expect_keyword_ok k.Macro i a.1 a.0 a.2) (symbol_then a.1 (name b.0) b.1 _ (name_ok a.1 b.1 b.0 b.2) (symbol_then b.1 (mark m.Open) c.1 _ (expect_ok m.Open b.1 c.1 c.0 c.2)
-        (tree_then (spell_separated spell_name) (Each Free) c.1 d.0 d.1 _ (parameters_ok c.1 d.1 d.0 d.2) (symbol_then d.1 (mark m.Close) e.1 _ (expect_ok m.Close d.1 e.1 e.0 e.2) found.tokens))));
+          (tree_then (spell_separated spell_name) (Each Free) c.1 d.0 d.1 _ (parameters_ok c.1 d.1 d.0 d.2) (symbol_then d.1 (mark m.Close) e.1 _ (expect_ok m.Close d.1 e.1 e.0 e.2) found.tokens))));
       good = found.good;
     })
 
@@ -320,7 +323,7 @@ macro_local : Local Item macro_here
 unfolding macro_here
 macro_local = local_then (expect_keyword k.Macro) _ (local_expect_keyword k.Macro) (λ _. local_then name_here _ local_name (λ w. local_then (expect m.Open) _ (local_expect m.Open) (λ _.
     local_then (listed name_here) _ (listed_local name_here local_name (rule_shrinks spell_name Free Any name_here name_rule (λ w rest. omega arith))) (λ parameters.
-      local_then (expect m.Close) _ (local_expect m.Close) (λ _. local_then body _ body_rule.here (λ found. local_pure (macro (record { name = w; parameters = parameters; body = found }))))))))
+    local_then (expect m.Close) _ (local_expect m.Close) (λ _. local_then body _ body_rule.here (λ found. local_pure (macro (record { name = w; parameters = parameters; body = found }))))))))
 
 -- ---- items
 

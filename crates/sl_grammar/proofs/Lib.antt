@@ -16,3 +16,4 @@ pub mod BodyRules
 pub mod DefinitionRules
 pub mod ConstructorRules
 pub mod ItemRules
+pub mod Faults

@@ -1,5 +1,5 @@
 -- What the readers of lists took.
-use Rattle.std.proofs.Common.{◌≡◌, ℕ, zero, suc, ◌+◌, inl, inr, Bool, true, false, List, [], ◌∷◌, ◌++◌, Option, None, Some, Ok, refl, ap, sym, ◌∙◌, subst, arith, append_assoc, append-nil}
+use Rattle.std.proofs.Common.{◌≡◌, ℕ, zero, suc, inl, inr, Bool, false, List, [], ◌∷◌, ◌++◌, Option, Ok, refl, ap, sym, ◌∙◌, append_assoc, append-nil}
 use Rattle.sl_ast.specs.Spelling.{Spelling, spell_all, spell_commas}
 use Rattle.sl_ast.specs.Symbols.{Sym, mark}
 use Rattle.sl_ast.specs.Validity.{Each}
@@ -53,14 +53,14 @@ separated_ok spell cost Good p sound (suc n) found i j as' e =
             goods = (more.good, more.goods);
           }
       | inr h ↦ along (λ bs l. TookParts spell cost Good found i bs l) (found ++ x ∷ []) as' k j h.1 (record {
-          head = x;
-          tail = [];
-          whole = refl;
-          tokens = part.tokens;
-          room = part.room;
-          good = part.good;
-          goods = tt;
-        })
+        head = x;
+        tail = [];
+        whole = refl;
+        tokens = part.tokens;
+        room = part.room;
+        good = part.good;
+        goods = tt;
+      })
     ]
 
 -- parts one behind the other

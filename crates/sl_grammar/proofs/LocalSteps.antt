@@ -1,6 +1,6 @@
 -- Readers that look at one symbol ahead are local, and so is what is made of them.
-use Rattle.std.proofs.Common.{◌≡◌, ℕ, zero, suc, ◌+◌, ◌<◌, ◌≤◌, Bool, true, false, cond, nat_le, List, [], ◌∷◌, ◌++◌, length, drop, Option, None, Some, Ok, Err, refl, ap, sym, ◌∙◌, subst, arith, length-append}
-use Rattle.sl_ast.specs.Symbols.{Word, plain, quoted, Sym, number, word, text, mark, blank, caret, char}
+use Rattle.std.proofs.Common.{◌≡◌, ℕ, zero, suc, ◌+◌, ◌<◌, ◌≤◌, Bool, true, false, cond, nat_le, List, [], ◌∷◌, ◌++◌, length, drop, Option, None, Some, Ok, Err, refl, ap, ◌∙◌, subst, arith, length-append}
+use Rattle.sl_ast.specs.Symbols.{plain, Sym, number, word}
 use Rattle.sl_ast.specs.Trees.{Name}
 use Rattle.sl_ast.specs.declared.symbols.Feature.{Feature}
 use Rattle.sl_ast.specs.declared.symbols.Feature.TheVariants as f
@@ -64,7 +64,7 @@ first_alike x (w ∷ xs) ys zs = refl
 pub local_peek : {A : Type 0} (go : Option Sym → Reader A) → ((o : Option Sym) → Local A (go o)) → Local A (λ i. go (first i.rest) i)
 local_peek go here = record {
   alike = λ x xs ys zs r. subst (λ o. Parallel _ (x ∷ ys) (x ∷ zs) (go (first (xs ++ x ∷ ys)) (at (xs ++ x ∷ ys) r)) (go o (at (xs ++ x ∷ zs) r)))
-    (first_alike x xs ys zs) ((here (first (xs ++ x ∷ ys))).alike x xs ys zs r);
+      (first_alike x xs ys zs) ((here (first (xs ++ x ∷ ys))).alike x xs ys zs r);
   forward = λ i ys h. (here (first i.rest)).forward i ys h;
 }
 
@@ -177,12 +177,12 @@ Enough q = (m n : ℕ) (i : Input) → length i.rest < m → length i.rest < n �
 pub local_rounds : {A : Type 0} (q : ℕ → Reader A) → ((n : ℕ) → Local A (q n)) → Enough q → Local A (λ i. q (suc (length i.rest)) i)
 local_rounds {A} q here enough = record {
   alike = λ x xs ys zs r. (
-    let first = at (xs ++ x ∷ ys) r in
-    let second = at (xs ++ x ∷ zs) r in
-    let most = suc (length (xs ++ x ∷ ys) + length (xs ++ x ∷ zs)) in
-    let e : q most first ≡ q (suc (length (xs ++ x ∷ ys))) first = enough most (suc (length (xs ++ x ∷ ys))) first (omega arith) (omega arith) in
-    let f : q most second ≡ q (suc (length (xs ++ x ∷ zs))) second = enough most (suc (length (xs ++ x ∷ zs))) second (omega arith) (omega arith) in
-    subst (λ o. Parallel A (x ∷ ys) (x ∷ zs) o (q (suc (length (xs ++ x ∷ zs))) second)) e
+      let first = at (xs ++ x ∷ ys) r in
+      let second = at (xs ++ x ∷ zs) r in
+      let most = suc (length (xs ++ x ∷ ys) + length (xs ++ x ∷ zs)) in
+      let e : q most first ≡ q (suc (length (xs ++ x ∷ ys))) first = enough most (suc (length (xs ++ x ∷ ys))) first (omega arith) (omega arith) in
+      let f : q most second ≡ q (suc (length (xs ++ x ∷ zs))) second = enough most (suc (length (xs ++ x ∷ zs))) second (omega arith) (omega arith) in
+      subst (λ o. Parallel A (x ∷ ys) (x ∷ zs) o (q (suc (length (xs ++ x ∷ zs))) second)) e
       (subst (λ o. Parallel A (x ∷ ys) (x ∷ zs) (q most first) o) f ((here most).alike x xs ys zs r)));
   forward = λ i ys h. (here (suc (length i.rest))).forward i ys h;
 }
@@ -224,7 +224,7 @@ unfolding separated_from
 separated_from_local p here zero found = local_refuse
 separated_from_local p here (suc n) found =
     local_then p _ here (λ a. local_look (is_mark m.Comma) (skip >> separated_from p n (found ++ a ∷ [])) (pure (found ++ a ∷ []))
-      (local_skips (separated_from p n (found ++ a ∷ [])) (separated_from_local p here n (found ++ a ∷ []))) (local_pure (found ++ a ∷ [])))
+    (local_skips (separated_from p n (found ++ a ∷ [])) (separated_from_local p here n (found ++ a ∷ []))) (local_pure (found ++ a ∷ [])))
 
 next_le : (xs : List Sym) → length (drop 1 xs) ≤ length xs
 next_le [] = omega arith
@@ -237,7 +237,7 @@ separated_enough p shrinks zero n found i less more = absurd (omega arith)
 separated_enough p shrinks (suc k) zero found i less more = absurd (omega arith)
 separated_enough p shrinks (suc k) (suc n) found i less more =
     same_then (p i) _ _ (λ a j e. (let short = shrinks i j a e in let le = next_le j.rest in
-      same_if (is_mark m.Comma (first j.rest)) _ _ (pure (found ++ a ∷ [])) j (λ _. separated_enough p shrinks k n (found ++ a ∷ []) (next j) (omega arith) (omega arith))))
+    same_if (is_mark m.Comma (first j.rest)) _ _ (pure (found ++ a ∷ [])) j (λ _. separated_enough p shrinks k n (found ++ a ∷ []) (next j) (omega arith) (omega arith))))
 
 pub local_separated : {A : Type 0} (p : Reader A) → Local A p → Shrinks p → Local (List A) (separated p)
 local_separated p here shrinks =

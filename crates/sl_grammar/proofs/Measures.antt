@@ -1,5 +1,5 @@
 -- How many symbols a tree is spelled with, and how much room it takes.
-use Rattle.std.proofs.Common.{◌≡◌, ℕ, zero, suc, ◌+◌, ◌<◌, ◌≤◌, List, [], ◌∷◌, length, Option, None, Some, refl, arith}
+use Rattle.std.proofs.Common.{◌≡◌, ℕ, suc, ◌+◌, ◌<◌, ◌≤◌, List, ◌∷◌, length, Option, None, Some, arith}
 use Rattle.sl_ast.specs.Operators.{rank, right_rank, binary_mark, pattern_mark}
 use Rattle.sl_ast.specs.Symbols.{Sym, number, mark}
 use Rattle.sl_ast.specs.Trees.{Name, Expression, Expressions, integer, named, paren, call, sized, dropped, bits, prefix, star, binary, no_more, with_more, Pattern, bare, constraint, group, ellipsis, joined}

@@ -1,18 +1,16 @@
 -- The rules of what statements are made of.
-use Rattle.std.proofs.Common.{◌≡◌, ℕ, zero, suc, ◌+◌, ◌<◌, ◌≤◌, Bool, true, false, List, [], ◌∷◌, length, Option, None, Some, Ok, refl, ap, sym, ◌∙◌, subst, arith}
+use Rattle.std.proofs.Common.{◌≡◌, ℕ, true, false, List, ◌∷◌, Option, None, Some, Ok, refl, ap, ◌∙◌}
 use Rattle.sl_ast.specs.Operators.{Kind, in_section, loosest, pattern_loosest}
 use Rattle.sl_ast.specs.Spelling.{Spelling, name, keyword, spell_name, spell_option, spell_size, spell_space, spell_expression, spell_pattern, spell_operand, spell_star, spell_value, spell_label, spell_computed, spell_direct, spell_dest, spell_target, spell_exported}
-use Rattle.sl_ast.specs.Symbols.{Word, plain, quoted, Sym, number, word, text, mark, blank, caret, char}
-use Rattle.sl_ast.specs.Trees.{Name, Expression, Pattern, Operand, by_name, by_integer, StarForm, Direct, to_label, to_operand, Dest, direct, computed, Target, calls, calls_computed, Exported, exports, exports_star}
+use Rattle.sl_ast.specs.Symbols.{plain, Sym, number, word, mark}
+use Rattle.sl_ast.specs.Trees.{Name, Expression, Operand, by_name, by_integer, StarForm, Direct, to_label, to_operand, Dest, direct, computed, Target, calls, calls_computed, Exported, exports, exports_star}
 use Rattle.sl_ast.specs.Validity.{IfWritten, IsWidth, IsExpression, IsPattern, IsStarForm, IsDest, IsTarget, IsExported}
-use Rattle.sl_ast.specs.declared.symbols.Keyword.{Keyword}
 use Rattle.sl_ast.specs.declared.symbols.Keyword.TheVariants as k
-use Rattle.sl_ast.specs.declared.symbols.Mark.{Mark}
 use Rattle.sl_ast.specs.declared.symbols.Mark.TheVariants as m
 use Rattle.sl_grammar.specs.Expressions.{operator_of, whole}
 use Rattle.sl_grammar.specs.Parallel.{Local}
 use Rattle.sl_grammar.specs.Patterns.{whole_pattern}
-use Rattle.sl_grammar.specs.Reader.{Input, at, first, Outcome, Reader, ◌>>=◌, ◌>>◌, and_then, pure, skip, next, is_mark, same_mark, expect, integer_here, name_here, size_here, size_option, optional}
+use Rattle.sl_grammar.specs.Reader.{Input, at, first, Reader, ◌>>=◌, and_then, pure, next, is_mark, same_mark, expect, name_here, size_option, optional}
 use Rattle.sl_grammar.specs.Statements.{operand_by, operand, space_name, star_form, value_here, label_here, computed_here, direct_by, direct_here, dest_by, dest, target_by, target, exported_by, exported}
 use Rattle.sl_grammar.proofs.ExpressionComplete as ec
 use Rattle.sl_grammar.proofs.ExpressionLocal.{whole_local, whole_pattern_local}
@@ -23,7 +21,7 @@ use Rattle.sl_grammar.proofs.LocalSteps.{local_then, local_pure, local_peek, loc
 use Rattle.sl_grammar.proofs.PatternComplete as pc
 use Rattle.sl_grammar.proofs.PatternComplete.{PatternStops}
 use Rattle.sl_grammar.proofs.PatternSound.{whole_pattern_ok}
-use Rattle.sl_grammar.proofs.Rules.{Rule, Any, Ends, optional_is, optional_ok, optional_rule}
+use Rattle.sl_grammar.proofs.Rules.{Rule, Any, optional_is, optional_ok}
 use Rattle.sl_grammar.proofs.Steps.{size_option_is}
 use Rattle.sl_grammar.proofs.Taken.{then_ok, along, Took, took_next, expect_ok, name_ok, size_option_ok}
 
@@ -166,7 +164,7 @@ unfolding star_form expect same_mark
 star_is form rest r good may =
     let after = spell_option spell_size form.size rest in
     let space : optional (is_mark m.OpenBracket) space_name (at (spell_option spell_space form.space after) r) ≡ Ok (form.space, at after r) =
-      optional_is spell_space Free Any (is_mark m.OpenBracket) space_name space_rule space_begins form.space after r (free_option form.space) (size_no_bracket form.size rest may.no_bracket) tt in
+    optional_is spell_space Free Any (is_mark m.OpenBracket) space_name space_rule space_begins form.space after r (free_option form.space) (size_no_bracket form.size rest may.no_bracket) tt in
     rw (space, size_option_is form.size rest r good may.no_colon) refl
   where
     free_option : (x : Option Name) → IfWritten {A = Name} Free x

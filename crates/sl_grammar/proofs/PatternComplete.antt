@@ -1,6 +1,6 @@
 -- What a tree of a pattern spells is read as that tree.
-use Rattle.std.proofs.Common.{◌≡◌, ℕ, zero, suc, ◌+◌, ◌-◌, ◌<◌, ◌≤◌, ◌&&◌, Bool, true, false, nat_le, List, [], ◌∷◌, length, Option, None, Some, Ok, refl, ap, sym, ◌∙◌, subst, arith}
-use Rattle.sl_ast.specs.Operators.{in_section, in_constraint, is_section, loosest, relation_mark, pattern_mark, pattern_rank, pattern_right_rank, pattern_loosest, takes_ellipsis}
+use Rattle.std.proofs.Common.{◌≡◌, ℕ, zero, suc, ◌+◌, ◌-◌, ◌<◌, ◌≤◌, true, false, List, ◌∷◌, Option, None, Some, Ok, refl, ap, ◌∙◌, arith}
+use Rattle.sl_ast.specs.Operators.{in_constraint, loosest, relation_mark, pattern_mark, pattern_rank, pattern_right_rank, pattern_loosest, takes_ellipsis}
 use Rattle.sl_ast.specs.Spelling.{name, spell_expression, spell_pattern}
 use Rattle.sl_ast.specs.Symbols.{Sym, mark}
 use Rattle.sl_ast.specs.Trees.{Name, Expression, Pattern, bare, constraint, group, ellipsis, joined}
@@ -16,7 +16,7 @@ use Rattle.sl_grammar.specs.Patterns.{relation_in, joining_in, pattern_allowed, 
 use Rattle.sl_grammar.specs.Reader.{Input, at, first, is_mark, same_mark, Reader, enter, expect}
 use Rattle.sl_grammar.proofs.ExpressionComplete as of
 use Rattle.sl_grammar.proofs.ExpressionSteps.{Stops, no_turn}
-use Rattle.sl_grammar.proofs.Measures.{cost, cost_is, pattern_cost, pattern_cost_is}
+use Rattle.sl_grammar.proofs.Measures.{cost, pattern_cost, pattern_cost_is}
 use Rattle.sl_grammar.proofs.Steps.{le_true, le_false}
 
 -- ---- what follows a pattern
@@ -168,9 +168,9 @@ rank_most p = omega arith
 
 pub record Facts (p : Pattern) : Type 0 where
   pub as_part : (k : ℕ) (rest : List Sym) (s : ℕ) → PatternBinds p → takes_ellipsis p ≡ true → pattern_weight p ≤ k → k ≤ heaviest → Follows rest
-    → part (pattern k) (at (spell_pattern p rest) (pattern_cost p s)) ≡ Ok (p, at rest s)
+      → part (pattern k) (at (spell_pattern p rest) (pattern_cost p s)) ≡ Ok (p, at rest s)
   pub arrives : (k n : ℕ) (rest : List Sym) (s : ℕ) → PatternBinds p → pattern_rank p ≤ n → pattern_weight p ≤ k → k ≤ heaviest → PatternStops (last_rank p) rest
-    → Arrives k n p rest s
+      → Arrives k n p rest s
 
 ends : (k n : ℕ) (p : Pattern) (rest : List Sym) (s : ℕ) → Facts p → PatternBinds p → pattern_rank p ≤ n → pattern_weight p ≤ k → k ≤ heaviest → PatternStops n rest
     → pattern (suc k) n (at (spell_pattern p rest) (pattern_cost p s)) ≡ Ok (p, at rest s)
@@ -184,8 +184,12 @@ of_a_part : (p : Pattern) → takes_ellipsis p ≡ true
     → Facts p
 of_a_part p takes read = record {
   as_part = λ k rest s binds _ fits most follows. read k rest s binds fits most follows;
-  arrives = λ k n rest s binds low fits most stops. (suc s, omega arith, of_element k n (at (spell_pattern p rest) (pattern_cost p s)) p rest s
-    (of_part (pattern k) (at (spell_pattern p rest) (pattern_cost p s)) p rest s (read k rest s binds fits most stops.follows) stops.no_ellipsis));
+  arrives = λ k n rest s binds low fits most stops. (
+    suc s,
+    omega arith,
+    of_element k n (at (spell_pattern p rest) (pattern_cost p s)) p rest s
+        (of_part (pattern k) (at (spell_pattern p rest) (pattern_cost p s)) p rest s (read k rest s binds fits most stops.follows) stops.no_ellipsis),
+  );
 }
 
 constraint_is : (w : Name) (rel : Relation) (e : Expression) (k : ℕ) (rest : List Sym) (s : ℕ) → PatternBinds (constraint w rel e) → pattern_weight (constraint w rel e) ≤ k → k ≤ heaviest
@@ -204,29 +208,35 @@ group_is p facts (suc k) rest s binds fits most =
 ellipsis_arrives : (p : Pattern) → Facts p → (k n : ℕ) (rest : List Sym) (s : ℕ) → PatternBinds (ellipsis p) → pattern_weight p + 1 ≤ k → k ≤ heaviest → Arrives k n (ellipsis p) rest s
 ellipsis_arrives p facts k n rest s binds fits most =
     let xs = mark m.Ellipsis ∷ rest in
-    let i = at (spell_pattern p xs) (pattern_cost p (suc s)) in
-    (suc s, omega arith, of_element k n i (ellipsis p) rest s
-      (of_ellipsis (pattern k) i p rest s (facts.as_part k xs (suc s) binds.1 binds.0 (omega arith) most (follows_ellipsis rest))))
+    let i = at (spell_pattern p xs) (pattern_cost p (suc s)) in (
+      suc s,
+      omega arith,
+      of_element k n i (ellipsis p) rest s
+          (of_ellipsis (pattern k) i p rest s (facts.as_part k xs (suc s) binds.1 binds.0 (omega arith) most (follows_ellipsis rest))),
+    )
 
 joined_step : (k n m : ℕ) (op : PatternOp) (p q : Pattern) (rest : List Sym) (s : ℕ) → PatternBinds (joined op p q) → suc (pattern_right_rank op) ≤ n
     → Facts q → pattern_weight q < k → k ≤ heaviest → PatternStops (pattern_right_rank op) rest → suc (pattern_cost q s) < m
     → pattern (suc k) n (at (spell_pattern p (mark (pattern_mark op) ∷ spell_pattern q rest)) (pattern_cost p (suc (pattern_cost q s))))
-      ≡ Climbs k n m p (at (mark (pattern_mark op) ∷ spell_pattern q rest) (suc (pattern_cost q s)))
+    ≡ Climbs k n m p (at (mark (pattern_mark op) ∷ spell_pattern q rest) (suc (pattern_cost q s)))
     → Arrives k n (joined op p q) rest s
 joined_step zero n m op p q rest s binds low facts fits most stops more come = absurd (omega arith)
 joined_step (suc k) n zero op p q rest s binds low facts fits most stops more come = absurd (omega arith)
 joined_step (suc k) n (suc m) op p q rest s binds low facts fits most stops more come =
-    let room = pattern_cost_is q s in
-    (m, omega arith, come ∙ of_joined (suc k) n m op p q (spell_pattern q rest) rest (pattern_cost q s) s
-      (turn_is n p op low binds.0)
-      (ends k (pattern_right_rank op) q rest s facts binds.3 binds.1 (omega arith) (omega arith) stops))
+    let room = pattern_cost_is q s in (
+      m,
+      omega arith,
+      come ∙ of_joined (suc k) n m op p q (spell_pattern q rest) rest (pattern_cost q s) s
+          (turn_is n p op low binds.0)
+          (ends k (pattern_right_rank op) q rest s facts binds.3 binds.1 (omega arith) (omega arith) stops),
+    )
 
 joined_is : (op : PatternOp) (p q : Pattern) → Facts p → Facts q → (k n : ℕ) (rest : List Sym) (s : ℕ) → PatternBinds (joined op p q)
     → suc (pattern_right_rank op) ≤ n → pattern_weight p + 1 + pattern_weight q ≤ k → k ≤ heaviest → PatternStops (pattern_right_rank op) rest → Arrives k n (joined op p q) rest s
 joined_is op p q first second k n rest s binds low fits most stops =
     let left_low = binds.0 in
     let come = first.arrives k n (mark (pattern_mark op) ∷ spell_pattern q rest) (suc (pattern_cost q s)) binds.2 (omega arith) (omega arith) most
-      (stops_less (pattern_right_rank op) (last_rank p) _ (last_below p (pattern_right_rank op) left_low) (stops_op op (spell_pattern q rest))) in
+    (stops_less (pattern_right_rank op) (last_rank p) _ (last_below p (pattern_right_rank op) left_low) (stops_op op (spell_pattern q rest))) in
     joined_step k n come.0 op p q rest s binds low second (omega arith) most stops come.1 come.2
 
 facts : (p : Pattern) → Facts p

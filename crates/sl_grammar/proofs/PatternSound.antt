@@ -1,23 +1,20 @@
 -- What is read as a pattern is a tree whose spelling was taken.
-use Rattle.std.proofs.Common.{◌≡◌, ℕ, zero, suc, ◌+◌, ◌<◌, ◌≤◌, ◌&&◌, inl, inr, Bool, true, false, cond, nat_le, List, [], ◌∷◌, length, Option, None, Some, Ok, Err, refl, ap, sym, ◌∙◌, subst, arith}
+use Rattle.std.proofs.Common.{◌≡◌, ℕ, zero, suc, ◌≤◌, ◌&&◌, inl, inr, Bool, true, false, cond, nat_le, ◌∷◌, Option, None, Some, Ok, Err, refl, ap, ◌∙◌, subst, arith}
 use Rattle.sl_ast.specs.Operators.{in_constraint, loosest, relation_mark, pattern_mark, pattern_rank, pattern_right_rank, pattern_loosest, takes_ellipsis}
-use Rattle.sl_ast.specs.Spelling.{name, spell_expression, spell_pattern}
-use Rattle.sl_ast.specs.Symbols.{Word, plain, quoted, Sym, number, word, text, mark, blank, caret, char}
-use Rattle.sl_ast.specs.Trees.{Name, Expression, Pattern, bare, constraint, group, ellipsis, joined}
+use Rattle.sl_ast.specs.Spelling.{name, spell_pattern}
+use Rattle.sl_ast.specs.Symbols.{plain, Sym, word, mark}
+use Rattle.sl_ast.specs.Trees.{Name, Pattern, bare, constraint, group, ellipsis, joined}
 use Rattle.sl_ast.specs.Validity.{PatternBinds, IsPattern, heaviest}
 use Rattle.sl_ast.specs.declared.patterns.PatternOp.{PatternOp}
-use Rattle.sl_ast.specs.declared.patterns.PatternOp.TheVariants as j
 use Rattle.sl_ast.specs.declared.patterns.Relation.{Relation}
-use Rattle.sl_ast.specs.declared.patterns.Relation.TheVariants as r
-use Rattle.sl_ast.specs.declared.symbols.Mark.{Mark}
 use Rattle.sl_ast.specs.declared.symbols.Mark.TheVariants as m
 use Rattle.sl_grammar.specs.Climb.{climb, turned}
 use Rattle.sl_grammar.specs.Expressions.{expression, with_room}
-use Rattle.sl_grammar.specs.Patterns.{relation_of, relation_in, joining_of, joining_in, pattern_allowed, pattern_turn, constrained, related, after_field, grouped, part_by, part, element, pattern, whole_pattern}
+use Rattle.sl_grammar.specs.Patterns.{relation_in, joining_in, pattern_allowed, pattern_turn, constrained, related, after_field, grouped, part_by, part, element, pattern, whole_pattern}
 use Rattle.sl_grammar.specs.Reader.{Input, at, first, Outcome, Reader, and_then, next, enter, expect, is_mark}
 use Rattle.sl_grammar.proofs.ExpressionSound.{some_is}
 use Rattle.sl_grammar.proofs.ExpressionSound as of
-use Rattle.sl_grammar.proofs.Measures.{cost, pattern_cost, pattern_cost_is}
+use Rattle.sl_grammar.proofs.Measures.{pattern_cost, pattern_cost_is}
 use Rattle.sl_grammar.proofs.PatternComplete.{Climbs}
 use Rattle.sl_grammar.proofs.Steps.{le_is}
 use Rattle.sl_grammar.proofs.Taken.{then_ok, along, look_ok, both_true, Took, mark_first, took_next, enter_ok, expect_ok}

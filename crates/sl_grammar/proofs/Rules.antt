@@ -1,17 +1,16 @@
 -- A reader outside expressions against the spelling, and the rules of lists and of parts that may lack.
-use Rattle.std.proofs.Common.{◌≡◌, ℕ, zero, suc, ◌+◌, ◌<◌, ◌≤◌, inl, inr, Bool, true, false, List, [], ◌∷◌, ◌++◌, length, Option, None, Some, Ok, refl, ap, sym, ◌∙◌, subst, arith, append_assoc, append-nil}
+use Rattle.std.proofs.Common.{◌≡◌, ℕ, zero, suc, ◌<◌, ◌≤◌, inl, inr, Bool, true, false, List, [], ◌∷◌, ◌++◌, length, Option, None, Some, Ok, refl, ap, sym, ◌∙◌, subst, arith, append_assoc, append-nil}
 use Rattle.sl_ast.specs.Spelling.{Spelling, spell_all, spell_commas, spell_separated, spell_option}
 use Rattle.sl_ast.specs.Symbols.{Sym, mark}
 use Rattle.sl_ast.specs.Validity.{Each, IfWritten}
-use Rattle.sl_ast.specs.declared.symbols.Mark.{Mark}
 use Rattle.sl_ast.specs.declared.symbols.Mark.TheVariants as m
 use Rattle.sl_grammar.specs.Lists.{many_from, many, separated_from, separated, listed}
 use Rattle.sl_grammar.specs.Parallel.{Local}
-use Rattle.sl_grammar.specs.Reader.{Input, at, left, first, Reader, ◌>>=◌, pure, is_mark, same_mark, next, look, optional}
+use Rattle.sl_grammar.specs.Reader.{Input, at, left, first, Reader, pure, is_mark, same_mark, optional}
 use Rattle.sl_grammar.proofs.ListsTaken.{Takes, TookMany, many_ok, TookPart, TookParts, separated_ok}
-use Rattle.sl_grammar.proofs.LocalSteps.{local_then, local_pure, local_look, Shrinks, local_many, local_separated, local_optional}
+use Rattle.sl_grammar.proofs.LocalSteps.{local_pure, local_look, Shrinks, local_many, local_separated, local_optional}
 use Rattle.sl_grammar.proofs.Steps.{last_part, one_part}
-use Rattle.sl_grammar.proofs.Taken.{then_ok, along, look_ok, Took, mark_first, took_next}
+use Rattle.sl_grammar.proofs.Taken.{then_ok, along, look_ok}
 
 -- each tree of a type has a symbol at least
 abbrev pub Long : {A : Type 0} → Spelling A → Type 0
@@ -145,9 +144,9 @@ pub listed_ok : {A : Type 0} (spell : Spelling A) (Good : A → Type 0) (p : Rea
     → (i j : Input) (as' : List A) → listed p i ≡ Ok (as', j) → Takes (spell_separated spell) (Each Good) i as' j
 unfolding listed
 listed_ok spell Good p sound i j as' e = elim (look_ok (is_mark m.Close) _ _ i (Ok (as', j)) e) [
-    | inl h ↦ along (λ bs k. Takes (spell_separated spell) (Each Good) i bs k) [] as' i j h.1 (record { tokens = refl; good = tt })
-    | inr h ↦ parts_take spell Good i as' j (separated_ok spell (λ _ s. s) Good p sound (suc (left i)) [] i j as' h.1)
-  ]
+  | inl h ↦ along (λ bs k. Takes (spell_separated spell) (Each Good) i bs k) [] as' i j h.1 (record { tokens = refl; good = tt })
+  | inr h ↦ parts_take spell Good i as' j (separated_ok spell (λ _ s. s) Good p sound (suc (left i)) [] i j as' h.1)
+]
 
 pub listed_local : {A : Type 0} (p : Reader A) → Local A p → Shrinks p → Local (List A) (listed p)
 unfolding listed
@@ -171,12 +170,12 @@ optional_is spell Good May test p rule begins (Some a) rest r good off may = opt
 pub optional_ok : {A : Type 0} (spell : Spelling A) (Good : A → Type 0) (test : Option Sym → Bool) (p : Reader A) → ((i j : Input) (a : A) → p i ≡ Ok (a, j) → Takes spell Good i a j)
     → (i j : Input) (x : Option A) → optional test p i ≡ Ok (x, j) → Takes (spell_option spell) (IfWritten Good) i x j
 optional_ok spell Good test p sound i j x e = elim (look_ok test _ _ i (Ok (x, j)) e) [
-    | inl h ↦
-        let a = then_ok (p i) _ x j h.1 in
-        let took = sound i a.1 a.0 a.2 in
-        along (λ y k. Takes (spell_option spell) (IfWritten Good) i y k) (Some a.0) x a.1 j a.3 (record { tokens = took.tokens; good = took.good })
-    | inr h ↦ along (λ y k. Takes (spell_option spell) (IfWritten Good) i y k) None x i j h.1 (record { tokens = refl; good = tt })
-  ]
+  | inl h ↦
+      let a = then_ok (p i) _ x j h.1 in
+      let took = sound i a.1 a.0 a.2 in
+      along (λ y k. Takes (spell_option spell) (IfWritten Good) i y k) (Some a.0) x a.1 j a.3 (record { tokens = took.tokens; good = took.good })
+  | inr h ↦ along (λ y k. Takes (spell_option spell) (IfWritten Good) i y k) None x i j h.1 (record { tokens = refl; good = tt })
+]
 
 pub optional_rule : {A : Type 0} (spell : Spelling A) (Good : A → Type 0) (May : List Sym → Type 0) (test : Option Sym → Bool) (p : Reader A) → Rule spell Good May p
     → ((a : A) (rest : List Sym) → test (first (spell a rest)) ≡ true) → Rule (spell_option spell) (IfWritten Good) (Ends test May) (optional test p)

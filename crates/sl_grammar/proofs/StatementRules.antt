@@ -1,29 +1,27 @@
 -- The rules of statements and of disassembly actions.
-use Rattle.std.proofs.Common.{◌≡◌, ℕ, zero, suc, ◌+◌, ◌<◌, ◌≤◌, Bool, true, false, not, List, [], ◌∷◌, length, Option, None, Some, Ok, refl, ap, sym, ◌∙◌, subst, arith}
-use Rattle.sl_ast.specs.Operators.{Kind, in_section, in_action, loosest, missing_function, missing_statement}
-use Rattle.sl_ast.specs.Spelling.{Spelling, name, keyword, spell_option, spell_size, spell_expression, spell_star, spell_value, spell_label, spell_computed, spell_direct, spell_dest, spell_target, spell_exported, spell_operand, spell_statement, spell_separated, spell_all, spell_body, spell_action, spell_actions}
-use Rattle.sl_ast.specs.Symbols.{Word, plain, quoted, Sym, number, word, text, mark, blank, caret, char}
-use Rattle.sl_ast.specs.Trees.{Name, Expression, Operand, by_name, by_integer, Action, set, global_set, StarForm, Left, left_name, left_bits, left_star, Direct, Dest, Target, Exported, Statement, local, declare, assign, goto, branch, call_to, return, build, export, invoke, label}
-use Rattle.sl_ast.specs.Validity.{Each, IfWritten, IsWidth, IsExpression, IsStarForm, IsFirst, IsDest, IsTarget, IsExported, IsStatement, IsAction}
+use Rattle.std.proofs.Common.{◌≡◌, ℕ, true, false, List, ◌∷◌, Option, None, Some, Ok, refl, ◌∙◌}
+use Rattle.sl_ast.specs.Operators.{in_section, loosest, missing_function, missing_statement}
+use Rattle.sl_ast.specs.Spelling.{name, keyword, spell_option, spell_size, spell_expression, spell_star, spell_value, spell_label, spell_computed, spell_direct, spell_dest, spell_target, spell_exported, spell_statement, spell_separated}
+use Rattle.sl_ast.specs.Symbols.{plain, quoted, Sym, number, word, mark}
+use Rattle.sl_ast.specs.Trees.{Name, Expression, StarForm, left_name, left_bits, left_star, Direct, Dest, Target, Exported, Statement, local, declare, assign, goto, branch, call_to, return, build, export, invoke, label}
+use Rattle.sl_ast.specs.Validity.{Each, IfWritten, IsWidth, IsExpression, IsStarForm, IsFirst, IsDest, IsTarget, IsExported, IsStatement}
 use Rattle.sl_ast.specs.declared.symbols.Feature.{Feature}
-use Rattle.sl_ast.specs.declared.symbols.Keyword.{Keyword}
 use Rattle.sl_ast.specs.declared.symbols.Keyword.TheVariants as k
-use Rattle.sl_ast.specs.declared.symbols.Mark.{Mark}
 use Rattle.sl_ast.specs.declared.symbols.Mark.TheVariants as m
-use Rattle.sl_grammar.specs.Expressions.{whole, operator_of}
-use Rattle.sl_grammar.specs.Lists.{many, listed}
+use Rattle.sl_grammar.specs.Expressions.{whole}
+use Rattle.sl_grammar.specs.Lists.{listed}
 use Rattle.sl_grammar.specs.Parallel.{Local}
-use Rattle.sl_grammar.specs.Reader.{Input, at, first, Outcome, Reader, ◌>>=◌, ◌>>◌, and_then, pure, peek, skip, next, is_mark, same_mark, same_keyword, unsupported, expect, expect_keyword, integer_here, name_here, size_here, size_option, optional}
-use Rattle.sl_grammar.specs.Statements.{operand, star_form, value_here, label_here, computed_here, direct_here, dest, target, exported, local_here, goto_here, branch_here, call_here, return_here, build_here, export_here, star_here, declare_here, assign_here, bits_here, invoke_here, invoke_by, named_by, begun_by, statement_by, statement, until, body, set_here, global_set_here, action_by, action, actions}
+use Rattle.sl_grammar.specs.Reader.{Input, at, first, Reader, ◌>>=◌, ◌>>◌, pure, peek, next, is_mark, same_mark, same_keyword, unsupported, expect, expect_keyword, integer_here, name_here, size_here, size_option, optional}
+use Rattle.sl_grammar.specs.Statements.{star_form, value_here, label_here, computed_here, direct_here, dest, target, exported, local_here, goto_here, branch_here, call_here, return_here, build_here, export_here, star_here, declare_here, assign_here, bits_here, invoke_here, invoke_by, named_by, begun_by, statement_by, statement}
 use Rattle.sl_grammar.proofs.ExpressionComplete as ec
 use Rattle.sl_grammar.proofs.ExpressionLocal.{whole_local}
 use Rattle.sl_grammar.proofs.ExpressionSound.{whole_ok}
 use Rattle.sl_grammar.proofs.ExpressionSteps.{Stops, stops_close, stops_comma, begins}
 use Rattle.sl_grammar.proofs.ListsTaken.{Takes}
-use Rattle.sl_grammar.proofs.LocalSteps.{local_then, local_pure, local_fault, local_back, local_peek, local_refuse, local_skips, local_expect, local_expect_keyword, local_integer, local_name, local_size, local_size_option, local_optional, Shrinks}
-use Rattle.sl_grammar.proofs.Measures.{long_expression, long_size}
-use Rattle.sl_grammar.proofs.PartRules.{symbol_then, tree_then, whole_takes, size_option_takes, Free, stops_semicolon, stops_equals, stops_bracket, stops_goto, stops_by, whole_rule, operand_rule, NoStarTail, star_rule, value_rule, label_rule, computed_rule, wrap_ok, wrap_local, direct_rule, dest_rule, target_rule, exported_rule}
-use Rattle.sl_grammar.proofs.Rules.{Rule, Any, Ends, Long, Separated, Parts, many_rule, listed_is, listed_ok, listed_local, rule_shrinks, optional_rule}
+use Rattle.sl_grammar.proofs.LocalSteps.{local_then, local_pure, local_fault, local_back, local_peek, local_refuse, local_skips, local_expect, local_expect_keyword, local_integer, local_name, local_size, local_size_option}
+use Rattle.sl_grammar.proofs.Measures.{long_expression}
+use Rattle.sl_grammar.proofs.PartRules.{symbol_then, tree_then, whole_takes, size_option_takes, Free, stops_semicolon, stops_equals, stops_goto, whole_rule, NoStarTail, star_rule, value_rule, label_rule, computed_rule, wrap_ok, wrap_local, direct_rule, dest_rule, target_rule, exported_rule}
+use Rattle.sl_grammar.proofs.Rules.{Rule, Any, Ends, Separated, listed_is, listed_ok, listed_local, rule_shrinks, optional_rule}
 use Rattle.sl_grammar.proofs.Steps.{size_is, size_option_is}
 use Rattle.sl_grammar.proofs.Taken.{then_ok, along, Took, took_next, expect_ok, expect_keyword_ok, integer_ok, name_ok, size_ok}
 
@@ -57,8 +55,10 @@ local_is : (w : Name) (size : Option ℕ) (value : Option Expression) (rest : Li
     → local_here (at (spell_statement (local w size value) rest) r) ≡ Ok (local w size value, at rest r)
 unfolding local_here expect_keyword expect same_keyword same_mark name_here
 local_is w size value rest r good =
-    rw (size_option_is size (spell_option spell_value value (mark m.Semicolon ∷ rest)) r good.0 (value_no_colon value rest),
-      value_option.complete value (mark m.Semicolon ∷ rest) r good.1 (semicolon_ends rest)) refl
+    rw (
+      size_option_is size (spell_option spell_value value (mark m.Semicolon ∷ rest)) r good.0 (value_no_colon value rest),
+      value_option.complete value (mark m.Semicolon ∷ rest) r good.1 (semicolon_ends rest),
+    ) refl
 
 local_ok : Tells local_here
 unfolding local_here
@@ -72,7 +72,7 @@ local_ok i j s h =
     let value = value_option.sound c.1 d.1 d.0 d.2 in
     along (λ y l. Takes spell_statement IsStatement i y l) (local b.0 c.0 d.0) s e.1 j e.3 (record {
       tokens = symbol_then i (keyword k.Local) a.1 _ (expect_keyword_ok k.Local i a.1 a.0 a.2) (symbol_then a.1 (name b.0) b.1 _ (name_ok a.1 b.1 b.0 b.2)
-        (tree_then (spell_option spell_size) (IfWritten IsWidth) b.1 c.0 c.1 _ size (tree_then (spell_option spell_value) (IfWritten (IsExpression in_section)) c.1 d.0 d.1 _ value
+          (tree_then (spell_option spell_size) (IfWritten IsWidth) b.1 c.0 c.1 _ size (tree_then (spell_option spell_value) (IfWritten (IsExpression in_section)) c.1 d.0 d.1 _ value
           (expect_ok m.Semicolon d.1 e.1 e.0 e.2).tokens)));
       good = (size.good, value.good);
     })
@@ -111,8 +111,10 @@ goto_local = local_then (expect_keyword k.Goto) _ (local_expect_keyword k.Goto) 
 branch_is : (e : Expression) (to : Direct) (rest : List Sym) (r : ℕ) → IsExpression in_section e → branch_here (at (spell_statement (branch e to) rest) r) ≡ Ok (branch e to, at rest r)
 unfolding branch_here expect_keyword expect same_keyword same_mark
 branch_is e to rest r good =
-    rw (ec.complete in_section e (keyword k.Goto ∷ spell_direct to (mark m.Semicolon ∷ rest)) r good (stops_goto in_section (spell_direct to (mark m.Semicolon ∷ rest))),
-      direct_rule.complete to (mark m.Semicolon ∷ rest) r tt tt) refl
+    rw (
+      ec.complete in_section e (keyword k.Goto ∷ spell_direct to (mark m.Semicolon ∷ rest)) r good (stops_goto in_section (spell_direct to (mark m.Semicolon ∷ rest))),
+      direct_rule.complete to (mark m.Semicolon ∷ rest) r tt tt,
+    ) refl
 
 branch_ok : Tells branch_here
 unfolding branch_here
@@ -126,7 +128,7 @@ branch_ok i j s h =
     let to = direct_rule.sound c.1 d.1 d.0 d.2 in
     along (λ y l. Takes spell_statement IsStatement i y l) (branch b.0 d.0) s e.1 j e.3 (record {
       tokens = symbol_then i (keyword k.If) a.1 _ (expect_keyword_ok k.If i a.1 a.0 a.2) (tree_then spell_expression (IsExpression in_section) a.1 b.0 b.1 _ test
-        (symbol_then b.1 (keyword k.Goto) c.1 _ (expect_keyword_ok k.Goto b.1 c.1 c.0 c.2) (tree_then spell_direct Free c.1 d.0 d.1 _ to (expect_ok m.Semicolon d.1 e.1 e.0 e.2).tokens)));
+          (symbol_then b.1 (keyword k.Goto) c.1 _ (expect_keyword_ok k.Goto b.1 c.1 c.0 c.2) (tree_then spell_direct Free c.1 d.0 d.1 _ to (expect_ok m.Semicolon d.1 e.1 e.0 e.2).tokens)));
       good = test.good;
     })
 
@@ -168,7 +170,7 @@ return_ok i j s h =
     let to = computed_rule.sound a.1 b.1 b.0 b.2 in
     along (λ y l. Takes spell_statement IsStatement i y l) (return b.0) s c.1 j c.3 (record {
       tokens = symbol_then i (keyword k.Return) a.1 _ (expect_keyword_ok k.Return i a.1 a.0 a.2)
-        (tree_then spell_computed (IsExpression in_section) a.1 b.0 b.1 _ to (expect_ok m.Semicolon b.1 c.1 c.0 c.2).tokens);
+          (tree_then spell_computed (IsExpression in_section) a.1 b.0 b.1 _ to (expect_ok m.Semicolon b.1 c.1 c.0 c.2).tokens);
       good = to.good;
     })
 
@@ -190,7 +192,7 @@ build_ok i j s h =
     let c = then_ok (expect m.Semicolon b.1) _ s j b.3 in
     along (λ y l. Takes spell_statement IsStatement i y l) (build b.0) s c.1 j c.3 (record {
       tokens = symbol_then i (keyword k.Build) a.1 _ (expect_keyword_ok k.Build i a.1 a.0 a.2)
-        (symbol_then a.1 (name b.0) b.1 _ (name_ok a.1 b.1 b.0 b.2) (expect_ok m.Semicolon b.1 c.1 c.0 c.2).tokens);
+          (symbol_then a.1 (name b.0) b.1 _ (name_ok a.1 b.1 b.0 b.2) (expect_ok m.Semicolon b.1 c.1 c.0 c.2).tokens);
       good = tt;
     })
 
@@ -228,9 +230,11 @@ star_is : (form : StarForm) (p e : Expression) (rest : List Sym) (r : ℕ) → I
 unfolding star_here expect same_mark
 star_is form p e rest r good =
     let after = mark m.Equals ∷ spell_expression e (mark m.Semicolon ∷ rest) in
-    rw (star_rule.complete form (spell_expression p after) r good.0.0 (no_star_tail p after),
+    rw (
+      star_rule.complete form (spell_expression p after) r good.0.0 (no_star_tail p after),
       ec.complete in_section p after r good.0.1 (stops_equals in_section (spell_expression e (mark m.Semicolon ∷ rest))),
-      value_rule.complete e (mark m.Semicolon ∷ rest) r good.1 (stops_semicolon in_section rest)) refl
+      value_rule.complete e (mark m.Semicolon ∷ rest) r good.1 (stops_semicolon in_section rest),
+    ) refl
 
 star_ok : Tells star_here
 unfolding star_here
@@ -244,7 +248,7 @@ star_ok i j s h =
     let value = value_rule.sound b.1 c.1 c.0 c.2 in
     along (λ y l. Takes spell_statement IsStatement i y l) (assign (left_star a.0 b.0) c.0) s d.1 j d.3 (record {
       tokens = tree_then spell_star IsStarForm i a.0 a.1 _ form (tree_then spell_expression (IsExpression in_section) a.1 b.0 b.1 _ pointer
-        (tree_then spell_value (IsExpression in_section) b.1 c.0 c.1 _ value (expect_ok m.Semicolon c.1 d.1 d.0 d.2).tokens));
+          (tree_then spell_value (IsExpression in_section) b.1 c.0 c.1 _ value (expect_ok m.Semicolon c.1 d.1 d.0 d.2).tokens));
       good = ((form.good, pointer.good), value.good);
     })
 
@@ -270,7 +274,7 @@ declare_ok w i k j s took starts h =
     let value = value_rule.sound b.1 c.1 c.0 c.2 in
     along (λ y l. Takes spell_statement IsStatement i y l) (declare w b.0 c.0) s d.1 j d.3 (record {
       tokens = symbol_then i (name w) k _ took (symbol_then k (mark m.Colon) a.1 _ (expect_ok m.Colon k a.1 a.0 a.2) (symbol_then a.1 (number b.0) b.1 _ size.took
-        (tree_then spell_value (IsExpression in_section) b.1 c.0 c.1 _ value (expect_ok m.Semicolon c.1 d.1 d.0 d.2).tokens)));
+          (tree_then spell_value (IsExpression in_section) b.1 c.0 c.1 _ value (expect_ok m.Semicolon c.1 d.1 d.0 d.2).tokens)));
       good = (starts, size.fits, value.good);
     })
 
@@ -300,7 +304,7 @@ assign_local w = local_then value_here _ value_rule.here (λ e. ended_local (ass
 
 bits_are : (w : Name) (l c : ℕ) (e : Expression) (rest : List Sym) (r : ℕ) → IsExpression in_section e
     → bits_here w (at (mark m.OpenBracket ∷ number l ∷ mark m.Comma ∷ number c ∷ mark m.CloseBracket ∷ mark m.Equals ∷ spell_expression e (mark m.Semicolon ∷ rest)) r)
-      ≡ Ok (assign (left_bits w l c) e, at rest r)
+    ≡ Ok (assign (left_bits w l c) e, at rest r)
 unfolding bits_here expect same_mark integer_here
 bits_are w l c e rest r good = rw (value_rule.complete e (mark m.Semicolon ∷ rest) r good (stops_semicolon in_section rest)) refl
 
@@ -317,9 +321,9 @@ bits_ok w i k j s took starts h =
     let value = value_rule.sound e.1 f.1 f.0 f.2 in
     along (λ y l. Takes spell_statement IsStatement i y l) (assign (left_bits w b.0 d.0) f.0) s g.1 j g.3 (record {
       tokens = symbol_then i (name w) k _ took (symbol_then k (mark m.OpenBracket) a.1 _ (expect_ok m.OpenBracket k a.1 a.0 a.2) (symbol_then a.1 (number b.0) b.1 _ (integer_ok a.1 b.1 b.0 b.2)
-        (symbol_then b.1 (mark m.Comma) c.1 _ (expect_ok m.Comma b.1 c.1 c.0 c.2) (symbol_then c.1 (number d.0) d.1 _ (integer_ok c.1 d.1 d.0 d.2)
+          (symbol_then b.1 (mark m.Comma) c.1 _ (expect_ok m.Comma b.1 c.1 c.0 c.2) (symbol_then c.1 (number d.0) d.1 _ (integer_ok c.1 d.1 d.0 d.2)
           (symbol_then d.1 (mark m.CloseBracket) e.1 _ (expect_ok m.CloseBracket d.1 e.1 e.0 e.2)
-            (tree_then spell_value (IsExpression in_section) e.1 f.0 f.1 _ value (expect_ok m.Semicolon f.1 g.1 g.0 g.2).tokens))))));
+          (tree_then spell_value (IsExpression in_section) e.1 f.0 f.1 _ value (expect_ok m.Semicolon f.1 g.1 g.0 g.2).tokens))))));
       good = (starts, value.good);
     })
 
@@ -327,7 +331,7 @@ bits_local : (w : Name) → Local Statement (bits_here w)
 unfolding bits_here
 bits_local w = local_then (expect m.OpenBracket) _ (local_expect m.OpenBracket) (λ _. local_then integer_here _ local_integer (λ l. local_then (expect m.Comma) _ (local_expect m.Comma)
     (λ _. local_then integer_here _ local_integer (λ c. local_then (expect m.CloseBracket) _ (local_expect m.CloseBracket)
-      (λ _. local_then value_here _ value_rule.here (λ e. ended_local (assign (left_bits w l c) e)))))))
+    (λ _. local_then value_here _ value_rule.here (λ e. ended_local (assign (left_bits w l c) e)))))))
 
 -- ---- calls of macros and operations
 
@@ -354,7 +358,7 @@ invoke_ok w known i k j s took starts h =
     let given = arguments_ok a.1 b.1 b.0 b.2 in
     along (λ y l. Takes spell_statement IsStatement i y l) (invoke w b.0) s d.1 j d.3 (record {
       tokens = symbol_then i (name w) k _ took (symbol_then k (mark m.Open) a.1 _ (expect_ok m.Open k a.1 a.0 a.2)
-        (tree_then (spell_separated spell_expression) (Each (IsExpression in_section)) a.1 b.0 b.1 _ given
+          (tree_then (spell_separated spell_expression) (Each (IsExpression in_section)) a.1 b.0 b.1 _ given
           (symbol_then b.1 (mark m.Close) c.1 _ (expect_ok m.Close b.1 c.1 c.0 c.2) (expect_ok m.Semicolon c.1 d.1 d.0 d.2).tokens)));
       good = (starts, known, given.good);
     })
@@ -363,8 +367,8 @@ invoke_local : (w : Name) → Local Statement (invoke_here w)
 unfolding invoke_here
 invoke_local w = local_then (expect m.Open) _ (local_expect m.Open)
     (λ _. local_then (listed (whole in_section)) _
-      (listed_local (whole in_section) (whole_local in_section) (rule_shrinks spell_expression (IsExpression in_section) (Stops in_section loosest) (whole in_section) (whole_rule in_section) long_expression))
-      (λ es. local_then (expect m.Close) _ (local_expect m.Close) (λ _. ended_local (invoke w es))))
+    (listed_local (whole in_section) (whole_local in_section) (rule_shrinks spell_expression (IsExpression in_section) (Stops in_section loosest) (whole in_section) (whole_rule in_section) long_expression))
+    (λ es. local_then (expect m.Close) _ (local_expect m.Close) (λ _. ended_local (invoke w es))))
 
 -- ---- statements that begin with a name
 

@@ -1,13 +1,12 @@
 -- Single steps of a reading.
-use Rattle.std.proofs.Common.{◌≡◌, ℕ, zero, suc, ◌+◌, ◌<◌, ◌≤◌, ◌==◌, ◌&&◌, Bool, true, false, nat_le, List, [], ◌∷◌, ◌++◌, Option, None, Some, Ok, refl, ap, arith}
+use Rattle.std.proofs.Common.{◌≡◌, ℕ, suc, ◌<◌, ◌≤◌, ◌==◌, true, false, nat_le, List, [], ◌∷◌, ◌++◌, Option, None, Some, Ok, refl, arith}
 use Rattle.std.proofs.lemmas.Bool.Decides.{nat_tests}
-use Rattle.sl_ast.specs.Symbols.{Word, plain, quoted, Sym, number, word, mark}
-use Rattle.sl_ast.specs.Spelling.{name, spell_option, spell_size}
+use Rattle.sl_ast.specs.Symbols.{Sym, number, mark}
+use Rattle.sl_ast.specs.Spelling.{spell_option, spell_size}
 use Rattle.sl_ast.specs.Validity.{IfWritten, IsWidth}
-use Rattle.sl_ast.specs.declared.symbols.Mark.{Mark}
 use Rattle.sl_ast.specs.declared.symbols.Mark.TheVariants as m
 use Rattle.sl_grammar.specs.Lists.{separated_from}
-use Rattle.sl_grammar.specs.Reader.{Input, at, first, Reader, enter, expect, same_mark, is_mark, size_here, size_option}
+use Rattle.sl_grammar.specs.Reader.{Input, at, first, Reader, enter, same_mark, is_mark, size_here, size_option}
 
 pub le_true : (a b : ℕ) → a ≤ b → nat_le a b ≡ true
 le_true a b h = grind (arith, nat_tests)

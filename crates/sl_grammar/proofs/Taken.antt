@@ -1,17 +1,17 @@
 -- What a reading took, where it did not refuse.
-use Rattle.std.proofs.Common.{◌≡◌, ℕ, zero, suc, ◌+◌, ◌<◌, ◌≤◌, ◌&&◌, ◌⊎◌, inl, inr, Bool, true, false, cond, nat_le, List, [], ◌∷◌, drop, length, Option, None, Some, Ok, Err, Result, refl, ap, sym, ◌∙◌, subst, arith, rules}
+use Rattle.std.proofs.Common.{◌≡◌, ℕ, zero, suc, ◌&&◌, ◌⊎◌, inl, inr, Bool, true, false, cond, nat_le, List, [], ◌∷◌, drop, length, Option, None, Some, Ok, Err, refl, ap, ◌∙◌, subst, rules}
 use denote.Enum.Bare.{same_true}
 use Rattle.sl_ast.specs.contracts.symbols.Keyword as keywords
 use Rattle.sl_ast.specs.contracts.symbols.Mark.{the_type}
 use Rattle.sl_ast.specs.Spelling.{name, keyword, spell_option, spell_size}
-use Rattle.sl_ast.specs.Symbols.{Word, plain, quoted, Sym, number, word, text, mark, blank, caret, char}
+use Rattle.sl_ast.specs.Symbols.{plain, quoted, Sym, number, word, mark}
 use Rattle.sl_ast.specs.Trees.{Name}
 use Rattle.sl_ast.specs.Validity.{IfWritten, IsWidth}
 use Rattle.sl_ast.specs.declared.symbols.Feature.TheVariants as f
 use Rattle.sl_ast.specs.declared.symbols.Keyword.{Keyword}
 use Rattle.sl_ast.specs.declared.symbols.Mark.{Mark}
 use Rattle.sl_ast.specs.declared.symbols.Mark.TheVariants as m
-use Rattle.sl_grammar.specs.Reader.{Input, at, left, first, Outcome, Reader, Fault, fault, nesting, unsupported, and_then, next, enter, refuse, look, is_mark, is_keyword, same_mark, same_keyword, expect, expect_keyword, number_by, integer_here, name_by, name_here, size_by, size_here, size_option}
+use Rattle.sl_grammar.specs.Reader.{Input, at, left, first, Outcome, Reader, fault, nesting, unsupported, and_then, next, enter, refuse, look, is_mark, is_keyword, same_mark, same_keyword, expect, expect_keyword, number_by, integer_here, name_by, name_here, size_by, size_here, size_option}
 use Rattle.sl_grammar.proofs.Steps.{le_is}
 
 -- a step and then another: neither refused
@@ -92,16 +92,16 @@ enter_ok i j x u h e = by_room i.room refl e
 pub expect_ok : (k : Mark) (i j : Input) (u : Unit {0}) → expect k i ≡ Ok (u, j) → Took i (mark k) j
 unfolding expect
 expect_ok k i j u e = elim (look_ok (is_mark k) _ refuse i (Ok (u, j)) e) [
-    | inl h ↦ subst (λ y. Took i (mark k) y) (ap (state_or i) h.1) (took_next i (mark k) (mark_first k (first i.rest) h.0))
-    | inr h ↦ absurd (let f = h.1 in cc)
-  ]
+  | inl h ↦ subst (λ y. Took i (mark k) y) (ap (state_or i) h.1) (took_next i (mark k) (mark_first k (first i.rest) h.0))
+  | inr h ↦ absurd (let f = h.1 in cc)
+]
 
 pub expect_keyword_ok : (k : Keyword) (i j : Input) (u : Unit {0}) → expect_keyword k i ≡ Ok (u, j) → Took i (keyword k) j
 unfolding expect_keyword
 expect_keyword_ok k i j u e = elim (look_ok (is_keyword k) _ refuse i (Ok (u, j)) e) [
-    | inl h ↦ subst (λ y. Took i (keyword k) y) (ap (state_or i) h.1) (took_next i (keyword k) (keyword_first k (first i.rest) h.0))
-    | inr h ↦ absurd (let f = h.1 in cc)
-  ]
+  | inl h ↦ subst (λ y. Took i (keyword k) y) (ap (state_or i) h.1) (took_next i (keyword k) (keyword_first k (first i.rest) h.0))
+  | inr h ↦ absurd (let f = h.1 in cc)
+]
 
 number_by_ok : (o : Option Sym) (i j : Input) (n : ℕ) → first i.rest ≡ o → number_by o i ≡ Ok (n, j) → Took i (number n) j
 number_by_ok (Some (number v)) i j n h e = along (λ a k. Took i (number a) k) v n (next i) j e (took_next i (number v) h)
@@ -146,14 +146,14 @@ pub record TookOption {A : Type 0} (spell : A → List Sym → List Sym) (Good :
 pub size_option_ok : (i j : Input) (x : Option ℕ) → size_option i ≡ Ok (x, j) → TookOption spell_size IsWidth i x j
 unfolding size_option
 size_option_ok i j x e = elim (look_ok (is_mark m.Colon) _ _ i (Ok (x, j)) e) [
-    | inl h ↦
-        let colon = took_next i (mark m.Colon) (mark_first m.Colon (first i.rest) h.0) in
-        let a = then_ok (size_here (next i)) _ x j h.1 in
-        let size = size_ok (next i) a.1 a.0 a.2 in
-        along (λ y k. TookOption spell_size IsWidth i y k) (Some a.0) x a.1 j a.3 (record {
-          tokens = colon.tokens ∙ ap (λ xs. mark m.Colon ∷ xs) size.took.tokens;
-          room = colon.room ∙ size.took.room;
-          good = size.fits;
-        })
-    | inr h ↦ along (λ y k. TookOption spell_size IsWidth i y k) None x i j h.1 (record { tokens = refl; room = refl; good = tt })
-  ]
+  | inl h ↦
+      let colon = took_next i (mark m.Colon) (mark_first m.Colon (first i.rest) h.0) in
+      let a = then_ok (size_here (next i)) _ x j h.1 in
+      let size = size_ok (next i) a.1 a.0 a.2 in
+      along (λ y k. TookOption spell_size IsWidth i y k) (Some a.0) x a.1 j a.3 (record {
+        tokens = colon.tokens ∙ ap (λ xs. mark m.Colon ∷ xs) size.took.tokens;
+        room = colon.room ∙ size.took.room;
+        good = size.fits;
+      })
+  | inr h ↦ along (λ y k. TookOption spell_size IsWidth i y k) None x i j h.1 (record { tokens = refl; room = refl; good = tt })
+]

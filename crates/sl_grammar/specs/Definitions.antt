@@ -1,7 +1,7 @@
 -- The reader of definitions and attached lists.
-use Rattle.std.specs.Prelude.{ℕ, suc, Bool, true, false, if◌then◌else◌, ◌==◌, List, Option, Some, None, Err}
-use Rattle.sl_ast.specs.Symbols.{plain, quoted, Sym, number, word, text, mark}
-use Rattle.sl_ast.specs.Trees.{Name, SpaceAttribute, of_type, of_size, of_word_size, is_default, BitRange, Field, Names, one, several, Definition, endian, alignment, space, bit_ranges, pcode_ops, token, context, registers, Member, member_word, member_text, member_integer, member_negative}
+use Rattle.std.specs.Prelude.{ℕ, suc, Bool, true, false, if◌then◌else◌, ◌==◌, Option, Some, Err}
+use Rattle.sl_ast.specs.Symbols.{quoted, Sym, number, word, text, mark}
+use Rattle.sl_ast.specs.Trees.{SpaceAttribute, of_type, of_size, of_word_size, is_default, BitRange, Field, Names, one, several, Definition, endian, alignment, space, bit_ranges, pcode_ops, token, context, registers, Member, member_word, member_text, member_integer, member_negative}
 use Rattle.sl_ast.specs.declared.definitions.AttachKind.{AttachKind}
 use Rattle.sl_ast.specs.declared.definitions.AttachKind.TheVariants as a
 use Rattle.sl_ast.specs.declared.definitions.ByteOrder.{ByteOrder}
@@ -12,7 +12,7 @@ use Rattle.sl_ast.specs.declared.symbols.Feature.TheVariants as f
 use Rattle.sl_ast.specs.declared.symbols.Keyword.TheVariants as k
 use Rattle.sl_ast.specs.declared.symbols.Mark.TheVariants as m
 use Rattle.sl_grammar.specs.Lists.{many}
-use Rattle.sl_grammar.specs.Reader.{Input, left, fault, unsupported, Reader, ◌>>=◌, ◌>>◌, pure, peek, skip, refuse, is_mark, is_keyword, expect, expect_keyword, integer_here, name_here, optional}
+use Rattle.sl_grammar.specs.Reader.{left, fault, unsupported, Reader, ◌>>=◌, ◌>>◌, pure, peek, skip, refuse, is_keyword, expect, expect_keyword, integer_here, name_here, optional}
 use Rattle.sl_grammar.specs.Statements.{until}
 
 abbrev pub order_by : Option Sym → Reader ByteOrder

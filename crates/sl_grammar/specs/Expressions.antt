@@ -1,7 +1,7 @@
 -- The reader of expressions.
-use Rattle.std.specs.Prelude.{ℕ, zero, suc, Bool, false, true, ◌&&◌, if◌then◌else◌, List, Option, Some, None, Result, Ok, Err, nat_le}
+use Rattle.std.specs.Prelude.{ℕ, zero, suc, ◌&&◌, if◌then◌else◌, Option, Some, None, Ok, Err, nat_le}
 use Rattle.sl_ast.specs.Operators.{Kind, in_section, in_action, in_constraint, is_section, has_operator, rank, right_rank, left_rank, loosest, takes_size, takes_bits, takes_drop, missing_function}
-use Rattle.sl_ast.specs.Symbols.{Word, plain, quoted, Sym, number, word, mark}
+use Rattle.sl_ast.specs.Symbols.{plain, quoted, Sym, number, word, mark}
 use Rattle.sl_ast.specs.Trees.{Name, Expression, integer, named, paren, call, sized, dropped, bits, prefix, star, binary}
 use Rattle.sl_ast.specs.Validity.{heaviest}
 use Rattle.sl_ast.specs.Views.{arguments}
@@ -16,7 +16,7 @@ use Rattle.sl_ast.specs.declared.symbols.Mark.{Mark}
 use Rattle.sl_ast.specs.declared.symbols.Mark.TheVariants as m
 use Rattle.sl_grammar.specs.Climb.{grown}
 use Rattle.sl_grammar.specs.Lists.{separated}
-use Rattle.sl_grammar.specs.Reader.{Input, at, left, fault, nesting, unsupported, Outcome, Reader, ◌>>=◌, ◌>>◌, pure, peek, skip, enter, unsupport, refuse, is_mark, look, expect, integer_here, name_here, size_here, optional, size_option}
+use Rattle.sl_grammar.specs.Reader.{at, left, fault, nesting, unsupported, Outcome, Reader, ◌>>=◌, ◌>>◌, pure, peek, skip, enter, unsupport, refuse, is_mark, look, expect, integer_here, name_here, size_here, optional, size_option}
 
 -- ---- operators
 
@@ -134,9 +134,9 @@ module _ (kind : Kind) (inner : ℕ → Reader Expression) where
   -- what stands behind an atom of a section
   unfoldable pub behind : Expression → Reader Expression
   behind e =
-    look (λ o. is_mark m.Colon o && takes_size e) (size_behind e)
-    (look (λ o. is_mark m.Open o && takes_drop e) (drop_behind e)
-    (look (λ o. is_mark m.OpenBracket o && takes_bits e) (bits_behind e) (pure e)))
+      look (λ o. is_mark m.Colon o && takes_size e) (size_behind e)
+      (look (λ o. is_mark m.Open o && takes_drop e) (drop_behind e)
+      (look (λ o. is_mark m.OpenBracket o && takes_bits e) (bits_behind e) (pure e)))
 
   unfoldable pub postfix : Reader Expression
   postfix = atom >>= (λ e. if is_section kind then behind e else pure e)

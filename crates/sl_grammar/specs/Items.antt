@@ -1,14 +1,14 @@
 -- The reader of constructors, blocks, macros and whole specifications.
 use Rattle.std.specs.Prelude.{ℕ, zero, suc, Bool, true, false, not, ◌&&◌, List, Option, Some, None, Result, Ok, Err}
 use Rattle.sl_ast.specs.Symbols.{plain, quoted, Sym, word, text, mark, blank, caret, char}
-use Rattle.sl_ast.specs.Trees.{Name, Piece, piece_word, piece_text, piece_blank, piece_caret, piece_char, Section, statements, unimplemented, Constructor, Head, Inside, nothing, constructor_then, block_then, Macro, Item, define, attach_list, attach_one, macro, constructor, block}
+use Rattle.sl_ast.specs.Trees.{Piece, piece_word, piece_text, piece_blank, piece_caret, piece_char, Section, statements, unimplemented, Constructor, Head, Inside, nothing, constructor_then, block_then, Item, define, attach_list, attach_one, macro, constructor, block}
 use Rattle.sl_ast.specs.Validity.{deepest}
 use Rattle.sl_ast.specs.declared.symbols.Keyword.TheVariants as k
 use Rattle.sl_ast.specs.declared.symbols.Mark.TheVariants as m
 use Rattle.sl_grammar.specs.Definitions.{definition, names, attach_kind, member}
 use Rattle.sl_grammar.specs.Lists.{many, listed}
 use Rattle.sl_grammar.specs.Patterns.{whole_pattern}
-use Rattle.sl_grammar.specs.Reader.{Input, at, left, Fault, fault, nesting, Outcome, Reader, ◌>>=◌, ◌>>◌, pure, peek, skip, refuse, look, is_mark, is_keyword, expect, expect_keyword, name_here, optional}
+use Rattle.sl_grammar.specs.Reader.{at, left, Fault, fault, nesting, Outcome, Reader, ◌>>=◌, ◌>>◌, pure, peek, skip, refuse, look, is_mark, is_keyword, expect, expect_keyword, name_here, optional}
 use Rattle.sl_grammar.specs.Statements.{until, body, actions}
 
 -- ---- constructors
@@ -106,16 +106,16 @@ attach_here = do
   kind ← attach_kind
   ws ← names
   look (is_mark m.OpenBracket)
-    (do
-      expect m.OpenBracket
-      members ← many (until m.CloseBracket) member
-      expect m.CloseBracket
-      expect m.Semicolon
-      pure (attach_list kind ws members))
-    (do
-      x ← member
-      expect m.Semicolon
-      pure (attach_one kind ws x))
+      (do
+        expect m.OpenBracket
+        members ← many (until m.CloseBracket) member
+        expect m.CloseBracket
+        expect m.Semicolon
+        pure (attach_list kind ws members))
+      (do
+        x ← member
+        expect m.Semicolon
+        pure (attach_one kind ws x))
 
 unfoldable pub macro_here : Reader Item
 macro_here = do

@@ -7,3 +7,4 @@ pub mod Parallel
 pub mod Statements
 pub mod Definitions
 pub mod Items
+pub mod Laws

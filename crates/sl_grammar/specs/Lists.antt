@@ -1,8 +1,8 @@
 -- Readers of lists. The number of rounds is more than the symbols that are left, and each part takes one.
-use Rattle.std.specs.Prelude.{ℕ, zero, suc, Bool, if◌then◌else◌, List, [], ◌∷◌, ◌++◌, Option}
+use Rattle.std.specs.Prelude.{ℕ, zero, suc, Bool, List, [], ◌∷◌, ◌++◌, Option}
 use Rattle.sl_ast.specs.Symbols.{Sym}
 use Rattle.sl_ast.specs.declared.symbols.Mark.TheVariants as m
-use Rattle.sl_grammar.specs.Reader.{Input, left, Reader, ◌>>=◌, ◌>>◌, pure, skip, refuse, look, is_mark}
+use Rattle.sl_grammar.specs.Reader.{left, Reader, ◌>>=◌, ◌>>◌, pure, skip, refuse, look, is_mark}
 
 -- parts behind those that were found, as long as the symbol that comes next passes the test
 unfoldable pub many_from : {A : Type 0} → (Option Sym → Bool) → Reader A → ℕ → List A → Reader (List A)

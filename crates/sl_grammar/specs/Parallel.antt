@@ -1,7 +1,7 @@
 -- Two readings of symbols that agree up to one place and may differ behind it.
-use Rattle.std.specs.Prelude.{◌≡◌, ℕ, ◌+◌, ◌<◌, List, [], ◌∷◌, ◌++◌, length, Ok, Err}
+use Rattle.std.specs.Prelude.{◌≡◌, ℕ, ◌+◌, ◌<◌, List, ◌∷◌, ◌++◌, length, Ok, Err}
 use Rattle.sl_ast.specs.Symbols.{Sym}
-use Rattle.sl_grammar.specs.Reader.{Form, syntax, nesting, unsupported, Fault, fault, Input, at, Outcome, Reader}
+use Rattle.sl_grammar.specs.Reader.{Form, syntax, nesting, unsupported, fault, Input, at, Outcome, Reader}
 
 -- A form that the language leaves out may be decided by what stands behind it.
 abbrev pub IsPastAt : Form → ℕ → ℕ → Type 0

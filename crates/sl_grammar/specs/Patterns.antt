@@ -1,5 +1,5 @@
 -- The reader of bit patterns.
-use Rattle.std.specs.Prelude.{ℕ, zero, suc, Bool, ◌&&◌, if◌then◌else◌, Option, Some, None, Ok, Err, nat_le}
+use Rattle.std.specs.Prelude.{ℕ, zero, suc, ◌&&◌, if◌then◌else◌, Option, Some, None, Err, nat_le}
 use Rattle.sl_ast.specs.Operators.{in_constraint, loosest, pattern_rank, pattern_right_rank, pattern_loosest}
 use Rattle.sl_ast.specs.Symbols.{plain, Sym, word, mark}
 use Rattle.sl_ast.specs.Trees.{Name, Pattern, bare, constraint, group, ellipsis, joined}
@@ -13,7 +13,7 @@ use Rattle.sl_ast.specs.declared.symbols.Mark.{Mark}
 use Rattle.sl_ast.specs.declared.symbols.Mark.TheVariants as m
 use Rattle.sl_grammar.specs.Climb.{grown}
 use Rattle.sl_grammar.specs.Expressions.{expression, with_room}
-use Rattle.sl_grammar.specs.Reader.{Input, at, left, fault, nesting, Reader, ◌>>=◌, ◌>>◌, pure, peek, skip, enter, unsupport, refuse, is_mark, look, expect}
+use Rattle.sl_grammar.specs.Reader.{at, left, fault, nesting, Reader, ◌>>=◌, ◌>>◌, pure, peek, skip, enter, unsupport, refuse, is_mark, look, expect}
 
 abbrev pub relation_of : Mark → Option Relation
 relation_of m.Equals = Some r.Equal

@@ -1,10 +1,10 @@
 -- Readers: what they take of the symbols that are left, or where they refuse.
-use Rattle.std.specs.Prelude.{ℕ, zero, suc, Bool, false, cond, if◌then◌else◌, List, [], ◌∷◌, length, drop, Option, Some, None, Result, Ok, Err, nat_le}
+use Rattle.std.specs.Prelude.{ℕ, zero, suc, Bool, false, if◌then◌else◌, List, [], ◌∷◌, length, drop, Option, Some, None, Result, Ok, Err, nat_le}
 use denote.Enum.Bare.{sameb}
 use Rattle.sl_ast.specs.contracts.symbols.Keyword as keywords
 use Rattle.sl_ast.specs.contracts.symbols.Mark.{the_type}
 use Rattle.sl_ast.specs.Operators.{widest}
-use Rattle.sl_ast.specs.Symbols.{Word, plain, quoted, Sym, number, word, mark}
+use Rattle.sl_ast.specs.Symbols.{plain, quoted, Sym, number, word, mark}
 use Rattle.sl_ast.specs.Trees.{Name}
 use Rattle.sl_ast.specs.declared.symbols.Feature.{Feature}
 use Rattle.sl_ast.specs.declared.symbols.Feature.TheVariants as f
@@ -76,9 +76,9 @@ skip = λ i. Ok (tt, next i)
 -- takes it as one more operator or bracket
 unfoldable pub enter : Reader (Unit {0})
 enter = λ i. elim (i.room) [
-    | zero ↦ Err (fault nesting (left i))
-    | suc r ↦ Ok (tt, at (drop 1 i.rest) r)
-  ]
+  | zero ↦ Err (fault nesting (left i))
+  | suc r ↦ Ok (tt, at (drop 1 i.rest) r)
+]
 
 -- refuses a form that the language leaves out
 abbrev pub unsupport : {A : Type 0} → Feature → Reader A

@@ -1,15 +1,15 @@
 -- The reader of statements and of disassembly actions.
-use Rattle.std.specs.Prelude.{ℕ, suc, Bool, if◌then◌else◌, not, List, Option, Some, None, Err}
+use Rattle.std.specs.Prelude.{suc, Bool, not, List, Option, Some, None, Err}
 use Rattle.sl_ast.specs.Operators.{in_section, in_action, missing_function, missing_statement}
 use Rattle.sl_ast.specs.Symbols.{plain, quoted, Sym, number, word, mark}
-use Rattle.sl_ast.specs.Trees.{Name, Expression, Operand, by_name, by_integer, Action, set, global_set, StarForm, Left, left_name, left_bits, left_star, Direct, to_label, to_operand, Dest, direct, computed, Target, calls, calls_computed, Exported, exports, exports_star, Statement, local, declare, assign, goto, branch, call_to, return, build, export, invoke, label}
+use Rattle.sl_ast.specs.Trees.{Name, Expression, Operand, by_name, by_integer, Action, set, global_set, StarForm, left_name, left_bits, left_star, Direct, to_label, to_operand, Dest, direct, computed, Target, calls, calls_computed, Exported, exports, exports_star, Statement, local, declare, assign, goto, branch, call_to, return, build, export, invoke, label}
 use Rattle.sl_ast.specs.declared.symbols.Feature.{Feature}
 use Rattle.sl_ast.specs.declared.symbols.Keyword.TheVariants as k
 use Rattle.sl_ast.specs.declared.symbols.Mark.{Mark}
 use Rattle.sl_ast.specs.declared.symbols.Mark.TheVariants as m
 use Rattle.sl_grammar.specs.Expressions.{whole}
 use Rattle.sl_grammar.specs.Lists.{many, listed}
-use Rattle.sl_grammar.specs.Reader.{Input, left, fault, unsupported, Reader, ◌>>=◌, ◌>>◌, pure, peek, skip, unsupport, refuse, is_mark, expect, expect_keyword, integer_here, name_here, size_here, optional, size_option}
+use Rattle.sl_grammar.specs.Reader.{left, fault, unsupported, Reader, ◌>>=◌, ◌>>◌, pure, peek, skip, unsupport, refuse, is_mark, expect, expect_keyword, integer_here, name_here, size_here, optional, size_option}
 
 -- ---- parts of statements
 
