@@ -90,6 +90,8 @@ pub enum Mark {
     SignedPercent,
     /// `f+`, `f-`, `f*`, `f/`, `f==`, `f!=`, `f<`, `f<=`, `f>` or `f>=`
     Floating,
+    /// Other bytes, which are no mark of the language.
+    Unknown,
 }
 
 /// A word that the grammar quotes, so that it names nothing, or `inst_next2`, which the language lacks.
