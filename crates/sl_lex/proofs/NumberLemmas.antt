@@ -1,16 +1,21 @@
-use Rattle.std.proofs.Common.{◌≡◌, ℕ, ◌+◌, ◌-◌, ◌*◌, ◌<◌, ◌≤◌, List, [], ◌∷◌, arith, drop, get_or, length, refl, ◌∙◌, add-one, drop-cons}
-use Rattle.sl_lex.specs.Bytes.{decimal_after}
+use Rattle.std.proofs.Common.{◌≡◌, ℕ, ◌+◌, ◌*◌, ◌<◌, ◌≤◌, List, [], ◌∷◌, arith, drop, get_or, length, refl, ◌∙◌, add-one, drop-cons}
+use Rattle.sl_lex.specs.Bytes.{digit_value, number_after}
+
+times_some : (base n : ℕ) → 0 < base → n ≤ base * n
+times_some base n h = grind arith
 
 -- More digits make a number no smaller.
-decimal_after-ge : (n : ℕ) (ds : List ℕ) → n ≤ decimal_after n ds
-decimal_after-ge n [] = omega arith
-decimal_after-ge n (d ∷ ds) = omega (arith, decimal_after-ge (10 * n + (d - 48)) ds)
+number_after-ge : (base n : ℕ) (ds : List ℕ) → 0 < base → n ≤ number_after base n ds
+number_after-ge base n [] h = omega arith
+number_after-ge base n (d ∷ ds) h = omega (arith, times_some base n h, number_after-ge base (base * n + digit_value d) ds h)
 
-decimal_after-step : (n i : ℕ) (ds : List ℕ) → i < length ds → decimal_after n (drop i ds) ≡ decimal_after (10 * n + (get_or ds i 0 - 48)) (drop (i + 1) ds)
-decimal_after-step n i ds h = rw (add-one, drop-cons ds i 0) refl
+number_after-step : (base n i : ℕ) (ds : List ℕ) → i < length ds
+    → number_after base n (drop i ds) ≡ number_after base (base * n + digit_value (get_or ds i 0)) (drop (i + 1) ds)
+number_after-step base n i ds h = rw (add-one, drop-cons ds i 0) refl
 
 -- A number is no smaller than what its first digits spell.
-pub one_digit_more : (n i whole : ℕ) (ds : List ℕ) → i < length ds → whole ≡ decimal_after n (drop i ds) → 10 * n + (get_or ds i 0 - 48) ≤ whole
-one_digit_more n i whole ds h e =
-    let more = decimal_after-ge (10 * n + (get_or ds i 0 - 48)) (drop (i + 1) ds) in
-    omega (arith, e ∙ decimal_after-step n i ds h)
+pub one_digit_more : (base n i whole : ℕ) (ds : List ℕ) → 0 < base → i < length ds → whole ≡ number_after base n (drop i ds)
+    → base * n + digit_value (get_or ds i 0) ≤ whole
+one_digit_more base n i whole ds some h e =
+    let more = number_after-ge base (base * n + digit_value (get_or ds i 0)) (drop (i + 1) ds) some in
+    omega (arith, e ∙ number_after-step base n i ds h)

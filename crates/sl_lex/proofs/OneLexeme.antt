@@ -1,79 +1,108 @@
--- One lexeme alone stands at the front of a text.
-use Rattle.std.proofs.Common.{◌≡◌, ℕ, ◌<◌, Bool, true, List, [], ◌∷◌, ◌++◌, length, arith, refl, ap, sym, ◌∙◌}
+-- One longest lexeme alone stands at the front of a text.
+use Rattle.std.proofs.Common.{◌≡◌, ℕ, ◌<◌, ◌≤◌, ◌&&◌, Bool, true, false, not, List, [], ◌∷◌, ◌++◌, length, arith, refl, ap, subst, append-nil, sym, ◌∙◌, nat_eq, Option, Some, None}
+use Rattle.std.specs.Prelude.{Contains}
 use Rattle.std.specs.List.{list_all}
-use Rattle.std.proofs.lemmas.Bool.Decides.{nat_tests}
-use Rattle.sl_lex.specs.Bytes.{is_letter, is_digit, is_word_byte, is_mark, decimal}
-use Rattle.sl_lex.specs.Lexemes.{Mode, BeginsWith, IsOne, IsLexeme}
-use Rattle.sl_lex.specs.Lexemes.Mode.{Top}
+use Rattle.sl_lex.specs.Bytes.{is_word_byte}
+use Rattle.sl_lex.specs.Lexemes.{IsWord, HasNoDots, IsCodeLexeme, IsDisplayLexeme, IsLexeme, IsLongest, begins_with_dots}
+use Rattle.sl_lex.specs.Marks.{marks_of}
+use Rattle.sl_lex.specs.declared.mode.Mode.{Mode}
+use Rattle.sl_lex.specs.declared.mode.Mode.TheVariants.{Top, Head, Plain, Body, Display, Pattern}
 use Rattle.sl_lex.specs.declared.TokKind.{TokKind}
-use Rattle.sl_lex.specs.declared.TokKind.TheVariants.{Word, Integer, Mark}
-use Rattle.sl_lex.proofs.RunLemmas.{one_run, both_true}
-use Rattle.sl_lex.proofs.LexemeLemmas.{integer_run}
+use Rattle.sl_lex.specs.declared.TokKind.TheVariants.{Word, Integer, Text, Mark, Blank, Caret, Char}
+use Rattle.sl_lex.proofs.CodeLemmas.{class_of_kind, kind_class, kept_class}
+use Rattle.sl_lex.proofs.DisplayLemmas.{display_class_of_kind, display_kind}
+use Rattle.sl_lex.proofs.MarkLemmas.{all_pass}
+use Rattle.sl_lex.proofs.RunLemmas.{one_front}
+use Rattle.sl_lex.proofs.ReadingLemmas.{lexeme_some}
+use Rattle.sl_lex.proofs.SpelledLemmas.{one_integer}
 
-letter_no_digit : (b : ℕ) → is_letter b ≡ true → is_digit b ≡ true → ⊥
-letter_no_digit b h k = grind (arith, nat_tests)
+-- the test that a mark passes and no word does: it is three dots, or has a byte that no word has
+abbrev no_word : List ℕ → Bool
+no_word mark = not (list_all is_word_byte mark && not (begins_with_dots mark))
 
-word_byte_no_mark : (b : ℕ) → is_word_byte b ≡ true → is_mark b ≡ true → ⊥
-word_byte_no_mark b h k = grind (arith, nat_tests)
+no_words : (mode : Mode) → list_all no_word (marks_of mode) ≡ true
+no_words Top = refl
+no_words Head = refl
+no_words Plain = refl
+no_words Body = refl
+no_words Display = refl
+no_words Pattern = refl
 
-begins_some : (test : ℕ → Bool) (text : List ℕ) → BeginsWith test text → 0 < length text
-begins_some test [] h = absurd h
-begins_some test (b ∷ bs) h = omega arith
+both_fail : (a d : Bool) → not (a && not d) ≡ true → a ≡ true → d ≡ false → ⊥
+both_fail true false h e f = let wrong : false ≡ true = h in absurd (cc)
+both_fail true true h e f = absurd (cc)
+both_fail false d h e f = absurd (cc)
 
--- A run of word bytes begins with no mark.
-run_no_mark : (run rest front after : List ℕ) → 0 < length run → list_all is_word_byte run ≡ true → run ++ rest ≡ front ++ after → IsOne is_mark front → ⊥
-run_no_mark [] rest front after some h e m = absurd (omega arith)
-run_no_mark (r ∷ rs) rest [] after some h e m = m
-run_no_mark (r ∷ rs) rest (c ∷ []) after some h e m =
-    let same : r ≡ c = cc in
-    word_byte_no_mark r (both_true _ _ h).0 (ap is_mark same ∙ m)
-run_no_mark (r ∷ rs) rest (c ∷ d ∷ cs) after some h e m = m
+and_none : (a : Bool) → (a && false) ≡ false
+and_none true = refl
+and_none false = refl
 
--- A word is no integer.
-word_no_integer : (n : ℕ) (text front rest after : List ℕ) → text ++ rest ≡ front ++ after
-    → IsLexeme Top Word text rest → IsLexeme Top (Integer n) front after → ⊥
-word_no_integer n [] front rest after e h k = h.0
-word_no_integer n (b ∷ bs) front rest after e h k =
-    let same = one_run is_word_byte (b ∷ bs) rest front after e h.1 (integer_run n front after k.0 k.1) in
-    let digits : list_all is_digit (b ∷ bs) ≡ true = ap (list_all is_digit) same.0 ∙ k.0.digits in
-    letter_no_digit b h.0 (both_true _ _ digits).0
+undotted : (b : ℕ) (bs rest : List ℕ) → HasNoDots (b ∷ bs) rest → begins_with_dots (b ∷ bs) ≡ false
+undotted b [] rest h = and_none (nat_eq 46 b)
+undotted b (c ∷ []) rest h = rw (and_none (nat_eq 46 c)) (and_none (nat_eq 46 b))
+undotted b (c ∷ d ∷ ds) rest h = h.0
 
-one_mark : (text rest front after : List ℕ) → text ++ rest ≡ front ++ after → IsOne is_mark text → IsOne is_mark front → (text ≡ front) × (rest ≡ after)
-one_mark [] rest front after e h k = absurd h
-one_mark (a ∷ []) rest [] after e h k = absurd k
-one_mark (a ∷ []) rest (b ∷ []) after e h k = let same : a ≡ b = cc in (cc, cc)
-one_mark (a ∷ []) rest (b ∷ c ∷ cs) after e h k = absurd k
-one_mark (a ∷ b ∷ bs) rest front after e h k = absurd h
+-- A word is no mark.
+word_no_mark : (mode : Mode) (bytes rest : List ℕ) → IsWord bytes → HasNoDots bytes rest → Contains (marks_of mode) bytes → ⊥
+word_no_mark mode [] rest word dots among = word.0
+word_no_mark mode (b ∷ bs) rest word dots among =
+    both_fail (list_all is_word_byte (b ∷ bs)) (begins_with_dots (b ∷ bs)) (all_pass no_word (marks_of mode) (b ∷ bs) (no_words mode) among) word.1 (undotted b bs rest dots)
 
-top_some : (kind : TokKind) (text rest : List ℕ) → IsLexeme Top kind text rest → 0 < length text
-top_some Word text rest h = begins_some is_letter text h.0
-top_some (Integer n) text rest h = h.0.some
-top_some Mark [] rest h = absurd h
-top_some Mark (b ∷ bs) rest h = omega arith
+one_code_kind : (mode : Mode) (j k : Option TokKind) (b : ℕ) (bs rest : List ℕ) → IsCodeLexeme (marks_of mode) j (b ∷ bs) rest
+    → IsCodeLexeme (marks_of mode) k (b ∷ bs) rest → j ≡ k
+one_code_kind mode (Some Word) (Some Mark) b bs rest h l = absurd (word_no_mark mode (b ∷ bs) rest h.0 h.1 l)
+one_code_kind mode (Some Mark) (Some Word) b bs rest h l = absurd (word_no_mark mode (b ∷ bs) rest l.0 l.1 h)
+one_code_kind mode (Some Word) (Some Word) b bs rest h l = refl
+one_code_kind mode (Some Mark) (Some Mark) b bs rest h l = refl
+one_code_kind mode (Some Text) (Some Text) b bs rest h l = refl
+one_code_kind mode None None b bs rest h l = refl
+one_code_kind mode (Some (Integer m)) (Some (Integer n)) b bs rest h l = ap (λ (v : ℕ). Some (Integer v)) (one_integer m n (b ∷ bs) h l)
+one_code_kind mode None (Some k) b bs rest h l =
+    absurd (kept_class k (sym (class_of_kind mode (Some k) (b ∷ bs) rest b (bs ++ rest) refl l) ∙ class_of_kind mode None (b ∷ bs) rest b (bs ++ rest) refl h))
+one_code_kind mode (Some j) None b bs rest h l =
+    absurd (kept_class j (sym (class_of_kind mode (Some j) (b ∷ bs) rest b (bs ++ rest) refl h) ∙ class_of_kind mode None (b ∷ bs) rest b (bs ++ rest) refl l))
+one_code_kind mode (Some Blank) k b bs rest h l = absurd h
+one_code_kind mode (Some Caret) k b bs rest h l = absurd h
+one_code_kind mode (Some Char) k b bs rest h l = absurd h
+one_code_kind mode j k b bs rest h l =
+    let same : kind_class j ≡ kind_class k = sym (class_of_kind mode j (b ∷ bs) rest b (bs ++ rest) refl h) ∙ class_of_kind mode k (b ∷ bs) rest b (bs ++ rest) refl l in
+    absurd (omega arith)
 
-pub lexeme_some : (mode : Mode) (kind : TokKind) (text rest : List ℕ) → IsLexeme mode kind text rest → 0 < length text
-lexeme_some Top kind text rest h = top_some kind text rest h
+one_display_kind : (j k : Option TokKind) (b : ℕ) (bs : List ℕ) → IsDisplayLexeme j (b ∷ bs) → IsDisplayLexeme k (b ∷ bs) → j ≡ k
+one_display_kind (Some Word) (Some Word) b bs h l = refl
+one_display_kind (Some Text) (Some Text) b bs h l = refl
+one_display_kind (Some Blank) (Some Blank) b bs h l = refl
+one_display_kind (Some Caret) (Some Caret) b bs h l = refl
+one_display_kind (Some Char) (Some Char) b bs h l = refl
+one_display_kind None k b bs h l = absurd h
+one_display_kind (Some Mark) k b bs h l = absurd h
+one_display_kind (Some (Integer value)) k b bs h l = absurd h
+one_display_kind j None b bs h l = absurd l
+one_display_kind j k b bs h l =
+    let same : display_kind j ≡ display_kind k =
+    sym (display_class_of_kind j (b ∷ bs) [] b bs (sym (append-nil (b ∷ bs))) h) ∙ display_class_of_kind k (b ∷ bs) [] b bs (sym (append-nil (b ∷ bs))) l in
+    absurd (omega arith)
 
-one_top : (j k : TokKind) (text rest front after : List ℕ) → text ++ rest ≡ front ++ after → IsLexeme Top j text rest → IsLexeme Top k front after
-    → (j ≡ k) × (text ≡ front) × (rest ≡ after)
-one_top Word Word text rest front after e h k =
-    let same = one_run is_word_byte text rest front after e h.1 k.1 in (refl, same.0, same.1)
-one_top Word (Integer n) text rest front after e h k = absurd (word_no_integer n text front rest after e h k)
-one_top Word Mark text rest front after e h k =
-    absurd (run_no_mark text rest front after (begins_some is_letter text h.0) h.1.0 e k)
-one_top (Integer m) Word text rest front after e h k = absurd (word_no_integer m front text after rest (sym e) k h)
-one_top (Integer m) (Integer n) text rest front after e h k =
-    let same = one_run is_word_byte text rest front after e (integer_run m text rest h.0 h.1) (integer_run n front after k.0 k.1) in
-    let number : m ≡ n = sym h.0.spells ∙ ap decimal same.0 ∙ k.0.spells in
-    (ap (λ x. Integer x) number, same.0, same.1)
-one_top (Integer m) Mark text rest front after e h k =
-    absurd (run_no_mark text rest front after h.0.some (integer_run m text rest h.0 h.1).0 e k)
-one_top Mark Word text rest front after e h k =
-    absurd (run_no_mark front after text rest (begins_some is_letter front k.0) k.1.0 (sym e) h)
-one_top Mark (Integer n) text rest front after e h k =
-    absurd (run_no_mark front after text rest k.0.some (integer_run n front after k.0 k.1).0 (sym e) h)
-one_top Mark Mark text rest front after e h k = let same = one_mark text rest front after e h k in (refl, same.0, same.1)
+-- Bytes are a lexeme of one kind.
+one_kind : (mode : Mode) (j k : Option TokKind) (b : ℕ) (bs rest : List ℕ) → IsLexeme mode j (b ∷ bs) rest → IsLexeme mode k (b ∷ bs) rest → j ≡ k
+one_kind Top j k b bs rest h l = one_code_kind Top j k b bs rest h l
+one_kind Head j k b bs rest h l = one_code_kind Head j k b bs rest h l
+one_kind Plain j k b bs rest h l = one_code_kind Plain j k b bs rest h l
+one_kind Body j k b bs rest h l = one_code_kind Body j k b bs rest h l
+one_kind Display j k b bs rest h l = one_display_kind j k b bs h l
+one_kind Pattern j k b bs rest h l = one_code_kind Pattern j k b bs rest h l
 
-pub one_lexeme : (mode : Mode) (j k : TokKind) (text rest front after : List ℕ) → text ++ rest ≡ front ++ after
-    → IsLexeme mode j text rest → IsLexeme mode k front after → (j ≡ k) × (text ≡ front) × (rest ≡ after)
-one_lexeme Top j k text rest front after e h l = one_top j k text rest front after e h l
+kind_of_same : (mode : Mode) (j k : Option TokKind) (bytes rest : List ℕ) → 0 < length bytes → IsLexeme mode j bytes rest → IsLexeme mode k bytes rest → j ≡ k
+kind_of_same mode j k [] rest some h l = absurd (omega arith)
+kind_of_same mode j k (b ∷ bs) rest some h l = one_kind mode j k b bs rest h l
+
+-- One longest lexeme stands at a place.
+pub one_longest : (mode : Mode) (j k : Option TokKind) (bytes rest front after : List ℕ) → bytes ++ rest ≡ front ++ after
+    → IsLongest mode j bytes rest → IsLongest mode k front after → (j ≡ k) × (bytes ≡ front) × (rest ≡ after)
+one_longest mode j k bytes rest front after e h l =
+    let below : length front ≤ length bytes = h.longest k front after e l.lexeme in
+    let above : length bytes ≤ length front = l.longest j bytes rest (sym e) h.lexeme in
+    let same = one_front bytes rest front after e (omega arith) in
+    let there : IsLexeme mode k bytes rest =
+    subst (λ (f : List ℕ). IsLexeme mode k f rest) (sym same.0) (subst (λ (r : List ℕ). IsLexeme mode k front r) (sym same.1) l.lexeme) in
+    (kind_of_same mode j k bytes rest (lexeme_some mode j bytes rest h.lexeme) h.lexeme there, same.0, same.1)

@@ -1,88 +1,100 @@
 -- A text reads in one way alone.
-use Rattle.std.proofs.Common.{◌≡◌, ℕ, ◌+◌, ◌<◌, List, [], ◌∷◌, ◌++◌, length, Option, None, Some, arith, refl, ap, ap₂, sym, ◌∙◌, subst, append-nil}
-use Rattle.sl_lex.specs.Bytes.{is_blank}
-use Rattle.sl_lex.specs.Lexemes.{Mode, IsGap, HasNoLexeme}
-use Rattle.sl_lex.specs.Lexemes.Mode.{Top}
-use Rattle.sl_lex.specs.Reading.{Token, Reads, SkipsTo, IsTokenAt, next_mode, ReadsAs, HasBadPlace}
+use Rattle.std.proofs.Common.{◌≡◌, ℕ, ◌+◌, ◌<◌, ◌≤◌, ◌^◌, List, [], ◌∷◌, length, Option, None, Some, arith, refl, ap, ap₂, sym, ◌∙◌, subst, length-append}
+use Rattle.sl_lex.specs.Errors.{Tells}
+use Rattle.sl_lex.specs.Faults.{Fault, IsFault}
+use Rattle.sl_lex.specs.Faults.Fault.{NoLexeme, OpenQuote, TooWide}
+use Rattle.sl_lex.specs.Reading.{Token, Piece, Reads, ReadsTo, IsPieceAt, mode_after, Fits, tokens_of, ReadsAs, HasBadPlace}
+use Rattle.sl_lex.specs.declared.LexError.{LexError}
+use Rattle.sl_lex.specs.declared.LexError.TheVariants.{BadByte, OpenString, WideInteger, NoMemory}
+use Rattle.sl_lex.specs.declared.mode.Mode.{Mode}
+use Rattle.sl_lex.specs.declared.mode.Mode.TheVariants.{Top}
 use Rattle.sl_lex.specs.declared.TokKind.{TokKind}
-use Rattle.sl_lex.proofs.RunLemmas.{one_run}
-use Rattle.sl_lex.proofs.OneLexeme.{one_lexeme, lexeme_some}
+use Rattle.sl_lex.specs.declared.TokKind.TheVariants.{Integer}
+use Rattle.sl_lex.proofs.OneFault.{one_fault, bad_some, open_some}
+use Rattle.sl_lex.proofs.OneLexeme.{one_longest}
+use Rattle.sl_lex.proofs.ReadingLemmas.{lexeme_some}
 
-one_gap : (mode : Mode) (gap after gap' after' : List ℕ) → gap ++ after ≡ gap' ++ after' → IsGap mode gap after → IsGap mode gap' after'
-    → (gap ≡ gap') × (after ≡ after')
-one_gap Top gap after gap' after' e f g = one_run is_blank gap after gap' after' e f g
+piece_some : (mode : Mode) (from : ℕ) (text : List ℕ) (p : Piece) (rest : List ℕ) → IsPieceAt mode from text p rest → text ≡ [] → ⊥
+piece_some mode from text p rest h e =
+    let none : length p.text + length rest ≡ 0 = sym (length-append p.text rest) ∙ ap length (sym h.split ∙ e) in
+    let some : 0 < length p.text = lexeme_some mode p.kind p.text rest h.longest.lexeme in omega arith
 
-one_skip : (mode : Mode) (text gap after gap' after' : List ℕ) → SkipsTo mode text gap after → SkipsTo mode text gap' after' → (gap ≡ gap') × (after ≡ after')
-one_skip mode text gap after gap' after' s t = one_gap mode gap after gap' after' (sym s.0 ∙ t.0) s.1 t.1
+fault_some : (mode : Mode) (fault : Fault) (ahead : ℕ) (text : List ℕ) → IsFault mode fault ahead text → text ≡ [] → ⊥
+fault_some mode NoLexeme ahead text h e = bad_some ahead text h.1 e
+fault_some mode OpenQuote ahead text h e = open_some ahead text h.1 e
+fault_some mode TooWide ahead text ((value, bytes, rest, split, longest, wide), at) e =
+    let none : length bytes + length rest ≡ 0 = sym (length-append bytes rest) ∙ ap length (sym split ∙ e) in
+    let some : 0 < length bytes = lexeme_some mode (Some (Integer value)) bytes rest longest.lexeme in omega arith
 
--- Where a gap goes on to the text's end, nothing comes after it.
-gap_ends : (mode : Mode) (text gap after : List ℕ) → IsGap mode text [] → SkipsTo mode text gap after → 0 < length after → ⊥
-gap_ends mode text gap after h skips some =
-    let same = one_skip mode text text [] gap after (sym (append-nil text), h) skips in
-    let none : length after ≡ 0 = sym (ap length same.1) in omega arith
+-- An integer that fits is not too wide.
+fits_no_wide : (kind : Option TokKind) (value : ℕ) → kind ≡ Some (Integer value) → Fits kind → 2 ^ 64 ≤ value → ⊥
+fits_no_wide kind value e fits wide = let less : value < 2 ^ 64 = subst (λ (k : Option TokKind). Fits k) e fits in omega arith
 
-longer : (xs ys : List ℕ) → 0 < length xs → 0 < length (xs ++ ys)
-longer [] ys h = absurd (omega arith)
-longer (x ∷ xs) ys h = omega arith
+piece_no_fault : (mode : Mode) (from : ℕ) (text : List ℕ) (p : Piece) (rest : List ℕ) (fault : Fault) (ahead : ℕ) → IsPieceAt mode from text p rest
+    → IsFault mode fault ahead text → ⊥
+piece_no_fault mode from text p rest NoLexeme ahead h k = k.0 p.kind p.text rest h.split h.longest.lexeme
+piece_no_fault mode from text p rest OpenQuote ahead h k = k.0 p.kind p.text rest h.split h.longest.lexeme
+piece_no_fault mode from text p rest TooWide ahead h ((value, bytes, after, split, longest, wide), at) =
+    fits_no_wide p.kind value (one_longest mode p.kind (Some (Integer value)) p.text rest bytes after (sym h.split ∙ split) h.longest longest).0 h.fits wide
 
-token_some : (mode : Mode) (from : ℕ) (text : List ℕ) (t : Token) (rest : List ℕ) → IsTokenAt mode from text t rest → 0 < length text
-token_some mode from text t rest h =
-    subst (λ (x : List ℕ). 0 < length x) (sym h.split) (longer t.text rest (lexeme_some mode t.kind t.text rest h.lexeme))
-
-no_token : (mode : Mode) (from : ℕ) (text bad : List ℕ) (t : Token) (rest : List ℕ) → IsTokenAt mode from text t rest → text ≡ bad → HasNoLexeme mode bad → ⊥
-no_token mode from text bad t rest h e none = none t.kind t.text rest (sym e ∙ h.split) h.lexeme
-
-abbrev made : TokKind → List ℕ → ℕ → Token
+abbrev made : Option TokKind → List ℕ → ℕ → Piece
 made kind text from = record { kind = kind; text = text; from = from }
 
-same_token : (t u : Token) → t.kind ≡ u.kind → t.text ≡ u.text → t.from ≡ u.from → t ≡ u
-same_token t u e f g = ap₂ (λ k x. made k x t.from) e f ∙ ap (λ n. made u.kind u.text n) g
+same_piece : (p q : Piece) → p.kind ≡ q.kind → p.text ≡ q.text → p.from ≡ q.from → p ≡ q
+same_piece p q e f g = ap₂ (λ k x. made k x p.from) e f ∙ ap (λ n. made q.kind q.text n) g
 
-moved : (m n : Mode) (x y : ℕ) (r s : List ℕ) (us : List Token) (fin : Option ℕ) → m ≡ n → x ≡ y → r ≡ s → Reads n y s us fin → Reads m x r us fin
-moved m n x y r s us fin d e f h =
-    subst (λ (k : Mode). Reads k x r us fin) (sym d)
-    (subst (λ (k : ℕ). Reads n k r us fin) (sym e) (subst (λ (t : List ℕ). Reads n y t us fin) (sym f) h))
+moved : (m n : Mode) (x y : ℕ) (r s : List ℕ) (ps : List Piece) (end : Option (Fault × ℕ)) → m ≡ n → x ≡ y → r ≡ s → Reads n y s ps end → Reads m x r ps end
+moved m n x y r s ps end d e f h =
+    subst (λ (k : Mode). Reads k x r ps end) (sym d)
+    (subst (λ (k : ℕ). Reads n k r ps end) (sym e) (subst (λ (t : List ℕ). Reads n y t ps end) (sym f) h))
 
-one_reading_from : (mode : Mode) (from : ℕ) (text : List ℕ) (ts us : List Token) (end fin : Option ℕ) → Reads mode from text ts end
-    → Reads mode from text us fin → (ts ≡ us) × (end ≡ fin)
+same_end : (a b : Fault × ℕ) → a.0 ≡ b.0 → a.1 ≡ b.1 → Some a ≡ Some b
+same_end a b e f = ap₂ (λ (x : Fault) (n : ℕ). Some (x, n)) e f
+
+one_reading_from : (mode : Mode) (from : ℕ) (text : List ℕ) (ps qs : List Piece) (end fin : Option (Fault × ℕ)) → Reads mode from text ps end
+    → Reads mode from text qs fin → (ps ≡ qs) × (end ≡ fin)
 one_reading_from mode from text [] [] None None h k = (refl, refl)
-one_reading_from mode from text [] [] None (Some bad) h (gap, after, skips, some, none, e) = absurd (gap_ends mode text gap after h skips some)
-one_reading_from mode from text [] [] (Some bad) None (gap, after, skips, some, none, e) k = absurd (gap_ends mode text gap after k skips some)
-one_reading_from mode from text [] [] (Some bad) (Some worse) (gap, after, skips, some, none, e) (gap', after', skips', some', none', e') =
-    let same = one_skip mode text gap after gap' after' skips skips' in
-    (refl, ap (λ n. Some n) (e ∙ ap (λ (g : List ℕ). from + length g) same.0 ∙ sym e'))
-one_reading_from mode from text [] (u ∷ us) None fin h (gap, after, rest, skips, tok, later) =
-    absurd (gap_ends mode text gap after h skips (token_some mode _ after u rest tok))
-one_reading_from mode from text [] (u ∷ us) (Some bad) fin (gap, after, skips, some, none, e) (gap', after', rest', skips', tok', later') =
-    let same = one_skip mode text gap' after' gap after skips' skips in
-    absurd (no_token mode _ after' after u rest' tok' same.1 none)
-one_reading_from mode from text (t ∷ ts) [] end None (gap, after, rest, skips, tok, later) k =
-    absurd (gap_ends mode text gap after k skips (token_some mode _ after t rest tok))
-one_reading_from mode from text (t ∷ ts) [] end (Some bad) (gap, after, rest, skips, tok, later) (gap', after', skips', some', none', e') =
-    let same = one_skip mode text gap after gap' after' skips skips' in
-    absurd (no_token mode _ after after' t rest tok same.1 none')
-one_reading_from mode from text (t ∷ ts) (u ∷ us) end fin (gap, after, rest, skips, tok, later) (gap', after', rest', skips', tok', later') =
-    let same = one_skip mode text gap after gap' after' skips skips' in
-    let lexeme = one_lexeme mode t.kind u.kind t.text rest u.text rest' (sym tok.split ∙ same.1 ∙ tok'.split) tok.lexeme tok'.lexeme in
-    let place : from + length gap ≡ from + length gap' = ap (λ (g : List ℕ). from + length g) same.0 in
-    let token : t ≡ u = same_token t u lexeme.0 lexeme.1 (tok.place ∙ place ∙ sym tok'.place) in
-    let on : from + length gap + length t.text ≡ from + length gap' + length u.text = ap₂ (λ m n. m + n) place (ap length lexeme.1) in
-    let more = one_reading_from (next_mode mode t) (from + length gap + length t.text) rest ts us end fin later
-    (moved (next_mode mode t) (next_mode mode u) _ _ rest rest' us fin (ap (next_mode mode) token) on lexeme.2 later') in
-    (ap₂ (λ x xs. x ∷ xs) token more.0, more.1)
+one_reading_from mode from text [] [] None (Some bad) h (ahead, is, e) = absurd (fault_some mode bad.0 ahead text is h)
+one_reading_from mode from text [] [] (Some bad) None (ahead, is, e) k = absurd (fault_some mode bad.0 ahead text is k)
+one_reading_from mode from text [] [] (Some bad) (Some worse) (ahead, is, e) (ahead', is', e') =
+    let same = one_fault mode bad.0 worse.0 ahead ahead' text is is' in
+    (refl, same_end bad worse same.0 (e ∙ ap (λ (n : ℕ). from + n) same.1 ∙ sym e'))
+one_reading_from mode from text [] (q ∷ qs) None fin h (rest, here, later) = absurd (piece_some mode from text q rest here h)
+one_reading_from mode from text [] (q ∷ qs) (Some bad) fin (ahead, is, e) (rest, here, later) = absurd (piece_no_fault mode from text q rest bad.0 ahead here is)
+one_reading_from mode from text (p ∷ ps) [] end None (rest, here, later) k = absurd (piece_some mode from text p rest here k)
+one_reading_from mode from text (p ∷ ps) [] end (Some bad) (rest, here, later) (ahead, is, e) = absurd (piece_no_fault mode from text p rest bad.0 ahead here is)
+one_reading_from mode from text (p ∷ ps) (q ∷ qs) end fin (rest, here, later) (rest', here', later') =
+    let same = one_longest mode p.kind q.kind p.text rest q.text rest' (sym here.split ∙ here'.split) here.longest here'.longest in
+    let piece : p ≡ q = same_piece p q same.0 same.1 (here.place ∙ sym here'.place) in
+    let more = one_reading_from (mode_after mode p.kind p.text) (from + length p.text) rest ps qs end fin later
+    (moved (mode_after mode p.kind p.text) (mode_after mode q.kind q.text) _ _ rest rest' qs fin (ap₂ (mode_after mode) same.0 same.1)
+    (ap (λ (t : List ℕ). from + length t) same.1) same.2 later') in
+    (ap₂ (λ x xs. x ∷ xs) piece more.0, more.1)
 
-pub one_end : (text : List ℕ) (ts us : List Token) (end fin : Option ℕ) → Reads Top 0 text ts end → Reads Top 0 text us fin → (ts ≡ us) × (end ≡ fin)
-one_end text ts us end fin h k = one_reading_from Top 0 text ts us end fin h k
+pub one_end : (text : List ℕ) (ts us : List Token) (end fin : Option (Fault × ℕ)) → ReadsTo text ts end → ReadsTo text us fin → (ts ≡ us) × (end ≡ fin)
+one_end text ts us end fin (ps, h, e) (qs, k, f) =
+    let same = one_reading_from Top 0 text ps qs end fin h k in
+    (sym e ∙ ap tokens_of same.0 ∙ f, same.1)
 
 -- The tokens of a text are the only ones that it reads as.
 pub one_reading : (text : List ℕ) (ts us : List Token) → ReadsAs text ts → ReadsAs text us → ts ≡ us
 one_reading text ts us h k = (one_end text ts us None None h k).0
 
 -- A text that reads to its end has no bad place.
-pub reads_well : (text : List ℕ) (ts : List Token) (place : ℕ) → ReadsAs text ts → HasBadPlace text place → ⊥
-reads_well text ts place h (us, k) = let clash : None ≡ Some place = (one_end text ts us None (Some place) h k).1 in absurd (cc)
+pub reads_well : (text : List ℕ) (ts : List Token) (fault : Fault) (place : ℕ) → ReadsAs text ts → HasBadPlace text fault place → ⊥
+reads_well text ts fault place h (us, k) = let clash = (one_end text ts us None (Some (fault, place)) h k).1 in absurd (cc)
 
--- The first bad place of a text is the only one.
-pub one_bad_place : (text : List ℕ) (place other : ℕ) → HasBadPlace text place → HasBadPlace text other → place ≡ other
-one_bad_place text place other (ts, h) (us, k) =
-    let same : Some place ≡ Some other = (one_end text ts us (Some place) (Some other) h k).1 in cc
+-- The first bad place of a text is the only one, and bad for one reason.
+pub one_bad_place : (text : List ℕ) (fault other : Fault) (place there : ℕ) → HasBadPlace text fault place → HasBadPlace text other there
+    → (fault ≡ other) × (place ≡ there)
+one_bad_place text fault other place there (ts, h) (us, k) =
+    let same = (one_end text ts us (Some (fault, place)) (Some (other, there)) h k).1 in
+    let pair : (fault, place) ≡ (other, there) = cc in
+    (ap (λ (x : Fault × ℕ). x.0) pair, ap (λ (x : Fault × ℕ). x.1) pair)
+
+-- Where a text reads to its end, the only error is want of memory.
+pub well_read : (text : List ℕ) (ts : List Token) (error : LexError) → ReadsAs text ts → Tells text error → error ≡ NoMemory
+well_read text ts (BadByte place) reads bad = absurd (reads_well text ts NoLexeme place reads bad)
+well_read text ts (OpenString place) reads bad = absurd (reads_well text ts OpenQuote place reads bad)
+well_read text ts (WideInteger place) reads bad = absurd (reads_well text ts TooWide place reads bad)
+well_read text ts NoMemory reads bad = refl

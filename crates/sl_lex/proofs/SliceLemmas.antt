@@ -1,15 +1,17 @@
--- The tokens of a text are slices of it.
-use Rattle.std.proofs.Common.{◌≡◌, ℕ, ◌+◌, ◌<◌, List, [], ◌∷◌, ◌++◌, length, take, drop, All, Option, None, arith, refl, ap, sym, ◌∙◌, subst, length-append}
+-- The tokens of a text are slices of it, in its order.
+use Rattle.std.proofs.Common.{◌≡◌, ℕ, ◌+◌, ◌<◌, ◌≤◌, List, [], ◌∷◌, ◌++◌, length, take, drop, All, Option, None, Some, arith, refl, ap, sym, ◌∙◌, subst, length-append}
 use Rattle.std.proofs.lemmas.List.{drop-drop}
 use Rattle.std.proofs.lemmas.List.Elements.{All-nil, All-cons, All-head, All-tail, All-weaker}
 use Rattle.std.proofs.Math.Seq.{drop-append_seam, take-append_seam}
-use Rattle.sl_lex.specs.Lexemes.{Mode}
-use Rattle.sl_lex.specs.Lexemes.Mode.{Top}
-use Rattle.sl_lex.specs.Reading.{Token, Reads, IsTokenAt, next_mode, ReadsAs}
+use Rattle.sl_lex.specs.Faults.{Fault}
 use Rattle.sl_lex.specs.Laws.{IsSliceOf, LieInOrder}
+use Rattle.sl_lex.specs.Reading.{Token, Piece, Reads, ReadsTo, ReadsAs, IsPieceAt, mode_after, kept, tokens_of}
 use Rattle.sl_lex.specs.Views.{view, views}
 use Rattle.sl_lex.specs.declared.Tok.{Tok}
-use Rattle.sl_lex.proofs.OneLexeme.{lexeme_some}
+use Rattle.sl_lex.specs.declared.TokKind.{TokKind}
+use Rattle.sl_lex.specs.declared.mode.Mode.{Mode}
+use Rattle.sl_lex.specs.declared.mode.Mode.TheVariants.{Top}
+use Rattle.sl_lex.proofs.ReadingLemmas.{lexeme_some}
 
 -- The text from a place on, and what it is in the whole text.
 record IsRestAt (whole : List ℕ) (from : ℕ) (text : List ℕ) : Type 0 where
@@ -23,30 +25,48 @@ rest_on whole from text front after h e = record {
       omega (arith, h.ends);
 }
 
-slice_here : (whole : List ℕ) (mode : Mode) (from : ℕ) (text : List ℕ) (t : Token) (rest : List ℕ) → IsRestAt whole from text → IsTokenAt mode from text t rest
-    → IsSliceOf whole t
-slice_here whole mode from text t rest h tok =
-    let lengths : length text ≡ length t.text + length rest = ap length tok.split ∙ length-append t.text rest in
+-- The bytes of a piece, as a token of some kind would have them.
+record IsSlice (whole : List ℕ) (from : ℕ) (bytes : List ℕ) : Type 0 where
+  some : 0 < length bytes
+  within : from + length bytes ≤ length whole
+  bytes_there : take (length bytes) (drop from whole) ≡ bytes
+
+piece_slice : (whole : List ℕ) (mode : Mode) (from : ℕ) (text : List ℕ) (p : Piece) (rest : List ℕ) → IsRestAt whole from text → IsPieceAt mode from text p rest
+    → IsSlice whole p.from p.text
+piece_slice whole mode from text p rest h here =
+    let lengths : length text ≡ length p.text + length rest = ap length here.split ∙ length-append p.text rest in
     record {
-      some = lexeme_some mode t.kind t.text rest tok.lexeme;
-      within = omega (arith, tok.place, h.ends);
-      bytes = ap (λ (n : ℕ). take (length t.text) (drop n whole)) tok.place
-          ∙ ap (take (length t.text)) (h.bytes ∙ tok.split) ∙ take-append_seam t.text rest;
+      some = lexeme_some mode p.kind p.text rest here.longest.lexeme;
+      within = omega (arith, here.place, h.ends);
+      bytes_there = ap (λ (n : ℕ). take (length p.text) (drop n whole)) here.place
+          ∙ ap (take (length p.text)) (h.bytes ∙ here.split) ∙ take-append_seam p.text rest;
     }
 
-slices_from : (whole : List ℕ) (mode : Mode) (from : ℕ) (text : List ℕ) (ts : List Token) (end : Option ℕ) → IsRestAt whole from text → Reads mode from text ts end
-    → All (IsSliceOf whole) ts × LieInOrder from ts
-slices_from whole mode from text [] end h reads = (All-nil (IsSliceOf whole), tt)
-slices_from whole mode from text (t ∷ ts) end h (gap, after, rest, skips, tok, later) =
-    let here = rest_on whole from text gap after h skips.0 in
-    let next = rest_on whole (from + length gap) after t.text rest here tok.split in
-    let more = slices_from whole (next_mode mode t) (from + length gap + length t.text) rest ts end next later in (
-      All-cons (IsSliceOf whole) t ts (slice_here whole mode (from + length gap) after t rest here tok) more.0,
-      (omega (arith, tok.place), subst (λ (n : ℕ). LieInOrder (n + length t.text) ts) (sym tok.place) more.1),
+earlier : (a b : ℕ) (ts : List Token) → a ≤ b → LieInOrder b ts → LieInOrder a ts
+earlier a b [] less h = tt
+earlier a b (t ∷ ts) less h = (omega (arith, h.0), h.1)
+
+slices_kept : (whole : List ℕ) (from : ℕ) (kind : Option TokKind) (p : Piece) (ts : List Token) → IsSlice whole p.from p.text → p.from ≡ from
+    → All (IsSliceOf whole) ts × LieInOrder (from + length p.text) ts → All (IsSliceOf whole) (kept kind p ts) × LieInOrder from (kept kind p ts)
+slices_kept whole from None p ts slice place more = (more.0, earlier from (from + length p.text) ts (omega arith) more.1)
+slices_kept whole from (Some kind) p ts slice place more =
+    let token : Token = record { kind = kind; text = p.text; from = p.from } in (
+      All-cons (IsSliceOf whole) token ts (record { some = slice.some; within = slice.within; bytes = slice.bytes_there }) more.0,
+      (omega arith, earlier (p.from + length p.text) (from + length p.text) ts (omega arith) more.1),
     )
 
-pub slices : (text : List ℕ) (ts : List Token) (end : Option ℕ) → Reads Top 0 text ts end → All (IsSliceOf text) ts × LieInOrder 0 ts
-slices text ts end reads = slices_from text Top 0 text ts end (record { bytes = refl; ends = omega arith }) reads
+slices_from : (whole : List ℕ) (mode : Mode) (from : ℕ) (text : List ℕ) (ps : List Piece) (end : Option (Fault × ℕ)) → IsRestAt whole from text → Reads mode from text ps end
+    → All (IsSliceOf whole) (tokens_of ps) × LieInOrder from (tokens_of ps)
+slices_from whole mode from text [] end h reads = (All-nil (IsSliceOf whole), tt)
+slices_from whole mode from text (p ∷ ps) end h (rest, here, later) =
+    let next = rest_on whole from text p.text rest h here.split in
+    slices_kept whole from p.kind p (tokens_of ps) (piece_slice whole mode from text p rest h here) here.place
+    (slices_from whole (mode_after mode p.kind p.text) (from + length p.text) rest ps end next later)
+
+pub slices : (text : List ℕ) (ts : List Token) (end : Option (Fault × ℕ)) → ReadsTo text ts end → All (IsSliceOf text) ts × LieInOrder 0 ts
+slices text ts end (ps, reads, e) =
+    let all = slices_from text Top 0 text ps end (record { bytes = refl; ends = omega arith }) reads in
+    subst (λ (us : List Token). All (IsSliceOf text) us × LieInOrder 0 us) e all
 
 -- Each token begins before the text's end.
 pub begins_within : (text : List ℕ) (ts : List Token) → ReadsAs text ts → All (λ t. t.from < length text) ts

@@ -1,10 +1,12 @@
-use Rattle.std.specs.Prelude.{◌≡◌, ℕ, ◌+◌, ◌<◌, ◌≤◌, List, [], ◌∷◌, length, take, drop, All, Option}
-use Rattle.sl_lex.specs.Lexemes.Mode.{Top}
-use Rattle.sl_lex.specs.Reading.{Token, Reads}
+use Rattle.std.specs.Prelude.{◌≡◌, ℕ, ◌+◌, ◌<◌, ◌≤◌, List, [], ◌∷◌, length, take, drop, All, Option, Some}
+use Rattle.sl_lex.specs.Faults.{Fault}
+use Rattle.sl_lex.specs.Lexemes.{IsLongest}
+use Rattle.sl_lex.specs.Reading.{Token, ReadsTo, Fits}
+use Rattle.sl_lex.specs.declared.mode.Mode.{Mode}
 
 -- A text reads in one way alone: it has one list of tokens, and one end.
 abbrev pub HasOneReading : Type 0
-HasOneReading = (text : List ℕ) (ts us : List Token) (end fin : Option ℕ) → Reads Top 0 text ts end → Reads Top 0 text us fin
+HasOneReading = (text : List ℕ) (ts us : List Token) (end fin : Option (Fault × ℕ)) → ReadsTo text ts end → ReadsTo text us fin
     → (ts ≡ us) × (end ≡ fin)
 
 -- The token's bytes, of which there are some, are those of the text at the token's place.
@@ -20,4 +22,12 @@ LieInOrder place (t ∷ ts) = (place ≤ t.from) × LieInOrder (t.from + length 
 
 -- The tokens of a text are slices of it, in the text's order, and do not overlap.
 abbrev pub TokensAreSlices : Type 0
-TokensAreSlices = (text : List ℕ) (ts : List Token) (end : Option ℕ) → Reads Top 0 text ts end → All (IsSliceOf text) ts × LieInOrder 0 ts
+TokensAreSlices = (text : List ℕ) (ts : List Token) (end : Option (Fault × ℕ)) → ReadsTo text ts end → All (IsSliceOf text) ts × LieInOrder 0 ts
+
+-- The token is the longest lexeme of its kind in some mode, before what follows it; an integer fits 64 bits.
+abbrev pub IsSomeLexeme : Token → Type 0
+IsSomeLexeme t = (mode : Mode) × (rest : List ℕ) × IsLongest mode (Some t.kind) t.text rest × Fits (Some t.kind)
+
+-- Each token of a text has the bytes of its kind.
+abbrev pub TokensAreLexemes : Type 0
+TokensAreLexemes = (text : List ℕ) (ts : List Token) (end : Option (Fault × ℕ)) → ReadsTo text ts end → All IsSomeLexeme ts

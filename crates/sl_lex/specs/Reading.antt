@@ -1,7 +1,11 @@
-use Rattle.std.specs.Prelude.{◌≡◌, ℕ, ◌+◌, ◌<◌, List, [], ◌∷◌, ◌++◌, length, Option, Some, None}
-use Rattle.sl_lex.specs.Lexemes.{Mode, IsLexeme, HasNoLexeme, IsGap}
-use Rattle.sl_lex.specs.Lexemes.Mode.{Top}
+use Rattle.std.specs.Prelude.{◌≡◌, ℕ, ◌+◌, ◌<◌, ◌^◌, List, [], ◌∷◌, ◌++◌, length, Option, Some, None}
+use Rattle.sl_lex.specs.Faults.{Fault, IsFault}
+use Rattle.sl_lex.specs.Lexemes.{IsLongest}
+use Rattle.sl_lex.specs.Modes.{next_mode}
+use Rattle.sl_lex.specs.declared.mode.Mode.{Mode}
+use Rattle.sl_lex.specs.declared.mode.Mode.TheVariants.{Top}
 use Rattle.sl_lex.specs.declared.TokKind.{TokKind}
+use Rattle.sl_lex.specs.declared.TokKind.TheVariants.{Word, Integer, Text, Mark, Blank, Caret, Char}
 
 -- A token: its kind, its bytes, and the place in the text where they begin.
 pub record Token : Type 0 where
@@ -9,36 +13,60 @@ pub record Token : Type 0 where
   pub text : List ℕ
   pub from : ℕ
 
--- The mode in which the text goes on after a token.
-abbrev pub next_mode : Mode → Token → Mode
-next_mode Top t = Top
+-- A piece of a text: a lexeme with its kind, or blanks or a comment, which have none.
+pub record Piece : Type 0 where
+  pub kind : Option TokKind
+  pub text : List ℕ
+  pub from : ℕ
 
--- A gap stands at the front, and the rest follows it.
-abbrev pub SkipsTo : Mode → List ℕ → List ℕ → List ℕ → Type 0
-SkipsTo mode text gap rest = (text ≡ gap ++ rest) × IsGap mode gap rest
+-- A piece of this kind before some tokens is a token more, unless it has no kind.
+abbrev pub kept : Option TokKind → Piece → List Token → List Token
+kept None p ts = ts
+kept (Some kind) p ts = record { kind = kind; text = p.text; from = p.from } ∷ ts
 
--- The token stands at the front, which is at this place of the whole text, and the rest follows it.
-pub record IsTokenAt (mode : Mode) (from : ℕ) (text : List ℕ) (t : Token) (rest : List ℕ) : Type 0 where
-  pub split : text ≡ t.text ++ rest
-  pub lexeme : IsLexeme mode t.kind t.text rest
-  pub place : t.from ≡ from
+-- the tokens among the pieces
+abbrev pub tokens_of : List Piece → List Token
+tokens_of [] = []
+tokens_of (p ∷ ps) = kept p.kind p (tokens_of ps)
 
--- The text, from this place on and in this mode, is these tokens with gaps before and after each, up to
--- its end, or up to the first bad place: where something stands that no lexeme begins.
-abbrev pub Reads : Mode → ℕ → List ℕ → List Token → Option ℕ → Type 0
-Reads mode from text [] None = IsGap mode text []
-Reads mode from text [] (Some bad) = (gap rest : List ℕ) × SkipsTo mode text gap rest × (0 < length rest) × HasNoLexeme mode rest
-    × (bad ≡ from + length gap)
-Reads mode from text (t ∷ ts) end = (gap after rest : List ℕ) × SkipsTo mode text gap after × IsTokenAt mode (from + length gap) after t rest
-    × Reads (next_mode mode t) (from + length gap + length t.text) rest ts end
+-- the mode in which a text goes on after a piece of this kind with these bytes
+abbrev pub mode_after : Mode → Option TokKind → List ℕ → Mode
+mode_after mode None text = mode
+mode_after mode (Some kind) text = next_mode mode text
+
+-- An integer has at most 64 bits.
+abbrev pub Fits : Option TokKind → Type 0
+Fits (Some (Integer value)) = value < 2 ^ 64
+Fits (Some Word) = Unit {0}
+Fits (Some Text) = Unit {0}
+Fits (Some Mark) = Unit {0}
+Fits (Some Blank) = Unit {0}
+Fits (Some Caret) = Unit {0}
+Fits (Some Char) = Unit {0}
+Fits None = Unit {0}
+
+-- The piece stands at the front, which is at this place of the whole text, and the rest follows it.
+pub record IsPieceAt (mode : Mode) (from : ℕ) (text : List ℕ) (p : Piece) (rest : List ℕ) : Type 0 where
+  pub split : text ≡ p.text ++ rest
+  pub longest : IsLongest mode p.kind p.text rest
+  pub fits : Fits p.kind
+  pub place : p.from ≡ from
+
+-- The text, from this place on and in this mode, is these pieces one behind the other, up to its end, or up to
+-- the first bad place.
+abbrev pub Reads : Mode → ℕ → List ℕ → List Piece → Option (Fault × ℕ) → Type 0
+Reads mode from text [] None = text ≡ []
+Reads mode from text [] (Some bad) = (ahead : ℕ) × IsFault mode bad.0 ahead text × (bad.1 ≡ from + ahead)
+Reads mode from text (p ∷ ps) end = (rest : List ℕ) × IsPieceAt mode from text p rest × Reads (mode_after mode p.kind p.text) (from + length p.text) rest ps end
+
+-- The whole text reads as these tokens with blanks and comments among them, up to this end.
+abbrev pub ReadsTo : List ℕ → List Token → Option (Fault × ℕ) → Type 0
+ReadsTo text tokens end = (pieces : List Piece) × Reads Top 0 text pieces end × (tokens_of pieces ≡ tokens)
 
 -- The whole text reads as these tokens, to its end.
 abbrev pub ReadsAs : List ℕ → List Token → Type 0
-ReadsAs text tokens = Reads Top 0 text tokens None
+ReadsAs text tokens = ReadsTo text tokens None
 
--- The text reads as some tokens up to its first bad place, which is this one.
-abbrev pub HasBadPlace : List ℕ → ℕ → Type 0
-HasBadPlace text place = (tokens : List Token) × Reads Top 0 text tokens (Some place)
-
-abbrev pub ReadsBadly : List ℕ → Type 0
-ReadsBadly text = (place : ℕ) × HasBadPlace text place
+-- The text reads as some tokens up to its first bad place, which is this one, and bad for this reason.
+abbrev pub HasBadPlace : List ℕ → Fault → ℕ → Type 0
+HasBadPlace text fault place = (tokens : List Token) × ReadsTo text tokens (Some (fault, place))

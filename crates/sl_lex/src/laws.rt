@@ -1,6 +1,6 @@
 //! Laws of the definitions.
 
-ghost use Rattle.sl_lex.specs.Laws.{HasOneReading, TokensAreSlices};
+ghost use Rattle.sl_lex.specs.Laws.{HasOneReading, TokensAreSlices, TokensAreLexemes};
 
 /// A text has one list of tokens up to its end, or one up to one first bad place, and never both.
 pub fn one_reading()
@@ -10,4 +10,9 @@ pub fn one_reading()
 /// The tokens are slices of the text at their places, in the text's order, and none overlap.
 pub fn tokens_are_slices()
     ensures { TokensAreSlices }
+{}
+
+/// Each token has the bytes of its kind.
+pub fn tokens_are_lexemes()
+    ensures { TokensAreLexemes }
 {}

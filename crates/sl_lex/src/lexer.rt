@@ -1,94 +1,106 @@
 //! The lexer.
 
-ghost use Rattle.std.specs.Prelude.{◌≡◌, ◌+◌, ◌<◌, ◌≤◌, ℕ, List, IfSome, IfNone, IfOk, length, take, drop};
-ghost use Rattle.std.specs.Result.{IsErrOf};
-ghost use Rattle.sl_lex.specs.Lexemes.{IsInteger, IsLexeme, HasNoLexeme};
-ghost use Rattle.sl_lex.specs.Lexemes.Mode.{Top};
-ghost use Rattle.sl_lex.specs.Reading.{SkipsTo, IsTokenAt, ReadsAs, ReadsBadly};
-ghost use Rattle.sl_lex.specs.Views.{view, views};
+ghost use Rattle.std.specs.Prelude.{◌≡◌, ◌+◌, ◌<◌, ◌^◌, IfOk, IfErr, length, ℕ};
+ghost use Rattle.sl_lex.specs.Errors.{Tells};
+ghost use Rattle.sl_lex.specs.Faults.{is_at_line_end};
+ghost use Rattle.sl_lex.specs.Found.{Blames, Steps, BlamesWhereNothing};
+ghost use Rattle.sl_lex.specs.Reading.{ReadsAs};
+ghost use Rattle.sl_lex.specs.Views.{views};
 
-use crate::bytes::{are_digits, count_blanks, count_word_bytes, decimal_value, is_letter, is_mark};
-use crate::{LexError, Tok, TokKind};
+use crate::bytes::count_text_bytes;
+use crate::lexemes::{Found, lexeme};
+use crate::mode::{Mode, next_mode};
+use crate::{LexError, Tok};
 use std::alloc::Global;
 
-/// The number that the run spells, if it is an integer.
-fn integer(run: &[u8]) -> Option<u64>
-    requires { 0 < length run.now }
-    ensures found { IfSome result (λ n. IsInteger n run.now) }
-    ensures none { IfNone result ((n : ℕ) → IsInteger n run.now → ⊥) }
+/// A piece of a text that was read: its token, unless it is dropped, the mode that it leads to, and what
+/// comes after it.
+#[derive(Clone, Copy)]
+struct Step<'a> {
+    token: Option<Tok<'a>>,
+    mode: Mode,
+    rest: &'a [u8],
+}
+
+fn is_at_line_end(text: &[u8]) -> bool
+    ensures { result ≡ is_at_line_end text.now }
 {
-    if are_digits(run) {
-        decimal_value(run)
+    matches!(text, [] | [b'\n', ..])
+}
+
+/// Why the text does not go on here, where no lexeme stands at its front.
+fn fault(from: usize, text: &[u8]) -> LexError
+    requires some { 0 < length text.now }
+    requires fits { from + length text.now < 2 ^ 64 }
+    ensures { BlamesWhereNothing from text.now result }
+{
+    if text[0] != b'"' {
+        return LexError::BadByte(from);
+    }
+    let (_, inside) = text.split_at(1);
+    let count = count_text_bytes(inside);
+    let (_, rest) = inside.split_at(count);
+    if is_at_line_end(rest) {
+        LexError::OpenString(from)
     } else {
-        None
+        LexError::BadByte(from + 1 + count)
     }
 }
 
-/// The kind of the lexeme at the front and its length in bytes, if one stands there.
-fn lexeme(text: &[u8]) -> Option<(TokKind, usize)>
-    requires { 0 < length text.now }
-    ensures within { IfSome result (λ r. (0 < r.1) × (r.1 ≤ length text.now)) }
-    ensures found { IfSome result (λ r. IsLexeme Top r.0 (take r.1 text.now) (drop r.1 text.now)) }
-    ensures none { IfNone result (HasNoLexeme Top text.now) }
+/// The piece at the front of a text, which is at this place of the whole text.
+fn piece_at<'a>(mode: Mode, from: usize, text: &'a [u8]) -> Result<Step<'a>, LexError>
+    requires some { 0 < length text.now }
+    requires fits { from + length text.now < 2 ^ 64 }
+    ensures found { IfOk result (λ s. Steps mode from text.now s) }
+    ensures fault { IfErr result (λ e. Blames mode from text.now e) }
 {
-    if is_mark(text[0]) {
-        return Some((TokKind::Mark, 1));
+    match lexeme(mode, text) {
+        Found::Gap(count) => {
+            let (_, rest) = text.split_at(count);
+            Ok(Step {
+                token: None,
+                mode,
+                rest,
+            })
+        }
+        Found::Token(kind, count) => {
+            let (bytes, rest) = text.split_at(count);
+            let token = Tok {
+                kind,
+                text: bytes,
+                from,
+            };
+            Ok(Step {
+                token: Some(token),
+                mode: next_mode(mode, bytes),
+                rest,
+            })
+        }
+        Found::TooWide => Err(LexError::WideInteger(from)),
+        Found::Nothing => Err(fault(from, text)),
     }
-    let count = count_word_bytes(text);
-    if count == 0 {
-        return None;
-    }
-    if is_letter(text[0]) {
-        return Some((TokKind::Word, count));
-    }
-    let number = integer(&text[..count])?;
-    Some((TokKind::Integer(number), count))
 }
 
-/// The blanks at the front, and what comes after them.
-fn skip_blanks(text: &[u8]) -> (&[u8], &[u8])
-    ensures skips { SkipsTo Top text.now result.0.now result.1.now }
-    ensures length { length result.0.now + length result.1.now ≡ length text.now }
-{
-    text.split_at(count_blanks(text))
-}
-
-/// The token at the front, which is at this place of the whole text, and what comes after it.
-fn token<'a>(from: usize, text: &'a [u8]) -> Option<(Tok<'a>, &'a [u8])>
-    requires { 0 < length text.now }
-    ensures found { IfSome result (λ r. IsTokenAt Top from text.now (view r.0) r.1.now) }
-    ensures length { IfSome result (λ r. (0 < length r.0.text.now)
-        × (length r.0.text.now + length r.1.now ≡ length text.now)) }
-    ensures none { IfNone result (HasNoLexeme Top text.now) }
-{
-    let (kind, count) = lexeme(text)?;
-    let (text, after) = text.split_at(count);
-    Some((Tok { kind, text, from }, after))
-}
-
-/// The tokens of a specification's text, in its order. `NotYet` comes where the text has a first bad place:
-/// a byte that begins no token, digits that a letter or `_` follows, or an integer above 2^64 - 1.
-/// `NoMemory` comes where the list of tokens cannot grow.
+/// The tokens of a specification's text, in its order. An error names the first place where the text can't
+/// go on, or says that the list of tokens could not grow.
 pub fn lex<'a>(alloc: Global, text: &'a [u8]) -> Result<Vec<Tok<'a>>, LexError>
     ensures tokens { IfOk result (λ toks. ReadsAs text.now (views toks.items)) }
-    ensures not_yet { IsErrOf result LexError.NotYet → ReadsBadly text.now }
+    ensures fault { IfErr result (λ e. Tells text.now e) }
 {
     let mut toks = Vec::new(alloc);
+    let mut mode = Mode::Top;
     let mut from = 0;
     let mut rest = text;
-    'tokens: loop {
-        let (gap, after) = skip_blanks(rest);
-        from += gap.len();
-        if after.is_empty() {
-            return Ok(toks);
+    'pieces: while !rest.is_empty() {
+        let piece = piece_at(mode, from, rest)?;
+        if let Some(tok) = piece.token {
+            if toks.push(tok).is_err() {
+                return Err(LexError::NoMemory);
+            }
         }
-        let Some((tok, next)) = token(from, after) else {
-            return Err(LexError::NotYet);
-        };
-        if toks.push(tok).is_err() {
-            return Err(LexError::NoMemory);
-        }
-        from += tok.text.len();
-        rest = next;
+        from += rest.len() - piece.rest.len();
+        mode = piece.mode;
+        rest = piece.rest;
     }
+    Ok(toks)
 }
