@@ -1,0 +1,5 @@
+//! The parser: from symbols to trees.
+#![tactic(auto)]
+
+pub mod stop;
+pub mod symbols;
