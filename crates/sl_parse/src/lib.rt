@@ -1,5 +1,6 @@
 //! The parser: from symbols to trees.
 #![tactic(auto)]
 
+pub mod operators;
 pub mod stop;
 pub mod symbols;

@@ -1,5 +1,5 @@
 -- The symbols of the program as those of the definitions.
-use Rattle.std.specs.Prelude.{◌≡◌, List, map, Some}
+use Rattle.std.specs.Prelude.{◌≡◌, Some}
 use Rattle.sl_ast.specs.Symbols.{keyword_of, plain, quoted, Sym, number, word, text, mark, blank, caret, char}
 use Rattle.sl_symbols.specs.declared.Symbol.{Symbol}
 use Rattle.sl_symbols.specs.declared.Symbol.TheVariants as s
