@@ -1,6 +1,7 @@
 //! The parser: from symbols to trees.
 #![tactic(auto)]
 
+pub mod atoms;
 pub mod operators;
 pub mod stop;
 pub mod symbols;

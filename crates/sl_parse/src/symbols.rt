@@ -1,6 +1,7 @@
 //! What is left of the symbols.
 
 ghost use Rattle.std.specs.Prelude.{◌≡◌, option_map};
+ghost use Rattle.sl_ast.specs.Views.{bytes};
 ghost use Rattle.sl_grammar.specs.Reader as spec;
 ghost use Rattle.sl_parse.specs.Reads.{Reads, Plain, IsFault, syms_of};
 ghost use Rattle.sl_symbols.specs.Views.{sym_of};
@@ -142,5 +143,63 @@ impl<'a> Symbols<'a> {
             }
             _ => Err(self.refuse()),
         }
+    }
+
+    /// The limit of nesting is passed here.
+    pub fn too_deep(&self) -> Stop
+        ensures { IsFault (spec.fault spec.Form.nesting (spec.left self.now)) result }
+    {
+        Stop::At(Form::Nesting, self.left.len())
+    }
+
+    #[tactic(auto, unfolding(sl_grammar::specs::Reader::name_here))]
+    pub fn name(&mut self) -> Result<&'a [u8], Stop>
+        ensures { Reads bytes (spec.name_here self.old) result self.new }
+    {
+        match self.peek() {
+            Some(Symbol::Name(text)) => {
+                self.skip();
+                Ok(text)
+            }
+            _ => Err(self.refuse()),
+        }
+    }
+
+    /// A size in bytes.
+    #[tactic(auto, unfolding(sl_grammar::specs::Reader::size_here))]
+    pub fn size(&mut self) -> Result<u64, Stop>
+        ensures { Reads Plain (spec.size_here self.old) result self.new }
+    {
+        match self.peek() {
+            Some(Symbol::Number(number)) => {
+                if number > 16 {
+                    return Err(self.unsupported(Feature::WideValue));
+                }
+                self.skip();
+                Ok(number)
+            }
+            _ => Err(self.refuse()),
+        }
+    }
+
+    /// `:n`, which may lack.
+    #[tactic(auto, unfolding(sl_grammar::specs::Reader::size_option))]
+    pub fn size_option(&mut self) -> Result<Option<u64>, Stop>
+        ensures { Reads Plain (spec.size_option self.old) result self.new }
+    {
+        if self.is_mark(Mark::Colon) {
+            self.skip();
+            let size = self.size()?;
+            Ok(Some(size))
+        } else {
+            Ok(None)
+        }
+    }
+
+    /// How many more operators and brackets the outermost expression may have.
+    pub fn room(&self) -> usize
+        ensures { result ≡ self.now.room }
+    {
+        self.room
     }
 }
