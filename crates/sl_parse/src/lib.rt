@@ -3,5 +3,6 @@
 
 pub mod atoms;
 pub mod operators;
+pub mod shapes;
 pub mod stop;
 pub mod symbols;
