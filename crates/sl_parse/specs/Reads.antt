@@ -1,5 +1,9 @@
 -- What a reading function ensures: the outcome of the reader of the definitions, unless memory fails.
-use Rattle.std.specs.Prelude.{◌≡◌, ℕ, List, map, Result, Ok, Err}
+use Rattle.std.specs.Prelude.{◌≡◌, ℕ, List, map, Result, Ok, Err, Vec}
+use Rattle.std.specs.declared.alloc.Global.{Global}
+use Rattle.sl_ast.specs.Trees.{Expression}
+use Rattle.sl_ast.specs.Views.{expressions_of}
+use Rattle.sl_ast.specs.declared.expressions.Expr.{Expr}
 use Rattle.sl_ast.specs.Symbols.{Sym}
 use Rattle.sl_grammar.specs.Reader as spec
 use Rattle.sl_grammar.specs.Reader.{Outcome, Input, Fault, fault}
@@ -35,3 +39,7 @@ Stops outcome (sv.At form n) = outcome ≡ Err (fault (form_of form) n)
 abbrev pub Reads : {A B : Type 0} → (B → A) → Outcome A → Result B s.Stop → Input → Type 0
 Reads view outcome (Ok b) new = outcome ≡ Ok (view b, new)
 Reads view outcome (Err e) new = Stops outcome e
+
+-- a list of expressions
+abbrev pub vec_expressions : Vec Expr Global → List Expression
+vec_expressions es = expressions_of es.items

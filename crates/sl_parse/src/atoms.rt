@@ -1,13 +1,15 @@
 //! What stands behind an atom of an expression.
 
 ghost use Rattle.sl_ast.specs.Views.{bytes, expression_of};
-ghost use Rattle.std.specs.Prelude.{option_map};
+ghost use Rattle.std.specs.Prelude.{◌≡◌, ◌&&◌, option_map};
 ghost use Rattle.sl_grammar.specs.Expressions as reader;
 ghost use Rattle.sl_grammar.specs.Expressions.{expression};
+ghost use Rattle.sl_grammar.specs.Reader.{first, is_mark};
 ghost use Rattle.sl_parse.specs.Kinds.{kind_of};
 ghost use Rattle.sl_parse.specs.Reads.{Reads};
 
 use crate::operators::Kind;
+use crate::shapes::{takes_bits, takes_drop, takes_size};
 use crate::stop::Stop;
 use crate::symbols::Symbols;
 use sl_ast::expressions::{Expr, bits, dropped, sized};
@@ -85,5 +87,34 @@ pub fn space_in<'a>(
         Ok(Some(name))
     } else {
         Ok(None)
+    }
+}
+
+/// Whether the mark comes next, and the shape allows it.
+fn is_mark_and(symbols: &Symbols, mark: Mark, allowed: bool) -> bool
+    ensures { result ≡ (is_mark mark (first symbols.now.rest) && allowed) }
+{
+    symbols.is_mark(mark) && allowed
+}
+
+/// What stands behind an atom of a section, if it may follow that atom.
+#[tactic(auto, unfolding(sl_grammar::specs::Expressions::behind))]
+pub fn behind<'a>(
+    alloc: Global,
+    symbols: &mut Symbols<'a>,
+    kind: Kind,
+    depth: usize,
+    inner: Expr<'a>,
+) -> Result<Expr<'a>, Stop>
+    ensures { Reads expression_of (reader.behind (kind_of kind) (expression (kind_of kind) depth) (expression_of inner.entry) symbols.old) result symbols.new }
+{
+    if is_mark_and(symbols, Mark::Colon, takes_size(&inner)) {
+        size_behind(alloc, symbols, kind, depth, inner)
+    } else if is_mark_and(symbols, Mark::Open, takes_drop(&inner)) {
+        drop_behind(alloc, symbols, kind, depth, inner)
+    } else if is_mark_and(symbols, Mark::OpenBracket, takes_bits(&inner)) {
+        bits_behind(alloc, symbols, kind, depth, inner)
+    } else {
+        Ok(inner)
     }
 }

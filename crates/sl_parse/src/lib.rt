@@ -2,6 +2,8 @@
 #![tactic(auto)]
 
 pub mod atoms;
+pub mod expressions;
+pub mod missing;
 pub mod operators;
 pub mod shapes;
 pub mod stop;

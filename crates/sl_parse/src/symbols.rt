@@ -1,6 +1,6 @@
 //! What is left of the symbols.
 
-ghost use Rattle.std.specs.Prelude.{◌≡◌, option_map};
+ghost use Rattle.std.specs.Prelude.{◌≡◌, option_map, suc};
 ghost use Rattle.sl_ast.specs.Views.{bytes};
 ghost use Rattle.sl_grammar.specs.Reader as spec;
 ghost use Rattle.sl_parse.specs.Reads.{Reads, Plain, IsFault, syms_of};
@@ -63,6 +63,13 @@ impl<'a> Symbols<'a> {
         ensures { IsFault (spec.fault (spec.Form.unsupported feature) (spec.left self.now)) result }
     {
         Stop::At(Form::NotSupported(feature), self.left.len())
+    }
+
+    /// A form that the language leaves out began one symbol before.
+    pub fn unsupported_before(&self, feature: Feature) -> Stop
+        ensures { IsFault (spec.fault (spec.Form.unsupported feature) (suc (spec.left self.now))) result }
+    {
+        Stop::At(Form::NotSupported(feature), self.left.len() + 1)
     }
 
     /// No tree goes on with the symbol that comes next.
