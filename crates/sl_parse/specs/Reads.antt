@@ -1,5 +1,5 @@
 -- What a reading function ensures: the outcome of the reader of the definitions, unless memory fails.
-use Rattle.std.specs.Prelude.{◌≡◌, ℕ, List, map, Result, Ok, Err, Vec}
+use Rattle.std.specs.Prelude.{◌≡◌, List, map, Result, Ok, Err, Vec}
 use Rattle.std.specs.declared.alloc.Global.{Global}
 use Rattle.sl_ast.specs.Trees.{Expression}
 use Rattle.sl_ast.specs.Views.{expressions_of}

@@ -1,4 +1,4 @@
-use Rattle.std.proofs.Common.{◌≡◌, ◌<◌, ℕ, ◌+◌, ◌-◌, ◌*◌}
+use Rattle.std.proofs.Common.{◌≡◌, ◌+◌, ◌-◌, ◌*◌}
 use Rattle.sl_ast.specs.Operators.{loosest, right_rank}
 use Rattle.sl_ast.specs.Trees.{binary}
 use Rattle.sl_ast.specs.Views.{expression_of}
