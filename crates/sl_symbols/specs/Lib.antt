@@ -1,0 +1,4 @@
+pub mod Marks
+pub mod Rows
+pub mod Symbols
+pub mod Views

@@ -1,0 +1,20 @@
+-- The symbols of the program as those of the definitions.
+use Rattle.std.specs.Prelude.{◌≡◌, Some}
+use Rattle.sl_ast.specs.Symbols.{keyword_of, plain, quoted, Sym, number, word, text, mark, blank, caret, char}
+use Rattle.sl_symbols.specs.declared.Symbol.{Symbol}
+use Rattle.sl_symbols.specs.declared.Symbol.TheVariants as s
+
+abbrev pub sym_of : Symbol → Sym
+sym_of (s.Number n) = number n
+sym_of (s.Name w) = word (plain w.now)
+sym_of (s.Quoted keyword w) = word (quoted keyword)
+sym_of (s.Text t) = text t.now
+sym_of (s.Mark m) = mark m
+sym_of (s.Blank t) = blank t.now
+sym_of (s.Caret t) = caret t.now
+sym_of (s.Char t) = char t.now
+
+-- a keyword's bytes are those of the keyword
+abbrev pub HasItsKeyword : Symbol → Type 0
+HasItsKeyword (s.Quoted keyword w) = keyword_of w.now ≡ Some keyword
+HasItsKeyword symbol = Unit {0}
