@@ -94,11 +94,7 @@ fn word_bytes<'a>(tok: &Tok<'a>) -> Option<&'a [u8]>
         (λ text. (symbol tok.now.kind tok.now.text.now ≡ Lexeme text.now) × (is_word text.now ≡ true)) }
 {
     let bytes = lexeme_bytes(tok)?;
-    if is_word(bytes) {
-        Some(bytes)
-    } else {
-        None
-    }
+    if is_word(bytes) { Some(bytes) } else { None }
 }
 
 impl<'t, 'a> Cursor<'t, 'a> {
