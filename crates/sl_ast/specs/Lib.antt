@@ -5,3 +5,4 @@ pub mod Spelling
 pub mod Validity
 pub mod Unfolding
 pub mod Views
+pub mod Laws

@@ -80,21 +80,7 @@ pattern_weight (group p) = 1 + pattern_weight p
 pattern_weight (ellipsis p) = pattern_weight p + 1
 pattern_weight (joined op p q) = pattern_weight p + 1 + pattern_weight q
 
--- how many of them an expression or a pattern may have that stands in no other
-abbrev pub heaviest : ℕ
-heaviest = 256
-
-abbrev pub IsExpression : Kind → Expression → Type 0
-IsExpression kind e = Binds kind e × (weight e ≤ heaviest)
-
-abbrev pub IsPattern : Pattern → Type 0
-IsPattern p = PatternBinds p × (pattern_weight p ≤ heaviest)
-
-abbrev pub IsAction : Action → Type 0
-IsAction (set w e) = IsExpression in_action e
-IsAction (global_set at w) = Unit {0}
-
--- ---- statements
+-- ---- parts of statements
 
 abbrev pub IsStarForm : StarForm → Type 0
 IsStarForm form = IfWritten IsWidth form.size
@@ -103,35 +89,9 @@ IsStarForm form = IfWritten IsWidth form.size
 abbrev pub IsFirst : Name → Type 0
 IsFirst w = missing_statement w ≡ None
 
-abbrev pub IsLeft : Left → Type 0
-IsLeft (left_name w) = IsFirst w
-IsLeft (left_bits w l c) = IsFirst w
-IsLeft (left_star form e) = IsStarForm form × IsExpression in_section e
-
-abbrev pub IsDest : Dest → Type 0
-IsDest (direct to) = Unit {0}
-IsDest (computed e) = IsExpression in_section e
-
-abbrev pub IsTarget : Target → Type 0
-IsTarget (calls to) = Unit {0}
-IsTarget (calls_computed e) = IsExpression in_section e
-
 abbrev pub IsExported : Exported → Type 0
 IsExported (exports w) = Unit {0}
 IsExported (exports_star form pointer) = IsStarForm form
-
-abbrev pub IsStatement : Statement → Type 0
-IsStatement (local w size value) = IfWritten IsWidth size × IfWritten (IsExpression in_section) value
-IsStatement (declare w n e) = IsFirst w × IsWidth n × IsExpression in_section e
-IsStatement (assign left e) = IsLeft left × IsExpression in_section e
-IsStatement (goto to) = IsDest to
-IsStatement (branch e to) = IsExpression in_section e
-IsStatement (call_to to) = IsTarget to
-IsStatement (return e) = IsExpression in_section e
-IsStatement (build w) = Unit {0}
-IsStatement (export what) = IsExported what
-IsStatement (invoke w es) = IsFirst w × (missing_function w ≡ None) × Each (IsExpression in_section) es
-IsStatement (label w) = Unit {0}
 
 -- ---- definitions
 
@@ -155,7 +115,7 @@ abbrev pub IsMember : Member → Type 0
 IsMember (member_word w) = IsMemberWord w
 IsMember m = Unit {0}
 
--- ---- constructors and items
+-- ---- displays
 
 -- any word but `is`, which ends the display
 abbrev pub IsShownWord : Word → Type 0
@@ -167,39 +127,89 @@ abbrev pub IsPiece : Piece → Type 0
 IsPiece (piece_word w) = IsShownWord w
 IsPiece piece = Unit {0}
 
-abbrev pub IsSection : Section → Type 0
-IsSection (statements body) = Each IsStatement body
-IsSection unimplemented = Unit {0}
+-- ---- trees whose outermost expressions and patterns have at most so many operators and opening brackets
 
-pub record IsConstructor (c : Constructor) : Type 0 where
-  pub display : Each IsPiece c.display
-  pub pattern : IsPattern c.pattern
-  pub actions : IfWritten (Each IsAction) c.actions
-  pub section : IsSection c.section
+module _ (most : ℕ) where
+  abbrev pub IsExpression : Kind → Expression → Type 0
+  IsExpression kind e = Binds kind e × (weight e ≤ most)
 
-pub record IsHead (h : Head) : Type 0 where
-  pub pattern : IfWritten IsPattern h.pattern
-  pub actions : IfWritten (Each IsAction) h.actions
+  abbrev pub IsPattern : Pattern → Type 0
+  IsPattern p = PatternBinds p × (pattern_weight p ≤ most)
 
--- what stands in a block, with blocks inside one another at most so many times
-abbrev pub IsInside : ℕ → Inside → Type 0
-IsInside n nothing = Unit {0}
-IsInside n (constructor_then c more) = IsConstructor c × IsInside n more
-IsInside zero (block_then h inside more) = ⊥
-IsInside (suc n) (block_then h inside more) = IsHead h × IsInside n inside × IsInside (suc n) more
+  abbrev pub IsAction : Action → Type 0
+  IsAction (set w e) = IsExpression in_action e
+  IsAction (global_set at w) = Unit {0}
+
+  abbrev pub IsLeft : Left → Type 0
+  IsLeft (left_name w) = IsFirst w
+  IsLeft (left_bits w l c) = IsFirst w
+  IsLeft (left_star form e) = IsStarForm form × IsExpression in_section e
+
+  abbrev pub IsDest : Dest → Type 0
+  IsDest (direct to) = Unit {0}
+  IsDest (computed e) = IsExpression in_section e
+
+  abbrev pub IsTarget : Target → Type 0
+  IsTarget (calls to) = Unit {0}
+  IsTarget (calls_computed e) = IsExpression in_section e
+
+  abbrev pub IsStatement : Statement → Type 0
+  IsStatement (local w size value) = IfWritten IsWidth size × IfWritten (IsExpression in_section) value
+  IsStatement (declare w n e) = IsFirst w × IsWidth n × IsExpression in_section e
+  IsStatement (assign left e) = IsLeft left × IsExpression in_section e
+  IsStatement (goto to) = IsDest to
+  IsStatement (branch e to) = IsExpression in_section e
+  IsStatement (call_to to) = IsTarget to
+  IsStatement (return e) = IsExpression in_section e
+  IsStatement (build w) = Unit {0}
+  IsStatement (export what) = IsExported what
+  IsStatement (invoke w es) = IsFirst w × (missing_function w ≡ None) × Each (IsExpression in_section) es
+  IsStatement (label w) = Unit {0}
+
+  abbrev pub IsSection : Section → Type 0
+  IsSection (statements body) = Each IsStatement body
+  IsSection unimplemented = Unit {0}
+
+  pub record IsConstructor (c : Constructor) : Type 0 where
+    pub display : Each IsPiece c.display
+    pub pattern : IsPattern c.pattern
+    pub actions : IfWritten (Each IsAction) c.actions
+    pub section : IsSection c.section
+
+  pub record IsHead (h : Head) : Type 0 where
+    pub pattern : IfWritten IsPattern h.pattern
+    pub actions : IfWritten (Each IsAction) h.actions
+
+  -- what stands in a block, with blocks inside one another at most so many times
+  abbrev pub IsInside : ℕ → Inside → Type 0
+  IsInside n nothing = Unit {0}
+  IsInside n (constructor_then c more) = IsConstructor c × IsInside n more
+  IsInside zero (block_then h inside more) = ⊥
+  IsInside (suc n) (block_then h inside more) = IsHead h × IsInside n inside × IsInside (suc n) more
+
+  -- an item, with blocks inside a block at most so many times
+  abbrev pub IsItem : ℕ → Item → Type 0
+  IsItem deep (define d) = IsDefinition d
+  IsItem deep (attach_list kind names members) = Each IsMember members
+  IsItem deep (attach_one kind names member) = IsMember member
+  IsItem deep (macro d) = Each IsStatement d.body
+  IsItem deep (constructor c) = IsConstructor c
+  IsItem deep (block h inside) = IsHead h × IsInside deep inside
+
+  -- the items of a specification whose spelling has no fault within these limits
+  abbrev pub AreItemsWithin : ℕ → List Item → Type 0
+  AreItemsWithin deep items = Each (IsItem deep) items
+
+-- ---- limits
+
+-- how many of them an expression or a pattern may have that stands in no other
+abbrev pub heaviest : ℕ
+heaviest = 256
 
 -- how often blocks stand inside a block
 abbrev pub deepest : ℕ
 deepest = 15
 
-abbrev pub IsItem : Item → Type 0
-IsItem (define d) = IsDefinition d
-IsItem (attach_list kind names members) = Each IsMember members
-IsItem (attach_one kind names member) = IsMember member
-IsItem (macro d) = Each IsStatement d.body
-IsItem (constructor c) = IsConstructor c
-IsItem (block h inside) = IsHead h × IsInside deepest inside
-
 -- the items of a specification whose spelling has no fault
 abbrev pub AreItems : List Item → Type 0
-AreItems items = Each IsItem items
+AreItems items = AreItemsWithin heaviest deepest items

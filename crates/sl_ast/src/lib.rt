@@ -5,6 +5,7 @@ pub mod constructors;
 pub mod definitions;
 pub mod expressions;
 pub mod items;
+pub mod laws;
 pub mod patterns;
 pub mod statements;
 pub mod symbols;

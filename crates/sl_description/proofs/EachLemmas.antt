@@ -6,7 +6,7 @@ use Rattle.sl_description.specs.Outcomes.{◌>>=◌, Fails, each, joined, behind
 use Rattle.sl_description.specs.declared.refusal.Refusal.{Refusal}
 use Rattle.sl_description.specs.declared.refusal.Refusal.TheVariants.{NotYet, NoMemory}
 
-some_is : {X : Type 0} (x y : X) → Some x ≡ Some y → x ≡ y
+pub some_is : {X : Type 0} (x y : X) → Some x ≡ Some y → x ≡ y
 some_is x y e = cc
 
 behind-behind : {Y : Type 0} (front : List Y) (ys : List Y) (there : Option (List Y)) → behind front (there >>= λ zs. Some (ys ++ zs)) ≡ behind (front ++ ys) there

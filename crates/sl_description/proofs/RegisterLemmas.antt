@@ -60,6 +60,12 @@ read_map f [] i d below = absurd (omega arith)
 read_map f (x ∷ xs) zero d below = refl
 read_map f (x ∷ xs) (suc i) d below = read_map f xs i d (omega arith)
 
+-- what is read there, as it is seen
+pub seen_map : {A B : Type 0} (f : A → B) (xs : List A) (i : ℕ) (x : A) → i < length xs → x ≡ get_or xs i x → f x ≡ get_or (map f xs) i (f x)
+seen_map f [] i x below is = absurd (omega arith)
+seen_map f (y ∷ ys) zero x below is = ap f is
+seen_map f (y ∷ ys) (suc i) x below is = seen_map f ys i x (omega arith) is
+
 pub below_map : {A B : Type 0} (f : A → B) (xs : List A) (i : ℕ) → i < length xs → i < length (map f xs)
 below_map f xs i below = omega (arith, length-map xs f)
 

@@ -4,8 +4,8 @@ use Rattle.sl_description.specs.Description.{Description}
 use Rattle.sl_description.specs.Outcomes.{◌>>=◌}
 use Rattle.sl_description.specs.Registers.{Register, register_names, registers_of}
 use Rattle.sl_description.specs.Rules.{AreNew, IsSoundMachine, given_names, space_names}
+use Rattle.sl_description.proofs.EachLemmas.{some_is}
 use Rattle.sl_description.specs.Sections.{Resolution, Sum, resolution_of, sections_of}
-use Rattle.sl_description.proofs.Takes.{some_is}
 
 pub resolves : (d : Description) (rs : List Register) (ss : List (List Sum)) → registers_of d ≡ Some rs → sections_of rs d.constructors ≡ Some ss
     → resolution_of d ≡ Some (record { registers = rs; sections = ss })

@@ -1,12 +1,11 @@
 pub mod Words
-pub mod Symbols
-pub mod Kinds
 pub mod Description
 pub mod Outcomes
 pub mod Views
 pub mod Registers
 pub mod Sections
-pub mod Reading
+pub mod Form
+pub mod Placed
 pub mod Fields
 pub mod Rules
 pub mod Places

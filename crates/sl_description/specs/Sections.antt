@@ -1,7 +1,7 @@
 -- Sections with their names resolved to registers.
-use Rattle.std.specs.Prelude.{ℕ, nat_le, ◌==◌, List, length, Option, Some, None, if◌then◌else◌}
+use Rattle.std.specs.Prelude.{ℕ, ◌*◌, nat_le, ◌==◌, List, length, Option, Some, None, if◌then◌else◌}
 use Rattle.std.specs.Option.{option_map}
-use Rattle.sl_description.specs.Description.{Addend, Register, Integer, Addition, Constructor, Description, spell_section}
+use Rattle.sl_description.specs.Description.{Addend, Register, Integer, Addition, Constructor, Description}
 use Rattle.sl_description.specs.Outcomes.{◌>>=◌, each}
 use Rattle.sl_description.specs.Registers as laid
 use Rattle.sl_description.specs.Registers.{Storage, register_named, registers_of}
@@ -51,9 +51,13 @@ sum_of rs a = do
 abbrev pub most_tokens : ℕ
 most_tokens = 65536
 
+-- the tokens of a section, where a statement `TARGET = FIRST + SECOND;` has six
+abbrev pub tokens_of : List Addition → ℕ
+tokens_of additions = 6 * length additions
+
 -- the statements of a section, where it isn't too heavy
 unfoldable pub section_of : List laid.Register → List Addition → Option (List Sum)
-section_of rs additions = if nat_le (length (spell_section additions)) most_tokens then each (sum_of rs) additions else None
+section_of rs additions = if nat_le (tokens_of additions) most_tokens then each (sum_of rs) additions else None
 
 -- the sections of constructors
 abbrev pub sections_of : List laid.Register → List Constructor → Option (List (List Sum))

@@ -2,7 +2,7 @@
 
 ghost use Rattle.sl_description.specs.Laws.{HasOneDescription};
 
-/// Tokens spell at most one description, and so describe at most one.
+/// Symbols spell at most one tree, and so describe at most one thing.
 pub fn one_description()
     ensures { HasOneDescription }
 {}

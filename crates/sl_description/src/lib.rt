@@ -1,14 +1,14 @@
-//! What a specification's text describes: it is read from its tokens and judged by the rules, and each
-//! constructor becomes the cube of the points that it matches.
+//! What a specification's tree describes: its form is read off the tree, it is judged by the rules, and
+//! each constructor becomes the cube of the points that it matches.
 #![tactic(auto)]
 
 mod compiler;
-mod cursor;
 mod description;
 mod fields;
+mod form;
 pub mod laws;
+mod machine;
 mod places;
-mod reading;
 mod refusal;
 mod registers;
 mod resolution;

@@ -96,120 +96,22 @@ goes_on (export x) rest = refl
 goes_on (invoke w es) rest = refl
 goes_on (label w) rest = refl
 
-statements_rule : Rule (spell_all spell_statement) (Each IsStatement) (Ends (until m.CloseBrace) Any) (many (until m.CloseBrace) statement)
-statements_rule = many_rule spell_statement IsStatement Any (until m.CloseBrace) statement statement_rule long_statement (record {
-  begins = λ s rest good. goes_on s rest;
-  follows = λ s rest good. tt;
-})
-
 brace_ends : (rest : List Sym) → Ends (until m.CloseBrace) Any (mark m.CloseBrace ∷ rest)
 unfolding same_mark
 brace_ends rest = (refl, tt)
 
-body_is : (ss : List Statement) (rest : List Sym) (r : ℕ) → Each IsStatement ss → body (at (spell_body ss rest) r) ≡ Ok (ss, at rest r)
-unfolding body expect same_mark
-body_is ss rest r good = rw (statements_rule.complete ss (mark m.CloseBrace ∷ rest) r good (brace_ends rest)) refl
-
-body_ok : (i j : Input) (ss : List Statement) → body i ≡ Ok (ss, j) → Takes spell_body (Each IsStatement) i ss j
-unfolding body
-body_ok i j ss h =
-    let a = then_ok (expect m.OpenBrace i) _ ss j h in
-    let b = then_ok (many (until m.CloseBrace) statement a.1) _ ss j a.3 in
-    let c = then_ok (expect m.CloseBrace b.1) _ ss j b.3 in
-    let found = statements_rule.sound a.1 b.1 b.0 b.2 in
-    along (λ y l. Takes spell_body (Each IsStatement) i y l) b.0 ss c.1 j c.3 (record {
-      tokens = symbol_then i (mark m.OpenBrace) a.1 _ (expect_ok m.OpenBrace i a.1 a.0 a.2)
-          (tree_then (spell_all spell_statement) (Each IsStatement) a.1 b.0 b.1 _ found (expect_ok m.CloseBrace b.1 c.1 c.0 c.2).tokens);
-      good = found.good;
-    })
-
-body_local : Local (List Statement) body
-unfolding body
-body_local = local_then (expect m.OpenBrace) _ (local_expect m.OpenBrace) (λ _. local_then (many (until m.CloseBrace) statement) _ statements_rule.here
-    (λ found. local_then (expect m.CloseBrace) _ (local_expect m.CloseBrace) (λ _. local_pure found)))
-
-pub body_rule : Rule spell_body (Each IsStatement) Any body
-body_rule = record { complete = λ ss rest r good may. body_is ss rest r good; sound = body_ok; here = body_local }
-
 pub long_body : (ss : List Statement) (rest : List Sym) → length rest < length (spell_body ss rest)
 long_body ss rest = omega (arith, long_all spell_statement long_statement ss (mark m.CloseBrace ∷ rest))
-
--- ---- actions
-
-set_is : (w : Name) (e : Expression) (rest : List Sym) (r : ℕ) → IsExpression in_action e → set_here (at (spell_action (set w e) rest) r) ≡ Ok (set w e, at rest r)
-unfolding set_here expect same_mark name_here
-set_is w e rest r good = rw (ec.complete in_action e (mark m.Semicolon ∷ rest) r good (stops_semicolon in_action rest)) refl
-
-set_ok : (i j : Input) (x : Action) → set_here i ≡ Ok (x, j) → Takes spell_action IsAction i x j
-unfolding set_here
-set_ok i j x h =
-    let a = then_ok (name_here i) _ x j h in
-    let b = then_ok (expect m.Equals a.1) _ x j a.3 in
-    let c = then_ok (whole in_action b.1) _ x j b.3 in
-    let d = then_ok (expect m.Semicolon c.1) _ x j c.3 in
-    let value = whole_takes in_action b.1 c.1 c.0 c.2 in
-    along (λ y l. Takes spell_action IsAction i y l) (set a.0 c.0) x d.1 j d.3 (record {
-      tokens = symbol_then i (name a.0) a.1 _ (name_ok i a.1 a.0 a.2) (symbol_then a.1 (mark m.Equals) b.1 _ (expect_ok m.Equals a.1 b.1 b.0 b.2)
-          (tree_then spell_expression (IsExpression in_action) b.1 c.0 c.1 _ value (expect_ok m.Semicolon c.1 d.1 d.0 d.2).tokens));
-      good = value.good;
-    })
-
-set_local : Local Action set_here
-unfolding set_here
-set_local = local_then name_here _ local_name (λ w. local_then (expect m.Equals) _ (local_expect m.Equals) (λ _. local_then (whole in_action) _ (whole_local in_action)
-    (λ e. local_then (expect m.Semicolon) _ (local_expect m.Semicolon) (λ _. local_pure (set w e)))))
 
 global_set_is : (to : Operand) (w : Name) (rest : List Sym) (r : ℕ) → global_set_here (at (spell_action (global_set to w) rest) r) ≡ Ok (global_set to w, at rest r)
 unfolding global_set_here expect expect_keyword same_mark same_keyword name_here
 global_set_is to w rest r = rw (operand_rule.complete to (mark m.Comma ∷ name w ∷ mark m.Close ∷ mark m.Semicolon ∷ rest) r tt tt) refl
-
-global_set_ok : (i j : Input) (x : Action) → global_set_here i ≡ Ok (x, j) → Takes spell_action IsAction i x j
-unfolding global_set_here
-global_set_ok i j x h =
-    let a = then_ok (expect_keyword k.GlobalSet i) _ x j h in
-    let b = then_ok (expect m.Open a.1) _ x j a.3 in
-    let c = then_ok (operand b.1) _ x j b.3 in
-    let d = then_ok (expect m.Comma c.1) _ x j c.3 in
-    let e = then_ok (name_here d.1) _ x j d.3 in
-    let f = then_ok (expect m.Close e.1) _ x j e.3 in
-    let g = then_ok (expect m.Semicolon f.1) _ x j f.3 in
-    along (λ y l. Takes spell_action IsAction i y l) (global_set c.0 e.0) x g.1 j g.3 (record {
-      tokens = symbol_then i (keyword k.GlobalSet) a.1 _ (expect_keyword_ok k.GlobalSet i a.1 a.0 a.2) (symbol_then a.1 (mark m.Open) b.1 _ (expect_ok m.Open a.1 b.1 b.0 b.2)
-          (tree_then spell_operand Free b.1 c.0 c.1 _ (operand_rule.sound b.1 c.1 c.0 c.2) (symbol_then c.1 (mark m.Comma) d.1 _ (expect_ok m.Comma c.1 d.1 d.0 d.2)
-          (symbol_then d.1 (name e.0) e.1 _ (name_ok d.1 e.1 e.0 e.2) (symbol_then e.1 (mark m.Close) f.1 _ (expect_ok m.Close e.1 f.1 f.0 f.2)
-          (expect_ok m.Semicolon f.1 g.1 g.0 g.2).tokens)))));
-      good = tt;
-    })
 
 global_set_local : Local Action global_set_here
 unfolding global_set_here
 global_set_local = local_then (expect_keyword k.GlobalSet) _ (local_expect_keyword k.GlobalSet) (λ _. local_then (expect m.Open) _ (local_expect m.Open) (λ _. local_then operand _ operand_rule.here
     (λ to. local_then (expect m.Comma) _ (local_expect m.Comma) (λ _. local_then name_here _ local_name (λ w. local_then (expect m.Close) _ (local_expect m.Close)
     (λ _. local_then (expect m.Semicolon) _ (local_expect m.Semicolon) (λ _. local_pure (global_set to w))))))))
-
-action_is : (x : Action) (rest : List Sym) (r : ℕ) → IsAction x → action (at (spell_action x rest) r) ≡ Ok (x, at rest r)
-unfolding action
-action_is (set w e) rest r good = set_is w e rest r good
-action_is (global_set to w) rest r good = global_set_is to w rest r
-
-action_by_ok : (o : Option Sym) (i j : Input) (x : Action) → action_by o i ≡ Ok (x, j) → Takes spell_action IsAction i x j
-action_by_ok (Some (word (quoted k.GlobalSet))) i j x h = global_set_ok i j x h
-action_by_ok o i j x h = set_ok i j x h
-
-action_ok : (i j : Input) (x : Action) → action i ≡ Ok (x, j) → Takes spell_action IsAction i x j
-unfolding action
-action_ok i j x h = action_by_ok (first i.rest) i j x h
-
-action_by_local : (o : Option Sym) → Local Action (action_by o)
-action_by_local (Some (word (quoted k.GlobalSet))) = global_set_local
-action_by_local o = set_local
-
-action_local : Local Action action
-unfolding action
-action_local = local_peek action_by action_by_local
-
-action_rule : Rule spell_action IsAction Any action
-action_rule = record { complete = λ x rest r good may. action_is x rest r good; sound = action_ok; here = action_local }
 
 long_action : (x : Action) (rest : List Sym) → length rest < length (spell_action x rest)
 long_action (set w e) rest = omega (arith, long_expression e (mark m.Semicolon ∷ rest))
@@ -220,40 +122,141 @@ unfolding same_mark
 acts_on (set w e) rest = refl
 acts_on (global_set to w) rest = refl
 
-many_actions_rule : Rule (spell_all spell_action) (Each IsAction) (Ends (until m.CloseBracket) Any) (many (until m.CloseBracket) action)
-many_actions_rule = many_rule spell_action IsAction Any (until m.CloseBracket) action action_rule long_action (record {
-  begins = λ x rest good. acts_on x rest;
-  follows = λ x rest good. tt;
-})
-
 pub bracket_ends : (rest : List Sym) → Ends (until m.CloseBracket) Any (mark m.CloseBracket ∷ rest)
 unfolding same_mark
 bracket_ends rest = (refl, tt)
 
-actions_are : (xs : List Action) (rest : List Sym) (r : ℕ) → Each IsAction xs → actions (at (spell_actions xs rest) r) ≡ Ok (xs, at rest r)
-unfolding actions expect same_mark
-actions_are xs rest r good = rw (many_actions_rule.complete xs (mark m.CloseBracket ∷ rest) r good (bracket_ends rest)) refl
-
-actions_ok : (i j : Input) (xs : List Action) → actions i ≡ Ok (xs, j) → Takes spell_actions (Each IsAction) i xs j
-unfolding actions
-actions_ok i j xs h =
-    let a = then_ok (expect m.OpenBracket i) _ xs j h in
-    let b = then_ok (many (until m.CloseBracket) action a.1) _ xs j a.3 in
-    let c = then_ok (expect m.CloseBracket b.1) _ xs j b.3 in
-    let found = many_actions_rule.sound a.1 b.1 b.0 b.2 in
-    along (λ y l. Takes spell_actions (Each IsAction) i y l) b.0 xs c.1 j c.3 (record {
-      tokens = symbol_then i (mark m.OpenBracket) a.1 _ (expect_ok m.OpenBracket i a.1 a.0 a.2)
-          (tree_then (spell_all spell_action) (Each IsAction) a.1 b.0 b.1 _ found (expect_ok m.CloseBracket b.1 c.1 c.0 c.2).tokens);
-      good = found.good;
-    })
-
-actions_local : Local (List Action) actions
-unfolding actions
-actions_local = local_then (expect m.OpenBracket) _ (local_expect m.OpenBracket) (λ _. local_then (many (until m.CloseBracket) action) _ many_actions_rule.here
-    (λ found. local_then (expect m.CloseBracket) _ (local_expect m.CloseBracket) (λ _. local_pure found)))
-
-pub actions_rule : Rule spell_actions (Each IsAction) Any actions
-actions_rule = record { complete = λ xs rest r good may. actions_are xs rest r good; sound = actions_ok; here = actions_local }
-
 pub long_actions : (xs : List Action) (rest : List Sym) → length rest < length (spell_actions xs rest)
 long_actions xs rest = omega (arith, long_all spell_action long_action xs (mark m.CloseBracket ∷ rest))
+
+-- ---- within a limit of operators and opening brackets
+
+module _ (most : ℕ) where
+  pub statements_rule : Rule (spell_all spell_statement) (Each (IsStatement most)) (Ends (until m.CloseBrace) Any) (many (until m.CloseBrace) (statement most))
+  statements_rule = many_rule spell_statement (IsStatement most) Any (until m.CloseBrace) (statement most) (statement_rule most) long_statement (record {
+    begins = λ s rest good. goes_on s rest;
+    follows = λ s rest good. tt;
+  })
+
+  body_is : (ss : List Statement) (rest : List Sym) (r : ℕ) → Each (IsStatement most) ss → body most (at (spell_body ss rest) r) ≡ Ok (ss, at rest r)
+  unfolding body expect same_mark
+  body_is ss rest r good = rw (statements_rule.complete ss (mark m.CloseBrace ∷ rest) r good (brace_ends rest)) refl
+
+  body_ok : (i j : Input) (ss : List Statement) → body most i ≡ Ok (ss, j) → Takes spell_body (Each (IsStatement most)) i ss j
+  unfolding body
+  body_ok i j ss h =
+      let a = then_ok (expect m.OpenBrace i) _ ss j h in
+      let b = then_ok (many (until m.CloseBrace) (statement most) a.1) _ ss j a.3 in
+      let c = then_ok (expect m.CloseBrace b.1) _ ss j b.3 in
+      let found = statements_rule.sound a.1 b.1 b.0 b.2 in
+      along (λ y l. Takes spell_body (Each (IsStatement most)) i y l) b.0 ss c.1 j c.3 (record {
+        tokens = symbol_then i (mark m.OpenBrace) a.1 _ (expect_ok m.OpenBrace i a.1 a.0 a.2)
+            (tree_then (spell_all spell_statement) (Each (IsStatement most)) a.1 b.0 b.1 _ found (expect_ok m.CloseBrace b.1 c.1 c.0 c.2).tokens);
+        good = found.good;
+      })
+
+  body_local : Local (List Statement) (body most)
+  unfolding body
+  body_local = local_then (expect m.OpenBrace) _ (local_expect m.OpenBrace) (λ _. local_then (many (until m.CloseBrace) (statement most)) _ statements_rule.here
+      (λ found. local_then (expect m.CloseBrace) _ (local_expect m.CloseBrace) (λ _. local_pure found)))
+
+  pub body_rule : Rule spell_body (Each (IsStatement most)) Any (body most)
+  body_rule = record { complete = λ ss rest r good may. body_is ss rest r good; sound = body_ok; here = body_local }
+
+  -- ---- actions
+
+  set_is : (w : Name) (e : Expression) (rest : List Sym) (r : ℕ) → IsExpression most in_action e → set_here most (at (spell_action (set w e) rest) r) ≡ Ok (set w e, at rest r)
+  unfolding set_here expect same_mark name_here
+  set_is w e rest r good = rw (ec.complete most in_action e (mark m.Semicolon ∷ rest) r good (stops_semicolon in_action rest)) refl
+
+  set_ok : (i j : Input) (x : Action) → set_here most i ≡ Ok (x, j) → Takes spell_action (IsAction most) i x j
+  unfolding set_here
+  set_ok i j x h =
+      let a = then_ok (name_here i) _ x j h in
+      let b = then_ok (expect m.Equals a.1) _ x j a.3 in
+      let c = then_ok (whole most in_action b.1) _ x j b.3 in
+      let d = then_ok (expect m.Semicolon c.1) _ x j c.3 in
+      let value = whole_takes most in_action b.1 c.1 c.0 c.2 in
+      along (λ y l. Takes spell_action (IsAction most) i y l) (set a.0 c.0) x d.1 j d.3 (record {
+        tokens = symbol_then i (name a.0) a.1 _ (name_ok i a.1 a.0 a.2) (symbol_then a.1 (mark m.Equals) b.1 _ (expect_ok m.Equals a.1 b.1 b.0 b.2)
+            (tree_then spell_expression (IsExpression most in_action) b.1 c.0 c.1 _ value (expect_ok m.Semicolon c.1 d.1 d.0 d.2).tokens));
+        good = value.good;
+      })
+
+  set_local : Local Action (set_here most)
+  unfolding set_here
+  set_local = local_then name_here _ local_name (λ w. local_then (expect m.Equals) _ (local_expect m.Equals) (λ _. local_then (whole most in_action) _ (whole_local most in_action)
+      (λ e. local_then (expect m.Semicolon) _ (local_expect m.Semicolon) (λ _. local_pure (set w e)))))
+
+  global_set_ok : (i j : Input) (x : Action) → global_set_here i ≡ Ok (x, j) → Takes spell_action (IsAction most) i x j
+  unfolding global_set_here
+  global_set_ok i j x h =
+      let a = then_ok (expect_keyword k.GlobalSet i) _ x j h in
+      let b = then_ok (expect m.Open a.1) _ x j a.3 in
+      let c = then_ok (operand b.1) _ x j b.3 in
+      let d = then_ok (expect m.Comma c.1) _ x j c.3 in
+      let e = then_ok (name_here d.1) _ x j d.3 in
+      let f = then_ok (expect m.Close e.1) _ x j e.3 in
+      let g = then_ok (expect m.Semicolon f.1) _ x j f.3 in
+      along (λ y l. Takes spell_action (IsAction most) i y l) (global_set c.0 e.0) x g.1 j g.3 (record {
+        tokens = symbol_then i (keyword k.GlobalSet) a.1 _ (expect_keyword_ok k.GlobalSet i a.1 a.0 a.2) (symbol_then a.1 (mark m.Open) b.1 _ (expect_ok m.Open a.1 b.1 b.0 b.2)
+            (tree_then spell_operand Free b.1 c.0 c.1 _ (operand_rule.sound b.1 c.1 c.0 c.2) (symbol_then c.1 (mark m.Comma) d.1 _ (expect_ok m.Comma c.1 d.1 d.0 d.2)
+            (symbol_then d.1 (name e.0) e.1 _ (name_ok d.1 e.1 e.0 e.2) (symbol_then e.1 (mark m.Close) f.1 _ (expect_ok m.Close e.1 f.1 f.0 f.2)
+            (expect_ok m.Semicolon f.1 g.1 g.0 g.2).tokens)))));
+        good = tt;
+      })
+
+  action_is : (x : Action) (rest : List Sym) (r : ℕ) → IsAction most x → action most (at (spell_action x rest) r) ≡ Ok (x, at rest r)
+  unfolding action
+  action_is (set w e) rest r good = set_is w e rest r good
+  action_is (global_set to w) rest r good = global_set_is to w rest r
+
+  action_by_ok : (o : Option Sym) (i j : Input) (x : Action) → action_by most o i ≡ Ok (x, j) → Takes spell_action (IsAction most) i x j
+  action_by_ok (Some (word (quoted k.GlobalSet))) i j x h = global_set_ok i j x h
+  action_by_ok o i j x h = set_ok i j x h
+
+  action_ok : (i j : Input) (x : Action) → action most i ≡ Ok (x, j) → Takes spell_action (IsAction most) i x j
+  unfolding action
+  action_ok i j x h = action_by_ok (first i.rest) i j x h
+
+  action_by_local : (o : Option Sym) → Local Action (action_by most o)
+  action_by_local (Some (word (quoted k.GlobalSet))) = global_set_local
+  action_by_local o = set_local
+
+  action_local : Local Action (action most)
+  unfolding action
+  action_local = local_peek (action_by most) action_by_local
+
+  pub action_rule : Rule spell_action (IsAction most) Any (action most)
+  action_rule = record { complete = λ x rest r good may. action_is x rest r good; sound = action_ok; here = action_local }
+
+  pub many_actions_rule : Rule (spell_all spell_action) (Each (IsAction most)) (Ends (until m.CloseBracket) Any) (many (until m.CloseBracket) (action most))
+  many_actions_rule = many_rule spell_action (IsAction most) Any (until m.CloseBracket) (action most) action_rule long_action (record {
+    begins = λ x rest good. acts_on x rest;
+    follows = λ x rest good. tt;
+  })
+
+  actions_are : (xs : List Action) (rest : List Sym) (r : ℕ) → Each (IsAction most) xs → actions most (at (spell_actions xs rest) r) ≡ Ok (xs, at rest r)
+  unfolding actions expect same_mark
+  actions_are xs rest r good = rw (many_actions_rule.complete xs (mark m.CloseBracket ∷ rest) r good (bracket_ends rest)) refl
+
+  actions_ok : (i j : Input) (xs : List Action) → actions most i ≡ Ok (xs, j) → Takes spell_actions (Each (IsAction most)) i xs j
+  unfolding actions
+  actions_ok i j xs h =
+      let a = then_ok (expect m.OpenBracket i) _ xs j h in
+      let b = then_ok (many (until m.CloseBracket) (action most) a.1) _ xs j a.3 in
+      let c = then_ok (expect m.CloseBracket b.1) _ xs j b.3 in
+      let found = many_actions_rule.sound a.1 b.1 b.0 b.2 in
+      along (λ y l. Takes spell_actions (Each (IsAction most)) i y l) b.0 xs c.1 j c.3 (record {
+        tokens = symbol_then i (mark m.OpenBracket) a.1 _ (expect_ok m.OpenBracket i a.1 a.0 a.2)
+            (tree_then (spell_all spell_action) (Each (IsAction most)) a.1 b.0 b.1 _ found (expect_ok m.CloseBracket b.1 c.1 c.0 c.2).tokens);
+        good = found.good;
+      })
+
+  actions_local : Local (List Action) (actions most)
+  unfolding actions
+  actions_local = local_then (expect m.OpenBracket) _ (local_expect m.OpenBracket) (λ _. local_then (many (until m.CloseBracket) (action most)) _ many_actions_rule.here
+      (λ found. local_then (expect m.CloseBracket) _ (local_expect m.CloseBracket) (λ _. local_pure found)))
+
+  pub actions_rule : Rule spell_actions (Each (IsAction most)) Any (actions most)
+  actions_rule = record { complete = λ xs rest r good may. actions_are xs rest r good; sound = actions_ok; here = actions_local }

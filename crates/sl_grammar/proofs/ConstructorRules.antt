@@ -25,35 +25,6 @@ use Rattle.sl_grammar.proofs.PatternComplete.{PatternStops, no_pattern_turn}
 use Rattle.sl_grammar.proofs.Rules.{Rule, Any, Ends, many_rule, long_all, optional_rule}
 use Rattle.sl_grammar.proofs.Taken.{then_ok, along, expect_ok, expect_keyword_ok}
 
--- ---- what stops a pattern
-
-stops_by : (rest : List Sym) → relation_in (first rest) ≡ None → operator_of (first rest) ≡ None → joining_in (first rest) ≡ None → is_mark m.Ellipsis (first rest) ≡ false
-    → PatternStops pattern_loosest rest
-stops_by rest relation operator joining dots = record {
-  follows = record { no_relation = relation; stops = record { closed = λ section. absurd (cc); quiet = λ j l le. no_turn in_constraint j l (first rest) operator } };
-  no_ellipsis = dots;
-  quiet = λ j p le. no_pattern_turn j p (first rest) joining;
-}
-
-stops_bracket : (rest : List Sym) → PatternStops pattern_loosest (mark m.OpenBracket ∷ rest)
-unfolding same_mark
-stops_bracket rest = stops_by (mark m.OpenBracket ∷ rest) refl refl refl refl
-
-stops_brace : (rest : List Sym) → PatternStops pattern_loosest (mark m.OpenBrace ∷ rest)
-unfolding same_mark
-stops_brace rest = stops_by (mark m.OpenBrace ∷ rest) refl refl refl refl
-
-stops_unimpl : (rest : List Sym) → PatternStops pattern_loosest (keyword k.Unimpl ∷ rest)
-stops_unimpl rest = stops_by (keyword k.Unimpl ∷ rest) refl refl refl refl
-
-stops_section : (x : Section) (rest : List Sym) → PatternStops pattern_loosest (spell_section x rest)
-stops_section (statements found) rest = stops_brace _
-stops_section unimplemented rest = stops_unimpl rest
-
-stops_actions : (xs : Option (List Action)) (rest : List Sym) → PatternStops pattern_loosest rest → PatternStops pattern_loosest (spell_option spell_actions xs rest)
-stops_actions None rest h = h
-stops_actions (Some xs) rest h = stops_bracket _
-
 -- ---- displays
 
 piece_is : (x : Piece) (rest : List Sym) (r : ℕ) → IsPiece x → piece (at (spell_piece x rest) r) ≡ Ok (x, at rest r)
@@ -93,7 +64,7 @@ piece_local : Local Piece piece
 unfolding piece
 piece_local = local_peek piece_by piece_by_local
 
-piece_rule : Rule spell_piece IsPiece Any piece
+pub piece_rule : Rule spell_piece IsPiece Any piece
 piece_rule = record { complete = λ x rest r good may. piece_is x rest r good; sound = piece_ok; here = piece_local }
 
 long_piece : (x : Piece) (rest : List Sym) → length rest < length (spell_piece x rest)
@@ -113,38 +84,12 @@ piece_begins (piece_blank t) rest good = refl
 piece_begins (piece_caret t) rest good = refl
 piece_begins (piece_char t) rest good = refl
 
-display_rule : Rule (spell_all spell_piece) (Each IsPiece) (Ends is_shown Any) (many is_shown piece)
+pub display_rule : Rule (spell_all spell_piece) (Each IsPiece) (Ends is_shown Any) (many is_shown piece)
 display_rule = many_rule spell_piece IsPiece Any is_shown piece piece_rule long_piece (record { begins = λ x rest good. piece_begins x rest good; follows = λ x rest good. tt })
 
 is_ends : (rest : List Sym) → Ends is_shown Any (keyword k.Is ∷ rest)
 unfolding same_keyword
 is_ends rest = (refl, tt)
-
--- ---- sections
-
-section_is : (x : Section) (rest : List Sym) (r : ℕ) → IsSection x → section (at (spell_section x rest) r) ≡ Ok (x, at rest r)
-unfolding section
-section_is (statements found) rest r good = rw (body_rule.complete found rest r good tt) refl
-section_is unimplemented rest r good = refl
-
-section_by_ok : (o : Option Sym) (i j : Input) (x : Section) → first i.rest ≡ o → section_by o i ≡ Ok (x, j) → Takes spell_section IsSection i x j
-section_by_ok (Some (mark m.OpenBrace)) i j x is h =
-    wrap_ok spell_body (Each IsStatement) spell_section IsSection body statements body_rule.sound (λ i j b t. record { tokens = t.tokens; good = t.good }) i j x h
-section_by_ok (Some (word (quoted k.Unimpl))) i j x is h = took_one spell_section IsSection i j (keyword k.Unimpl) unimplemented x is (λ rest. refl) tt h
-section_by_ok o i j x is h = absurd (cc)
-
-section_ok : (i j : Input) (x : Section) → section i ≡ Ok (x, j) → Takes spell_section IsSection i x j
-unfolding section
-section_ok i j x h = section_by_ok (first i.rest) i j x refl h
-
-section_by_local : (o : Option Sym) → Local Section (section_by o)
-section_by_local (Some (mark m.OpenBrace)) = wrap_local body statements body_rule.here
-section_by_local (Some (word (quoted k.Unimpl))) = local_skips (pure unimplemented) (local_pure unimplemented)
-section_by_local o = local_refuse
-
-section_local : Local Section section
-unfolding section
-section_local = local_peek section_by section_by_local
 
 section_no_bracket : (x : Section) (rest : List Sym) → is_mark m.OpenBracket (first (spell_section x rest)) ≡ false
 unfolding same_mark
@@ -157,7 +102,7 @@ long_section unimplemented rest = omega arith
 
 -- ---- what may lack in a constructor and before a block
 
-table_rule : Rule (spell_option spell_name) (IfWritten Free) (Ends is_name Any) (optional is_name name_here)
+pub table_rule : Rule (spell_option spell_name) (IfWritten Free) (Ends is_name Any) (optional is_name name_here)
 table_rule = optional_rule spell_name Free Any is_name name_here name_rule (λ w rest. refl)
 
 free_option : (x : Option Name) → IfWritten {A = Name} Free x
@@ -168,9 +113,6 @@ actions_begin : (xs : List Action) (rest : List Sym) → is_mark m.OpenBracket (
 unfolding same_mark
 actions_begin xs rest = refl
 
-actions_option : Rule (spell_option spell_actions) (IfWritten (Each IsAction)) (Ends (is_mark m.OpenBracket) Any) (optional (is_mark m.OpenBracket) actions)
-actions_option = optional_rule spell_actions (Each IsAction) Any (is_mark m.OpenBracket) actions actions_rule actions_begin
-
 long_table : (x : Option Name) (rest : List Sym) → length rest ≤ length (spell_option spell_name x rest)
 long_table None rest = omega arith
 long_table (Some w) rest = omega arith
@@ -178,52 +120,6 @@ long_table (Some w) rest = omega arith
 long_actions_option : (x : Option (List Action)) (rest : List Sym) → length rest ≤ length (spell_option spell_actions x rest)
 long_actions_option None rest = omega arith
 long_actions_option (Some xs) rest = omega (arith, long_actions xs rest)
-
--- ---- constructors
-
-constructor_is : (c : Constructor) (rest : List Sym) (r : ℕ) → IsConstructor c → constructor_here (at (spell_constructor c rest) r) ≡ Ok (c, at rest r)
-unfolding constructor_here expect expect_keyword same_mark same_keyword
-constructor_is c rest r good =
-    let acts = spell_option spell_actions c.actions (spell_section c.section rest) in
-    let pattern = keyword k.Is ∷ spell_pattern c.pattern acts in
-    rw (
-      table_rule.complete c.table (mark m.Colon ∷ spell_all spell_piece c.display pattern) r (free_option c.table) (refl, tt),
-      display_rule.complete c.display pattern r good.display (is_ends (spell_pattern c.pattern acts)),
-      pattern_rule.complete c.pattern acts r good.pattern (stops_actions c.actions (spell_section c.section rest) (stops_section c.section rest)),
-      actions_option.complete c.actions (spell_section c.section rest) r good.actions (section_no_bracket c.section rest, tt),
-      section_is c.section rest r good.section,
-    ) refl
-
-constructor_ok : (i j : Input) (c : Constructor) → constructor_here i ≡ Ok (c, j) → Takes spell_constructor IsConstructor i c j
-unfolding constructor_here
-constructor_ok i j c h =
-    let a = then_ok (optional is_name name_here i) _ c j h in
-    let b = then_ok (expect m.Colon a.1) _ c j a.3 in
-    let d = then_ok (many is_shown piece b.1) _ c j b.3 in
-    let e = then_ok (expect_keyword k.Is d.1) _ c j d.3 in
-    let f = then_ok (whole_pattern e.1) _ c j e.3 in
-    let g = then_ok (optional (is_mark m.OpenBracket) actions f.1) _ c j f.3 in
-    let l = then_ok (section g.1) _ c j g.3 in
-    let display = display_rule.sound b.1 d.1 d.0 d.2 in
-    let pattern = pattern_rule.sound e.1 f.1 f.0 f.2 in
-    let acts = actions_option.sound f.1 g.1 g.0 g.2 in
-    let what = section_ok g.1 l.1 l.0 l.2 in
-    along (λ y n. Takes spell_constructor IsConstructor i y n) (record { table = a.0; display = d.0; pattern = f.0; actions = g.0; section = l.0 }) c l.1 j l.3 (record {
-      tokens = tree_then (spell_option spell_name) (IfWritten Free) i a.0 a.1 _ (table_rule.sound i a.1 a.0 a.2) (symbol_then a.1 (mark m.Colon) b.1 _ (expect_ok m.Colon a.1 b.1 b.0 b.2)
-          (tree_then (spell_all spell_piece) (Each IsPiece) b.1 d.0 d.1 _ display (symbol_then d.1 (keyword k.Is) e.1 _ (expect_keyword_ok k.Is d.1 e.1 e.0 e.2)
-          (tree_then spell_pattern IsPattern e.1 f.0 f.1 _ pattern (tree_then (spell_option spell_actions) (IfWritten (Each IsAction)) f.1 g.0 g.1 _ acts what.tokens)))));
-      good = record { display = display.good; pattern = pattern.good; actions = acts.good; section = what.good };
-    })
-
-constructor_local : Local Constructor constructor_here
-unfolding constructor_here
-constructor_local = local_then (optional is_name name_here) _ table_rule.here (λ table. local_then (expect m.Colon) _ (local_expect m.Colon) (λ _.
-    local_then (many is_shown piece) _ display_rule.here (λ display. local_then (expect_keyword k.Is) _ (local_expect_keyword k.Is) (λ _.
-    local_then whole_pattern _ pattern_rule.here (λ pattern. local_then (optional (is_mark m.OpenBracket) actions) _ actions_option.here (λ acts.
-    local_then section _ section_local (λ what. local_pure (record { table = table; display = display; pattern = pattern; actions = acts; section = what }))))))))
-
-pub constructor_rule : Rule spell_constructor IsConstructor Any constructor_here
-constructor_rule = record { complete = λ c rest r good may. constructor_is c rest r good; sound = constructor_ok; here = constructor_local }
 
 pub long_constructor : (c : Constructor) (rest : List Sym) → length rest < length (spell_constructor c rest)
 long_constructor c rest =
@@ -247,9 +143,6 @@ pattern_begins (group p) rest = refl
 pattern_begins (ellipsis p) rest = pattern_begins p (mark m.Ellipsis ∷ rest)
 pattern_begins (joined op p q) rest = pattern_begins p (mark (pattern_mark op) ∷ spell_pattern q rest)
 
-pattern_option : Rule (spell_option spell_pattern) (IfWritten IsPattern) (Ends is_pattern (PatternStops pattern_loosest)) (optional is_pattern whole_pattern)
-pattern_option = optional_rule spell_pattern IsPattern (PatternStops pattern_loosest) is_pattern whole_pattern pattern_rule pattern_begins
-
 no_pattern : (xs : Option (List Action)) (rest : List Sym) → is_pattern (first (spell_option spell_actions xs (mark m.OpenBrace ∷ rest))) ≡ false
 unfolding same_mark
 no_pattern None rest = refl
@@ -259,44 +152,6 @@ brace_no_bracket : (rest : List Sym) → is_mark m.OpenBracket (first (mark m.Op
 unfolding same_mark
 brace_no_bracket rest = refl
 
-head_is : (h : Head) (rest : List Sym) (r : ℕ) → IsHead h → head (at (spell_head h rest) r) ≡ Ok (h, at rest r)
-unfolding head expect expect_keyword same_mark same_keyword
-head_is h rest r good =
-    let acts = spell_option spell_actions h.actions (mark m.OpenBrace ∷ rest) in
-    rw (
-      table_rule.complete h.table (mark m.Colon ∷ spell_option spell_pattern h.pattern acts) r (free_option h.table) (refl, tt),
-      pattern_option.complete h.pattern acts r good.pattern (no_pattern h.actions rest, stops_actions h.actions (mark m.OpenBrace ∷ rest) (stops_brace rest)),
-      actions_option.complete h.actions (mark m.OpenBrace ∷ rest) r good.actions (brace_no_bracket rest, tt),
-    ) refl
-
-head_ok : (i j : Input) (x : Head) → head i ≡ Ok (x, j) → Takes spell_head IsHead i x j
-unfolding head
-head_ok i j x h =
-    let a = then_ok (expect_keyword k.With i) _ x j h in
-    let b = then_ok (optional is_name name_here a.1) _ x j a.3 in
-    let c = then_ok (expect m.Colon b.1) _ x j b.3 in
-    let d = then_ok (optional is_pattern whole_pattern c.1) _ x j c.3 in
-    let e = then_ok (optional (is_mark m.OpenBracket) actions d.1) _ x j d.3 in
-    let f = then_ok (expect m.OpenBrace e.1) _ x j e.3 in
-    let pattern = pattern_option.sound c.1 d.1 d.0 d.2 in
-    let acts = actions_option.sound d.1 e.1 e.0 e.2 in
-    along (λ y n. Takes spell_head IsHead i y n) (record { table = b.0; pattern = d.0; actions = e.0 }) x f.1 j f.3 (record {
-      tokens = symbol_then i (keyword k.With) a.1 _ (expect_keyword_ok k.With i a.1 a.0 a.2) (tree_then (spell_option spell_name) (IfWritten Free) a.1 b.0 b.1 _ (table_rule.sound a.1 b.1 b.0 b.2)
-          (symbol_then b.1 (mark m.Colon) c.1 _ (expect_ok m.Colon b.1 c.1 c.0 c.2) (tree_then (spell_option spell_pattern) (IfWritten IsPattern) c.1 d.0 d.1 _ pattern
-          (tree_then (spell_option spell_actions) (IfWritten (Each IsAction)) d.1 e.0 e.1 _ acts (expect_ok m.OpenBrace e.1 f.1 f.0 f.2).tokens))));
-      good = record { pattern = pattern.good; actions = acts.good };
-    })
-
-head_local : Local Head head
-unfolding head
-head_local = local_then (expect_keyword k.With) _ (local_expect_keyword k.With) (λ _. local_then (optional is_name name_here) _ table_rule.here (λ table.
-    local_then (expect m.Colon) _ (local_expect m.Colon) (λ _. local_then (optional is_pattern whole_pattern) _ pattern_option.here (λ pattern.
-    local_then (optional (is_mark m.OpenBracket) actions) _ actions_option.here (λ acts. local_then (expect m.OpenBrace) _ (local_expect m.OpenBrace)
-    (λ _. local_pure (record { table = table; pattern = pattern; actions = acts })))))))
-
-pub head_rule : Rule spell_head IsHead Any head
-head_rule = record { complete = λ h rest r good may. head_is h rest r good; sound = head_ok; here = head_local }
-
 long_pattern_option : (x : Option Pattern) (rest : List Sym) → length rest ≤ length (spell_option spell_pattern x rest)
 long_pattern_option None rest = omega arith
 long_pattern_option (Some p) rest = omega (arith, long_pattern p rest)
@@ -305,3 +160,151 @@ pub long_head : (h : Head) (rest : List Sym) → length rest < length (spell_hea
 long_head h rest =
     let acts = spell_option spell_actions h.actions (mark m.OpenBrace ∷ rest) in
     omega (arith, long_table h.table (mark m.Colon ∷ spell_option spell_pattern h.pattern acts), long_pattern_option h.pattern acts, long_actions_option h.actions (mark m.OpenBrace ∷ rest))
+
+-- ---- within a limit of operators and opening brackets
+
+module _ (most : ℕ) where
+  -- ---- what stops a pattern
+
+  stops_by : (rest : List Sym) → relation_in (first rest) ≡ None → operator_of (first rest) ≡ None → joining_in (first rest) ≡ None → is_mark m.Ellipsis (first rest) ≡ false
+      → PatternStops pattern_loosest rest
+  stops_by rest relation operator joining dots = record {
+    follows = record { no_relation = relation; stops = record { closed = λ section. absurd (cc); quiet = λ j l le. no_turn in_constraint j l (first rest) operator } };
+    no_ellipsis = dots;
+    quiet = λ j p le. no_pattern_turn j p (first rest) joining;
+  }
+
+  stops_bracket : (rest : List Sym) → PatternStops pattern_loosest (mark m.OpenBracket ∷ rest)
+  unfolding same_mark
+  stops_bracket rest = stops_by (mark m.OpenBracket ∷ rest) refl refl refl refl
+
+  stops_brace : (rest : List Sym) → PatternStops pattern_loosest (mark m.OpenBrace ∷ rest)
+  unfolding same_mark
+  stops_brace rest = stops_by (mark m.OpenBrace ∷ rest) refl refl refl refl
+
+  stops_unimpl : (rest : List Sym) → PatternStops pattern_loosest (keyword k.Unimpl ∷ rest)
+  stops_unimpl rest = stops_by (keyword k.Unimpl ∷ rest) refl refl refl refl
+
+  stops_section : (x : Section) (rest : List Sym) → PatternStops pattern_loosest (spell_section x rest)
+  stops_section (statements found) rest = stops_brace _
+  stops_section unimplemented rest = stops_unimpl rest
+
+  stops_actions : (xs : Option (List Action)) (rest : List Sym) → PatternStops pattern_loosest rest → PatternStops pattern_loosest (spell_option spell_actions xs rest)
+  stops_actions None rest h = h
+  stops_actions (Some xs) rest h = stops_bracket _
+
+  -- ---- sections
+
+  section_is : (x : Section) (rest : List Sym) (r : ℕ) → IsSection most x → section most (at (spell_section x rest) r) ≡ Ok (x, at rest r)
+  unfolding section
+  section_is (statements found) rest r good = rw ((body_rule most).complete found rest r good tt) refl
+  section_is unimplemented rest r good = refl
+
+  section_by_ok : (o : Option Sym) (i j : Input) (x : Section) → first i.rest ≡ o → section_by most o i ≡ Ok (x, j) → Takes spell_section (IsSection most) i x j
+  section_by_ok (Some (mark m.OpenBrace)) i j x is h =
+      wrap_ok spell_body (Each (IsStatement most)) spell_section (IsSection most) (body most) statements (body_rule most).sound (λ i j b t. record { tokens = t.tokens; good = t.good }) i j x h
+  section_by_ok (Some (word (quoted k.Unimpl))) i j x is h = took_one spell_section (IsSection most) i j (keyword k.Unimpl) unimplemented x is (λ rest. refl) tt h
+  section_by_ok o i j x is h = absurd (cc)
+
+  pub section_ok : (i j : Input) (x : Section) → section most i ≡ Ok (x, j) → Takes spell_section (IsSection most) i x j
+  unfolding section
+  section_ok i j x h = section_by_ok (first i.rest) i j x refl h
+
+  section_by_local : (o : Option Sym) → Local Section (section_by most o)
+  section_by_local (Some (mark m.OpenBrace)) = wrap_local (body most) statements (body_rule most).here
+  section_by_local (Some (word (quoted k.Unimpl))) = local_skips (pure unimplemented) (local_pure unimplemented)
+  section_by_local o = local_refuse
+
+  section_local : Local Section (section most)
+  unfolding section
+  section_local = local_peek (section_by most) section_by_local
+
+  actions_option : Rule (spell_option spell_actions) (IfWritten (Each (IsAction most))) (Ends (is_mark m.OpenBracket) Any) (optional (is_mark m.OpenBracket) (actions most))
+  actions_option = optional_rule spell_actions (Each (IsAction most)) Any (is_mark m.OpenBracket) (actions most) (actions_rule most) actions_begin
+
+  -- ---- constructors
+
+  constructor_is : (c : Constructor) (rest : List Sym) (r : ℕ) → IsConstructor most c → constructor_here most (at (spell_constructor c rest) r) ≡ Ok (c, at rest r)
+  unfolding constructor_here expect expect_keyword same_mark same_keyword
+  constructor_is c rest r good =
+      let acts = spell_option spell_actions c.actions (spell_section c.section rest) in
+      let pattern = keyword k.Is ∷ spell_pattern c.pattern acts in
+      rw (
+        table_rule.complete c.table (mark m.Colon ∷ spell_all spell_piece c.display pattern) r (free_option c.table) (refl, tt),
+        display_rule.complete c.display pattern r good.display (is_ends (spell_pattern c.pattern acts)),
+        (pattern_rule most).complete c.pattern acts r good.pattern (stops_actions c.actions (spell_section c.section rest) (stops_section c.section rest)),
+        actions_option.complete c.actions (spell_section c.section rest) r good.actions (section_no_bracket c.section rest, tt),
+        section_is c.section rest r good.section,
+      ) refl
+
+  pub constructor_ok : (i j : Input) (c : Constructor) → constructor_here most i ≡ Ok (c, j) → Takes spell_constructor (IsConstructor most) i c j
+  unfolding constructor_here
+  constructor_ok i j c h =
+      let a = then_ok (optional is_name name_here i) _ c j h in
+      let b = then_ok (expect m.Colon a.1) _ c j a.3 in
+      let d = then_ok (many is_shown piece b.1) _ c j b.3 in
+      let e = then_ok (expect_keyword k.Is d.1) _ c j d.3 in
+      let f = then_ok (whole_pattern most e.1) _ c j e.3 in
+      let g = then_ok (optional (is_mark m.OpenBracket) (actions most) f.1) _ c j f.3 in
+      let l = then_ok (section most g.1) _ c j g.3 in
+      let display = display_rule.sound b.1 d.1 d.0 d.2 in
+      let pattern = (pattern_rule most).sound e.1 f.1 f.0 f.2 in
+      let acts = actions_option.sound f.1 g.1 g.0 g.2 in
+      let what = section_ok g.1 l.1 l.0 l.2 in
+      along (λ y n. Takes spell_constructor (IsConstructor most) i y n) (record { table = a.0; display = d.0; pattern = f.0; actions = g.0; section = l.0 }) c l.1 j l.3 (record {
+        tokens = tree_then (spell_option spell_name) (IfWritten Free) i a.0 a.1 _ (table_rule.sound i a.1 a.0 a.2) (symbol_then a.1 (mark m.Colon) b.1 _ (expect_ok m.Colon a.1 b.1 b.0 b.2)
+            (tree_then (spell_all spell_piece) (Each IsPiece) b.1 d.0 d.1 _ display (symbol_then d.1 (keyword k.Is) e.1 _ (expect_keyword_ok k.Is d.1 e.1 e.0 e.2)
+            (tree_then spell_pattern (IsPattern most) e.1 f.0 f.1 _ pattern (tree_then (spell_option spell_actions) (IfWritten (Each (IsAction most))) f.1 g.0 g.1 _ acts what.tokens)))));
+        good = record { display = display.good; pattern = pattern.good; actions = acts.good; section = what.good };
+      })
+
+  constructor_local : Local Constructor (constructor_here most)
+  unfolding constructor_here
+  constructor_local = local_then (optional is_name name_here) _ table_rule.here (λ table. local_then (expect m.Colon) _ (local_expect m.Colon) (λ _.
+      local_then (many is_shown piece) _ display_rule.here (λ display. local_then (expect_keyword k.Is) _ (local_expect_keyword k.Is) (λ _.
+      local_then (whole_pattern most) _ (pattern_rule most).here (λ pattern. local_then (optional (is_mark m.OpenBracket) (actions most)) _ actions_option.here (λ acts.
+      local_then (section most) _ section_local (λ what. local_pure (record { table = table; display = display; pattern = pattern; actions = acts; section = what }))))))))
+
+  pub constructor_rule : Rule spell_constructor (IsConstructor most) Any (constructor_here most)
+  constructor_rule = record { complete = λ c rest r good may. constructor_is c rest r good; sound = constructor_ok; here = constructor_local }
+
+  pattern_option : Rule (spell_option spell_pattern) (IfWritten (IsPattern most)) (Ends is_pattern (PatternStops pattern_loosest)) (optional is_pattern (whole_pattern most))
+  pattern_option = optional_rule spell_pattern (IsPattern most) (PatternStops pattern_loosest) is_pattern (whole_pattern most) (pattern_rule most) pattern_begins
+
+  head_is : (h : Head) (rest : List Sym) (r : ℕ) → IsHead most h → head most (at (spell_head h rest) r) ≡ Ok (h, at rest r)
+  unfolding head expect expect_keyword same_mark same_keyword
+  head_is h rest r good =
+      let acts = spell_option spell_actions h.actions (mark m.OpenBrace ∷ rest) in
+      rw (
+        table_rule.complete h.table (mark m.Colon ∷ spell_option spell_pattern h.pattern acts) r (free_option h.table) (refl, tt),
+        pattern_option.complete h.pattern acts r good.pattern (no_pattern h.actions rest, stops_actions h.actions (mark m.OpenBrace ∷ rest) (stops_brace rest)),
+        actions_option.complete h.actions (mark m.OpenBrace ∷ rest) r good.actions (brace_no_bracket rest, tt),
+      ) refl
+
+  pub head_ok : (i j : Input) (x : Head) → head most i ≡ Ok (x, j) → Takes spell_head (IsHead most) i x j
+  unfolding head
+  head_ok i j x h =
+      let a = then_ok (expect_keyword k.With i) _ x j h in
+      let b = then_ok (optional is_name name_here a.1) _ x j a.3 in
+      let c = then_ok (expect m.Colon b.1) _ x j b.3 in
+      let d = then_ok (optional is_pattern (whole_pattern most) c.1) _ x j c.3 in
+      let e = then_ok (optional (is_mark m.OpenBracket) (actions most) d.1) _ x j d.3 in
+      let f = then_ok (expect m.OpenBrace e.1) _ x j e.3 in
+      let pattern = pattern_option.sound c.1 d.1 d.0 d.2 in
+      let acts = actions_option.sound d.1 e.1 e.0 e.2 in
+      along (λ y n. Takes spell_head (IsHead most) i y n) (record { table = b.0; pattern = d.0; actions = e.0 }) x f.1 j f.3 (record {
+        tokens = symbol_then i (keyword k.With) a.1 _ (expect_keyword_ok k.With i a.1 a.0 a.2) (tree_then (spell_option spell_name) (IfWritten Free) a.1 b.0 b.1 _ (table_rule.sound a.1 b.1 b.0 b.2)
+            (symbol_then b.1 (mark m.Colon) c.1 _ (expect_ok m.Colon b.1 c.1 c.0 c.2) (tree_then (spell_option spell_pattern) (IfWritten (IsPattern most)) c.1 d.0 d.1 _ pattern
+            (tree_then (spell_option spell_actions) (IfWritten (Each (IsAction most))) d.1 e.0 e.1 _ acts (expect_ok m.OpenBrace e.1 f.1 f.0 f.2).tokens))));
+        good = record { pattern = pattern.good; actions = acts.good };
+      })
+
+  head_local : Local Head (head most)
+  unfolding head
+  head_local = local_then (expect_keyword k.With) _ (local_expect_keyword k.With) (λ _. local_then (optional is_name name_here) _ table_rule.here (λ table.
+      local_then (expect m.Colon) _ (local_expect m.Colon) (λ _. local_then (optional is_pattern (whole_pattern most)) _ pattern_option.here (λ pattern.
+      local_then (optional (is_mark m.OpenBracket) (actions most)) _ actions_option.here (λ acts. local_then (expect m.OpenBrace) _ (local_expect m.OpenBrace)
+      (λ _. local_pure (record { table = table; pattern = pattern; actions = acts })))))))
+
+  pub head_rule : Rule spell_head (IsHead most) Any (head most)
+  head_rule = record { complete = λ h rest r good may. head_is h rest r good; sound = head_ok; here = head_local }

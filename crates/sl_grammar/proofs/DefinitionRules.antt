@@ -1,5 +1,5 @@
 -- The rules of definitions and attached lists.
-use Rattle.std.proofs.Common.{◌≡◌, ℕ, suc, ◌<◌, ◌≤◌, ◌==◌, Bool, true, false, cond, List, [], ◌∷◌, length, Option, None, Some, Ok, Err, refl, ◌∙◌, subst, arith}
+use Rattle.std.proofs.Common.{◌≡◌, ℕ, ◌<◌, ◌≤◌, ◌==◌, Bool, true, false, cond, List, [], ◌∷◌, length, Option, None, Some, Ok, refl, ◌∙◌, subst, arith}
 use Rattle.sl_ast.specs.Spelling.{Spelling, name, keyword, order_word, kind_word, spell_name, spell_option, spell_all, spell_order, spell_space_attribute, spell_bit_range, spell_attribute, spell_field, spell_names, spell_definition, spell_member}
 use Rattle.sl_ast.specs.Symbols.{plain, quoted, Sym, number, word, text, mark}
 use Rattle.sl_ast.specs.Trees.{SpaceAttribute, of_type, of_size, of_word_size, is_default, BitRange, Field, Names, one, several, Definition, endian, alignment, space, bit_ranges, pcode_ops, token, context, registers, Member, member_word, member_text, member_integer, member_negative}
@@ -16,11 +16,11 @@ use Rattle.sl_ast.specs.declared.symbols.Mark.TheVariants as m
 use Rattle.sl_grammar.specs.Definitions.{order_by, order, checked_size, word_size_by, type_here, size_attribute, word_size_here, space_attribute_by, space_attribute, bit_range, is_attribute, attribute_by, attribute, field, name_list, names_by, names, alignment_here, space_here, bit_ranges_here, pcode_ops_here, token_here, context_here, registers_here, definition_by, definition, kind_by, attach_kind, member_by, member}
 use Rattle.sl_grammar.specs.Lists.{many}
 use Rattle.sl_grammar.specs.Parallel.{Local}
-use Rattle.sl_grammar.specs.Reader.{Input, at, left, first, fault, unsupported, Outcome, Reader, ◌>>◌, and_then, pure, skip, next, is_keyword, same_mark, same_keyword, expect, expect_keyword, integer_here, name_here, optional}
+use Rattle.sl_grammar.specs.Reader.{Input, at, first, unsupported, Outcome, Reader, ◌>>◌, and_then, pure, skip, next, is_keyword, same_mark, same_keyword, expect, expect_keyword, integer_here, name_here, optional, unsupported, unsupport}
 use Rattle.sl_grammar.specs.Statements.{until}
 use Rattle.sl_grammar.proofs.BodyRules.{bracket_ends}
 use Rattle.sl_grammar.proofs.ListsTaken.{Takes}
-use Rattle.sl_grammar.proofs.LocalSteps.{local_then, local_pure, local_deep, local_peek, local_refuse, local_skip, local_skips, local_if, local_expect, local_expect_keyword, local_integer, local_name}
+use Rattle.sl_grammar.proofs.LocalSteps.{local_then, local_pure, local_fault, local_peek, local_refuse, local_skip, local_skips, local_if, local_expect, local_expect_keyword, local_integer, local_name}
 use Rattle.sl_grammar.proofs.PartRules.{symbol_then, tree_then, name_takes, Free, name_rule, wrap_ok, wrap_local}
 use Rattle.sl_grammar.proofs.Rules.{Rule, Any, Ends, many_rule, long_all, optional_rule}
 use Rattle.sl_grammar.proofs.Steps.{equal_is}
@@ -48,7 +48,7 @@ order_by_ok (Some (word (quoted k.Big))) i j x is h = along (λ y l. Took i (key
 order_by_ok (Some (word (quoted k.Little))) i j x is h = along (λ y l. Took i (keyword (order_word y)) l) o.Little x (next i) j h (took_next i (keyword k.Little) is)
 order_by_ok s i j x is h = absurd (cc)
 
-order_ok : (i j : Input) (x : ByteOrder) → order i ≡ Ok (x, j) → Takes spell_order Free i x j
+pub order_ok : (i j : Input) (x : ByteOrder) → order i ≡ Ok (x, j) → Takes spell_order Free i x j
 unfolding order
 order_ok i j x h =
     let a = then_ok (expect_keyword k.Endian i) _ x j h in
@@ -68,7 +68,7 @@ order_local : Local ByteOrder order
 unfolding order
 order_local = local_then (expect_keyword k.Endian) _ (local_expect_keyword k.Endian) (λ _. local_then (expect m.Equals) _ (local_expect m.Equals) (λ _. local_peek order_by order_by_local))
 
-order_rule : Rule spell_order Free Any order
+pub order_rule : Rule spell_order Free Any order
 order_rule = record { complete = λ x rest r good may. order_is x rest r; sound = order_ok; here = order_local }
 
 order_begins : (x : ByteOrder) (rest : List Sym) → is_keyword k.Endian (first (spell_order x rest)) ≡ true
@@ -116,7 +116,7 @@ record TookWordSize (i : Input) (x : SpaceAttribute) (j : Input) : Type 0 where
   good : size ≡ 1
 
 checked_test : (b : Bool) (n : ℕ) (i j : Input) (x : SpaceAttribute) → first i.rest ≡ Some (number n) → (n == 1) ≡ b
-    → cond {A = Reader SpaceAttribute} b (skip >> pure (of_word_size n)) (λ k. Err (fault (unsupported f.WordSize) (suc (suc (left k))))) i ≡ Ok (x, j) → TookWordSize i x j
+    → cond {A = Reader SpaceAttribute} b (skip >> pure (of_word_size n)) (unsupport f.WordSize 2) i ≡ Ok (x, j) → TookWordSize i x j
 checked_test true n i j x is t h =
     along (λ y l. TookWordSize i y l) (of_word_size n) x (next i) j h (record { size = n; is = refl; took = took_next i (number n) is; good = equal_is n 1 t })
 checked_test false n i j x is t h = absurd (cc)
@@ -153,7 +153,7 @@ space_attribute_ok i j x h = space_attribute_by_ok (first i.rest) i j x refl h
 word_size_by_local : (s : Option Sym) → Local SpaceAttribute (word_size_by s)
 unfolding checked_size
 word_size_by_local (Some (number n)) =
-    local_if (n == 1) (skip >> pure (of_word_size n)) (λ k. Err (fault (unsupported f.WordSize) (suc (suc (left k))))) (local_skips (pure (of_word_size n)) (local_pure (of_word_size n))) (local_deep f.WordSize)
+    local_if (n == 1) (skip >> pure (of_word_size n)) (unsupport f.WordSize 2) (local_skips (pure (of_word_size n)) (local_pure (of_word_size n))) (local_fault (unsupported f.WordSize 2))
 word_size_by_local s = local_refuse
 
 space_attribute_by_local : (s : Option Sym) → Local SpaceAttribute (space_attribute_by s)
@@ -171,7 +171,7 @@ space_attribute_local : Local SpaceAttribute space_attribute
 unfolding space_attribute
 space_attribute_local = local_peek space_attribute_by space_attribute_by_local
 
-space_attribute_rule : Rule spell_space_attribute IsSpaceAttribute Any space_attribute
+pub space_attribute_rule : Rule spell_space_attribute IsSpaceAttribute Any space_attribute
 space_attribute_rule = record { complete = λ x rest r good may. space_attribute_is x rest r good; sound = space_attribute_ok; here = space_attribute_local }
 
 long_space_attribute : (x : SpaceAttribute) (rest : List Sym) → length rest < length (spell_space_attribute x rest)
@@ -186,7 +186,7 @@ space_attribute_begins (of_size n) rest = refl
 space_attribute_begins (of_word_size n) rest = refl
 space_attribute_begins is_default rest = refl
 
-space_attributes_rule : Rule (spell_all spell_space_attribute) (Each IsSpaceAttribute) (Ends (until m.Semicolon) Any) (many (until m.Semicolon) space_attribute)
+pub space_attributes_rule : Rule (spell_all spell_space_attribute) (Each IsSpaceAttribute) (Ends (until m.Semicolon) Any) (many (until m.Semicolon) space_attribute)
 space_attributes_rule = many_rule spell_space_attribute IsSpaceAttribute Any (until m.Semicolon) space_attribute space_attribute_rule long_space_attribute (record {
   begins = λ x rest good. space_attribute_begins x rest;
   follows = λ x rest good. tt;
@@ -224,10 +224,10 @@ bit_range_local = local_then name_here _ local_name (λ w. local_then (expect m.
     (λ _. local_then integer_here _ local_integer (λ count. local_then (expect m.CloseBracket) _ (local_expect m.CloseBracket)
     (λ _. local_pure (record { name = w; register = register; low = low; count = count })))))))))
 
-bit_range_rule : Rule spell_bit_range Free Any bit_range
+pub bit_range_rule : Rule spell_bit_range Free Any bit_range
 bit_range_rule = record { complete = λ x rest r good may. bit_range_is x rest r; sound = bit_range_ok; here = bit_range_local }
 
-bit_ranges_rule : Rule (spell_all spell_bit_range) (Each Free) (Ends (until m.Semicolon) Any) (many (until m.Semicolon) bit_range)
+pub bit_ranges_rule : Rule (spell_all spell_bit_range) (Each Free) (Ends (until m.Semicolon) Any) (many (until m.Semicolon) bit_range)
 bit_ranges_rule = many_rule spell_bit_range Free Any (until m.Semicolon) bit_range bit_range_rule (λ x rest. omega arith) (record { begins = λ x rest good. refl; follows = λ x rest good. tt })
 
 -- ---- fields
@@ -261,7 +261,7 @@ attribute_local : Local FieldAttribute attribute
 unfolding attribute
 attribute_local = local_peek attribute_by attribute_by_local
 
-attribute_rule : Rule spell_attribute Free Any attribute
+pub attribute_rule : Rule spell_attribute Free Any attribute
 attribute_rule = record { complete = λ x rest r good may. attribute_is x rest r; sound = attribute_ok; here = attribute_local }
 
 attribute_begins : (x : FieldAttribute) (rest : List Sym) → is_attribute (first (spell_attribute x rest)) ≡ true
@@ -270,7 +270,7 @@ attribute_begins fa.Hex rest = refl
 attribute_begins fa.Dec rest = refl
 attribute_begins fa.NoFlow rest = refl
 
-attributes_rule : Rule (spell_all spell_attribute) (Each Free) (Ends is_attribute Any) (many is_attribute attribute)
+pub attributes_rule : Rule (spell_all spell_attribute) (Each Free) (Ends is_attribute Any) (many is_attribute attribute)
 attributes_rule = many_rule spell_attribute Free Any is_attribute attribute attribute_rule (λ x rest. omega arith) (record { begins = λ x rest good. attribute_begins x rest; follows = λ x rest good. tt })
 
 pub each_free : {A : Type 0} (xs : List A) → Each {A = A} Free xs
@@ -285,7 +285,7 @@ field_is : (x : Field) (rest : List Sym) (r : ℕ) → NoAttribute rest → fiel
 unfolding field expect same_mark name_here integer_here
 field_is x rest r may = rw (attributes_rule.complete x.attributes rest r (each_free x.attributes) (may, tt)) refl
 
-field_ok : (i j : Input) (x : Field) → field i ≡ Ok (x, j) → Takes spell_field Free i x j
+pub field_ok : (i j : Input) (x : Field) → field i ≡ Ok (x, j) → Takes spell_field Free i x j
 unfolding field
 field_ok i j x h =
     let a = then_ok (name_here i) _ x j h in
@@ -310,18 +310,18 @@ field_local = local_then name_here _ local_name (λ w. local_then (expect m.Equa
     local_then (expect m.Close) _ (local_expect m.Close) (λ _. local_then (many is_attribute attribute) _ attributes_rule.here
     (λ attributes. local_pure (record { name = w; low = low; high = high; attributes = attributes })))))))))
 
-field_rule : Rule spell_field Free NoAttribute field
+pub field_rule : Rule spell_field Free NoAttribute field
 field_rule = record { complete = λ x rest r good may. field_is x rest r may; sound = field_ok; here = field_local }
 
 long_field : (x : Field) (rest : List Sym) → length rest < length (spell_field x rest)
 long_field x rest = omega (arith, long_all spell_attribute (λ y zs. omega arith) x.attributes rest)
 
-fields_rule : Rule (spell_all spell_field) (Each Free) (Ends (until m.Semicolon) NoAttribute) (many (until m.Semicolon) field)
+pub fields_rule : Rule (spell_all spell_field) (Each Free) (Ends (until m.Semicolon) NoAttribute) (many (until m.Semicolon) field)
 fields_rule = many_rule spell_field Free NoAttribute (until m.Semicolon) field field_rule long_field (record { begins = λ x rest good. refl; follows = λ x rest good. refl })
 
 -- ---- names
 
-name_list_rule : Rule (spell_all spell_name) (Each Free) (Ends (until m.CloseBracket) Any) (many (until m.CloseBracket) name_here)
+pub name_list_rule : Rule (spell_all spell_name) (Each Free) (Ends (until m.CloseBracket) Any) (many (until m.CloseBracket) name_here)
 name_list_rule = many_rule spell_name Free Any (until m.CloseBracket) name_here name_rule (λ x rest. omega arith) (record { begins = λ x rest good. refl; follows = λ x rest good. tt })
 
 names_are : (x : Names) (rest : List Sym) (r : ℕ) → names (at (spell_names x rest) r) ≡ Ok (x, at rest r)
@@ -345,7 +345,7 @@ names_by_ok : (s : Option Sym) (i j : Input) (x : Names) → names_by s i ≡ Ok
 names_by_ok (Some (mark m.OpenBracket)) i j x h = name_list_ok i j x h
 names_by_ok s i j x h = wrap_ok spell_name Free spell_names Free name_here one name_takes (λ i j w t. record { tokens = t.tokens; good = tt }) i j x h
 
-names_ok : (i j : Input) (x : Names) → names i ≡ Ok (x, j) → Takes spell_names Free i x j
+pub names_ok : (i j : Input) (x : Names) → names i ≡ Ok (x, j) → Takes spell_names Free i x j
 unfolding names
 names_ok i j x h = names_by_ok (first i.rest) i j x h
 
@@ -439,7 +439,7 @@ pcode_ops_ok i j d h =
       good = tt;
     })
 
-own_order_rule : Rule (spell_option spell_order) (IfWritten Free) (Ends (is_keyword k.Endian) Any) (optional (is_keyword k.Endian) order)
+pub own_order_rule : Rule (spell_option spell_order) (IfWritten Free) (Ends (is_keyword k.Endian) Any) (optional (is_keyword k.Endian) order)
 own_order_rule = optional_rule spell_order Free Any (is_keyword k.Endian) order order_rule order_begins
 
 token_ok : Tells token_here
@@ -588,7 +588,7 @@ member_by_ok (Some (word (plain w))) i j x is h = took_one spell_member IsMember
 member_by_ok (Some (word (quoted k))) i j x is h = took_one spell_member IsMember i j (word (quoted k)) (member_word (quoted k)) x is (λ rest. refl) tt h
 member_by_ok s i j x is h = absurd (cc)
 
-member_ok : (i j : Input) (x : Member) → member i ≡ Ok (x, j) → Takes spell_member IsMember i x j
+pub member_ok : (i j : Input) (x : Member) → member i ≡ Ok (x, j) → Takes spell_member IsMember i x j
 unfolding member
 member_ok i j x h = member_by_ok (first i.rest) i j x refl h
 

@@ -4,7 +4,7 @@ use Rattle.sl_ast.specs.Operators.{Kind, in_section, in_action, in_constraint, i
 use Rattle.sl_ast.specs.Spelling.{spell_expression, spell_arguments}
 use Rattle.sl_ast.specs.Symbols.{Sym, number, mark}
 use Rattle.sl_ast.specs.Trees.{Name, Expression, Expressions, integer, named, paren, call, sized, dropped, bits, prefix, star, binary, no_more, with_more}
-use Rattle.sl_ast.specs.Validity.{Binds, AllBind, IsSome, weight, weights, IsExpression, heaviest}
+use Rattle.sl_ast.specs.Validity.{Binds, AllBind, IsSome, weight, weights, IsExpression}
 use Rattle.sl_ast.specs.Views.{arguments}
 use Rattle.sl_ast.specs.declared.expressions.BinaryOp.{BinaryOp}
 use Rattle.sl_ast.specs.declared.expressions.BinaryOp.TheVariants as b
@@ -241,12 +241,15 @@ mutual
   arguments_come kind no_more = λ k j found rest s binds some fits le. absurd some
   arguments_come kind (with_more e es) = arguments_step kind e es (facts kind e) (arguments_come kind es) (rank_most e)
 
--- An expression is read from its spelling, whatever follows that can't go on with it.
-pub complete : (kind : Kind) (e : Expression) (rest : List Sym) (r : ℕ) → IsExpression kind e → Stops kind loosest rest
-    → whole kind (at (spell_expression e rest) r) ≡ Ok (e, at rest r)
-unfolding whole
-complete kind e rest r is stops =
-    let fits = is.1 in
-    let left = heaviest - weight e in
-    let room : heaviest ≡ cost e left = omega (arith, cost_is e left) in
-    rw (ap (λ n. expression kind 257 loosest (at (spell_expression e rest) n)) room ∙ ends kind 256 loosest e rest left (facts kind e) is.0 (rank_most e) fits stops) refl
+-- ---- within a limit of operators and opening brackets
+
+module _ (most : ℕ) where
+  -- An expression is read from its spelling, whatever follows that can't go on with it.
+  pub complete : (kind : Kind) (e : Expression) (rest : List Sym) (r : ℕ) → IsExpression most kind e → Stops kind loosest rest
+      → whole most kind (at (spell_expression e rest) r) ≡ Ok (e, at rest r)
+  unfolding whole
+  complete kind e rest r is stops =
+      let fits = is.1 in
+      let left = most - weight e in
+      let room : most ≡ cost e left = omega (arith, cost_is e left) in
+      rw (ap (λ n. expression kind (suc most) loosest (at (spell_expression e rest) n)) room ∙ ends kind most loosest e rest left (facts kind e) is.0 (rank_most e) fits stops) refl

@@ -3,7 +3,6 @@ use Rattle.std.proofs.Common.{ℕ, zero, suc, ◌&&◌, length, Option, None, So
 use Rattle.sl_ast.specs.Operators.{Kind, in_section, in_action, in_constraint, is_section, right_rank, loosest, takes_size, takes_bits, takes_drop, missing_function, pattern_right_rank, pattern_loosest}
 use Rattle.sl_ast.specs.Symbols.{plain, quoted, Sym, number, word, mark}
 use Rattle.sl_ast.specs.Trees.{Name, Expression, integer, named, paren, call, sized, dropped, bits, prefix, star, binary, Pattern, bare, constraint, group, ellipsis, joined}
-use Rattle.sl_ast.specs.Validity.{heaviest}
 use Rattle.sl_ast.specs.Views.{arguments}
 use Rattle.sl_ast.specs.declared.expressions.PrefixOp.{PrefixOp}
 use Rattle.sl_ast.specs.declared.expressions.PrefixOp.TheVariants as p
@@ -19,7 +18,7 @@ use Rattle.sl_grammar.specs.Parallel.{Local}
 use Rattle.sl_grammar.specs.Patterns.{pattern_turn, relation_in, constrained, related, after_field, grouped, part, part_by, element, pattern, whole_pattern}
 use Rattle.sl_grammar.specs.Reader.{nesting, unsupported, Reader, ◌>>=◌, ◌>>◌, pure, enter, refuse, is_mark, expect, integer_here, name_here, size_here, size_option}
 use Rattle.sl_grammar.proofs.ExpressionSound as es
-use Rattle.sl_grammar.proofs.LocalSteps.{local_then, local_pure, local_fault, local_back, local_peek, local_refuse, local_skips, local_if, local_look, local_expect, local_integer, local_name, local_size, local_optional, local_size_option, local_enter, local_enters, local_room, Shrinks, local_separated}
+use Rattle.sl_grammar.proofs.LocalSteps.{local_then, local_pure, local_fault, local_peek, local_refuse, local_skips, local_if, local_look, local_expect, local_integer, local_name, local_size, local_optional, local_size_option, local_enter, local_enters, local_room, Shrinks, local_separated}
 use Rattle.sl_grammar.proofs.Measures.{long_expression}
 
 -- ---- loops over operators
@@ -63,7 +62,7 @@ called_local kind inner here shrinks w =
 
 called_by_local : (kind : Kind) (inner : ℕ → Reader Expression) → LocalInner inner → Shrinks (inner loosest) → (w : Name) (x : Option Feature) → Local Expression (called_by kind inner w x)
 called_by_local kind inner here shrinks w None = called_local kind inner here shrinks w
-called_by_local kind inner here shrinks w (Some feature) = local_back feature
+called_by_local kind inner here shrinks w (Some feature) = local_fault (unsupported feature 1)
 
 after_name_local : (kind : Kind) (inner : ℕ → Reader Expression) → LocalInner inner → Shrinks (inner loosest) → (w : Name) → Local Expression (after_name kind inner w)
 unfolding after_name
@@ -73,12 +72,12 @@ after_name_local kind inner here shrinks w =
 name_in_local : (kind : Kind) (inner : ℕ → Reader Expression) → LocalInner inner → Shrinks (inner loosest) → (place : Kind) (w : Name) → Local Expression (name_in kind inner place w)
 name_in_local kind inner here shrinks in_section w = local_skips (after_name kind inner w) (after_name_local kind inner here shrinks w)
 name_in_local kind inner here shrinks in_action w = local_skips (pure (named w)) (local_pure (named w))
-name_in_local kind inner here shrinks in_constraint w = local_fault (unsupported f.NameInConstraint)
+name_in_local kind inner here shrinks in_constraint w = local_fault (unsupported f.NameInConstraint 0)
 
 missing_name_local : (kind : Kind) (inner : ℕ → Reader Expression) (place : Kind) → Local Expression (missing_name_in kind inner place)
 missing_name_local kind inner in_section = local_refuse
 missing_name_local kind inner in_action = local_refuse
-missing_name_local kind inner in_constraint = local_fault (unsupported f.NameInConstraint)
+missing_name_local kind inner in_constraint = local_fault (unsupported f.NameInConstraint 0)
 
 atom_by_local : (kind : Kind) (inner : ℕ → Reader Expression) → LocalInner inner → Shrinks (inner loosest) → (o : Option Sym) → Local Expression (atom_by kind inner o)
 atom_by_local kind inner here shrinks (Some (number n)) = local_skips (pure (integer n)) (local_pure (integer n))
@@ -139,7 +138,7 @@ prefix_by_local kind inner here shrinks (Some (mark m.Minus)) = prefixed_local k
 prefix_by_local kind inner here shrinks (Some (mark m.Tilde)) = prefixed_local kind inner here p.Complement
 prefix_by_local kind inner here shrinks (Some (mark m.Exclamation)) = local_if (is_section kind) (prefixed kind inner p.Not) refuse (prefixed_local kind inner here p.Not) local_refuse
 prefix_by_local kind inner here shrinks (Some (mark m.Star)) = local_if (is_section kind) (starred kind inner) refuse (starred_local kind inner here) local_refuse
-prefix_by_local kind inner here shrinks (Some (mark m.Ampersand)) = local_fault (unsupported f.AddressOf)
+prefix_by_local kind inner here shrinks (Some (mark m.Ampersand)) = local_fault (unsupported f.AddressOf 0)
 prefix_by_local kind inner here shrinks o = postfix_local kind inner here shrinks
 
 tight_local : (kind : Kind) (inner : ℕ → Reader Expression) → LocalInner inner → Shrinks (inner loosest) → Local Expression (tight kind inner)
@@ -159,50 +158,53 @@ expression_local kind (suc k) n =
     local_then (tight kind (expression kind k)) _ (tight_local kind (expression kind k) (expression_local kind k) (shrinks kind k loosest))
     (λ e. grown_local (turn kind n) right_rank binary (expression kind k) (expression_local kind k) e)
 
-pub whole_local : (kind : Kind) → Local Expression (whole kind)
-unfolding whole
-whole_local kind = local_room heaviest (expression kind (suc heaviest) loosest) (expression_local kind (suc heaviest) loosest)
-
--- ---- patterns
-
-constrained_local : (w : Name) (rel : Relation) → Local Pattern (constrained w rel)
-unfolding constrained
-constrained_local w rel =
-    local_then enter _ local_enter (λ _. local_then (expression in_constraint (suc heaviest) loosest) _ (expression_local in_constraint (suc heaviest) loosest)
-    (λ e. local_pure (constraint w rel e)))
-
-related_local : (w : Name) (x : Option Relation) → Local Pattern (related w x)
-related_local w None = local_pure (bare w)
-related_local w (Some rel) = constrained_local w rel
-
-after_field_local : (w : Name) → Local Pattern (after_field w)
-unfolding after_field
-after_field_local w = local_peek (λ o. related w (relation_in o)) (λ o. related_local w (relation_in o))
-
 grouped_local : (inner : ℕ → Reader Pattern) → ((n : ℕ) → Local Pattern (inner n)) → Local Pattern (grouped inner)
 unfolding grouped
 grouped_local inner here =
     local_then enter _ local_enter (λ _. local_then (inner pattern_loosest) _ (here pattern_loosest) (λ p. local_then (expect m.Close) _ (local_expect m.Close) (λ _. local_pure (group p))))
 
-part_by_local : (inner : ℕ → Reader Pattern) → ((n : ℕ) → Local Pattern (inner n)) → (o : Option Sym) → Local Pattern (part_by inner o)
-part_by_local inner here (Some (word (plain w))) = local_skips (after_field w) (after_field_local w)
-part_by_local inner here (Some (mark m.Open)) = grouped_local inner here
-part_by_local inner here (Some (mark m.Ellipsis)) = local_fault (unsupported f.LeadingEllipsis)
-part_by_local inner here o = local_refuse
+-- ---- within a limit of operators and opening brackets
 
-element_local : (inner : ℕ → Reader Pattern) → ((n : ℕ) → Local Pattern (inner n)) → Local Pattern (element inner)
-unfolding element part
-element_local inner here =
-    local_then (part inner) _ (local_peek (part_by inner) (part_by_local inner here))
-    (λ p. local_look (is_mark m.Ellipsis) (enter >> pure (ellipsis p)) (pure p) (local_enters (pure (ellipsis p)) (local_pure (ellipsis p))) (local_pure p))
+module _ (most : ℕ) where
+  pub whole_local : (kind : Kind) → Local Expression (whole most kind)
+  unfolding whole
+  whole_local kind = local_room most (expression kind (suc most) loosest) (expression_local kind (suc most) loosest)
 
-pub pattern_local : (k n : ℕ) → Local Pattern (pattern k n)
-unfolding pattern
-pattern_local zero n = local_fault nesting
-pattern_local (suc k) n =
-    local_then (element (pattern k)) _ (element_local (pattern k) (pattern_local k))
-    (λ p. grown_local (pattern_turn n) pattern_right_rank joined (pattern k) (pattern_local k) p)
+  -- ---- patterns
 
-pub whole_pattern_local : Local Pattern whole_pattern
-unfolding whole_pattern
-whole_pattern_local = local_room heaviest (pattern (suc heaviest) pattern_loosest) (pattern_local (suc heaviest) pattern_loosest)
+  constrained_local : (w : Name) (rel : Relation) → Local Pattern (constrained most w rel)
+  unfolding constrained
+  constrained_local w rel =
+      local_then enter _ local_enter (λ _. local_then (expression in_constraint (suc most) loosest) _ (expression_local in_constraint (suc most) loosest)
+      (λ e. local_pure (constraint w rel e)))
+
+  related_local : (w : Name) (x : Option Relation) → Local Pattern (related most w x)
+  related_local w None = local_pure (bare w)
+  related_local w (Some rel) = constrained_local w rel
+
+  after_field_local : (w : Name) → Local Pattern (after_field most w)
+  unfolding after_field
+  after_field_local w = local_peek (λ o. (related most) w (relation_in o)) (λ o. related_local w (relation_in o))
+
+  part_by_local : (inner : ℕ → Reader Pattern) → ((n : ℕ) → Local Pattern (inner n)) → (o : Option Sym) → Local Pattern (part_by most inner o)
+  part_by_local inner here (Some (word (plain w))) = local_skips (after_field most w) (after_field_local w)
+  part_by_local inner here (Some (mark m.Open)) = grouped_local inner here
+  part_by_local inner here (Some (mark m.Ellipsis)) = local_fault (unsupported f.LeadingEllipsis 0)
+  part_by_local inner here o = local_refuse
+
+  element_local : (inner : ℕ → Reader Pattern) → ((n : ℕ) → Local Pattern (inner n)) → Local Pattern (element most inner)
+  unfolding element part
+  element_local inner here =
+      local_then (part most inner) _ (local_peek (part_by most inner) (part_by_local inner here))
+      (λ p. local_look (is_mark m.Ellipsis) (enter >> pure (ellipsis p)) (pure p) (local_enters (pure (ellipsis p)) (local_pure (ellipsis p))) (local_pure p))
+
+  pub pattern_local : (k n : ℕ) → Local Pattern (pattern most k n)
+  unfolding pattern
+  pattern_local zero n = local_fault nesting
+  pattern_local (suc k) n =
+      local_then (element most (pattern most k)) _ (element_local (pattern most k) (pattern_local k))
+      (λ p. grown_local (pattern_turn n) pattern_right_rank joined (pattern most k) (pattern_local k) p)
+
+  pub whole_pattern_local : Local Pattern (whole_pattern most)
+  unfolding whole_pattern
+  whole_pattern_local = local_room most (pattern most (suc most) pattern_loosest) (pattern_local (suc most) pattern_loosest)

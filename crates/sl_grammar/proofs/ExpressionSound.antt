@@ -4,7 +4,7 @@ use Rattle.sl_ast.specs.Operators.{Kind, in_section, in_action, in_constraint, i
 use Rattle.sl_ast.specs.Spelling.{name, spell_expression, spell_arguments, spell_more, spell_commas, spell_option, spell_space, spell_size}
 use Rattle.sl_ast.specs.Symbols.{plain, quoted, Sym, number, word, mark}
 use Rattle.sl_ast.specs.Trees.{Name, Expression, integer, named, paren, call, sized, dropped, bits, prefix, star, binary}
-use Rattle.sl_ast.specs.Validity.{Binds, AllBind, IsSome, Each, IsExpression, heaviest}
+use Rattle.sl_ast.specs.Validity.{Binds, AllBind, IsSome, Each, IsExpression}
 use Rattle.sl_ast.specs.Views.{arguments}
 use Rattle.sl_ast.specs.declared.expressions.BinaryOp.{BinaryOp}
 use Rattle.sl_ast.specs.declared.expressions.PrefixOp.{PrefixOp}
@@ -34,7 +34,7 @@ abbrev pub Sound : Kind → ℕ → Reader Expression → Type 0
 Sound kind n p = (i j : Input) (e : Expression) → p i ≡ Ok (e, j) → Reads kind n i e j
 
 -- each reader of operands is sound
-abbrev SoundInner : Kind → (ℕ → Reader Expression) → Type 0
+abbrev pub SoundInner : Kind → (ℕ → Reader Expression) → Type 0
 SoundInner kind inner = (n : ℕ) → Sound kind n (inner n)
 
 pub some_is : {A : Type 0} {a b : A} → ◌≡◌ {A = Option A} (Some a) (Some b) → a ≡ b
@@ -78,10 +78,10 @@ operator_is o op e = absurd (cc)
 
 -- ---- operators of two operands
 
-record MayFollow (kind : Kind) (n : ℕ) (l : Expression) (op : BinaryOp) : Type 0 where
-  has : has_operator kind op ≡ true
-  le : suc (right_rank op) ≤ n
-  low : rank l ≤ left_rank op
+pub record MayFollow (kind : Kind) (n : ℕ) (l : Expression) (op : BinaryOp) : Type 0 where
+  pub has : has_operator kind op ≡ true
+  pub le : suc (right_rank op) ≤ n
+  pub low : rank l ≤ left_rank op
 
 allowed_test : (kind : Kind) (n : ℕ) (l : Expression) (a op : BinaryOp) (b : Bool)
     → (has_operator kind a && (nat_le (suc (right_rank a)) n && nat_le (rank l) (left_rank a))) ≡ b → cond {A = Option BinaryOp} b (Some a) None ≡ Some op → (a ≡ op) × MayFollow kind n l a
@@ -97,7 +97,7 @@ allowed_is kind n l (Some a) op e =
     let h = allowed_test kind n l a op _ refl e in
     (ap (λ x. Some x) h.0, subst (λ x. MayFollow kind n l x) h.0 h.1)
 
-turn_ok : (kind : Kind) (n : ℕ) (l : Expression) (o : Option Sym) (op : BinaryOp) → turn kind n l o ≡ Some op → (o ≡ Some (mark (binary_mark op))) × MayFollow kind n l op
+pub turn_ok : (kind : Kind) (n : ℕ) (l : Expression) (o : Option Sym) (op : BinaryOp) → turn kind n l o ≡ Some op → (o ≡ Some (mark (binary_mark op))) × MayFollow kind n l op
 unfolding turn
 turn_ok kind n l o op e = let h = allowed_is kind n l (operator_of o) op e in (operator_is o op h.0, h.1)
 
@@ -158,7 +158,7 @@ bracketed_ok kind inner sound i j e is h =
       low = omega arith;
     })
 
-commas_are : (es : List Expression) (rest : List Sym) → spell_commas spell_expression es rest ≡ spell_more (arguments es) rest
+pub commas_are : (es : List Expression) (rest : List Sym) → spell_commas spell_expression es rest ≡ spell_more (arguments es) rest
 commas_are [] rest = refl
 commas_are (e ∷ es) rest = ap (λ xs. mark m.Comma ∷ spell_expression e xs) (commas_are es rest)
 
@@ -171,13 +171,13 @@ all_bind kind [] h = tt
 all_bind kind (e ∷ es) h = (h.0, all_bind kind es h.1)
 
 -- what stands between the brackets of a call
-record ReadsArguments (kind : Kind) (i : Input) (es : List Expression) (j : Input) : Type 0 where
-  tokens : i.rest ≡ spell_arguments (arguments es) j.rest
-  room : i.room ≡ costs (arguments es) j.room
-  some : IsSome (arguments es)
-  binds : AllBind kind (arguments es)
+pub record ReadsArguments (kind : Kind) (i : Input) (es : List Expression) (j : Input) : Type 0 where
+  pub tokens : i.rest ≡ spell_arguments (arguments es) j.rest
+  pub room : i.room ≡ costs (arguments es) j.room
+  pub some : IsSome (arguments es)
+  pub binds : AllBind kind (arguments es)
 
-arguments_ok : (kind : Kind) (inner : ℕ → Reader Expression) → SoundInner kind inner → (i j : Input) (es : List Expression) → separated (inner loosest) i ≡ Ok (es, j)
+pub arguments_ok : (kind : Kind) (inner : ℕ → Reader Expression) → SoundInner kind inner → (i j : Input) (es : List Expression) → separated (inner loosest) i ≡ Ok (es, j)
     → ReadsArguments kind i es j
 arguments_ok kind inner sound i j es h =
     let took = separated_ok spell_expression cost (Binds kind) (inner loosest)
@@ -242,7 +242,7 @@ atom_by_ok kind inner sound i j e (Some (word (quoted k.InstNext2))) is h = miss
 atom_by_ok kind inner sound i j e (Some (mark m.Open)) is h = bracketed_ok kind inner sound i j e is h
 atom_by_ok kind inner sound i j e o is h = absurd (cc)
 
-atom_ok : (kind : Kind) (inner : ℕ → Reader Expression) → SoundInner kind inner → Sound kind 0 (atom kind inner)
+pub atom_ok : (kind : Kind) (inner : ℕ → Reader Expression) → SoundInner kind inner → Sound kind 0 (atom kind inner)
 unfolding atom
 atom_ok kind inner sound i j e h = atom_by_ok kind inner sound i j e (first i.rest) refl h
 
@@ -345,11 +345,11 @@ prefixed_ok kind inner sound op has i j e is h =
     })
 
 -- the space of a star form inside an expression
-record TookSpace (i : Input) (place : Option Name) (j : Input) : Type 0 where
-  tokens : i.rest ≡ spell_option spell_space place j.rest
-  room : i.room ≡ space_cost place j.room
+pub record TookSpace (i : Input) (place : Option Name) (j : Input) : Type 0 where
+  pub tokens : i.rest ≡ spell_option spell_space place j.rest
+  pub room : i.room ≡ space_cost place j.room
 
-space_ok : (kind : Kind) (inner : ℕ → Reader Expression) (i j : Input) (place : Option Name) → space_in kind inner i ≡ Ok (place, j) → TookSpace i place j
+pub space_ok : (kind : Kind) (inner : ℕ → Reader Expression) (i j : Input) (place : Option Name) → space_in kind inner i ≡ Ok (place, j) → TookSpace i place j
 unfolding space_in
 space_ok kind inner i j place h = elim (look_ok (is_mark m.OpenBracket) _ _ i (Ok (place, j)) h) [
   | inl f ↦
@@ -404,7 +404,7 @@ prefix_by_ok kind inner sound i j e (Some (mark m.Star)) is h =
 prefix_by_ok kind inner sound i j e (Some (mark m.Ampersand)) is h = absurd (cc)
 prefix_by_ok kind inner sound i j e o is h = postfix_ok kind inner sound i j e h
 
-tight_ok : (kind : Kind) (inner : ℕ → Reader Expression) → SoundInner kind inner → Sound kind 0 (tight kind inner)
+pub tight_ok : (kind : Kind) (inner : ℕ → Reader Expression) → SoundInner kind inner → Sound kind 0 (tight kind inner)
 unfolding tight
 tight_ok kind inner sound i j e h = prefix_by_ok kind inner sound i j e (first i.rest) refl h
 
@@ -420,20 +420,23 @@ sound kind (suc k) n i j e h =
     let grown = climb_ok kind k n (suc a.1.room) (sound kind k) a.0 a.1 j e read.binds (omega arith) a.3 in
     record { tokens = read.tokens ∙ grown.tokens; room = read.room ∙ grown.room; binds = grown.binds; low = grown.low }
 
--- what was read as an expression that stands in no other
-pub record ReadsWhole (kind : Kind) (i : Input) (e : Expression) (j : Input) : Type 0 where
-  pub tokens : i.rest ≡ spell_expression e j.rest
-  pub room : i.room ≡ j.room
-  pub is : IsExpression kind e
+-- ---- within a limit of operators and opening brackets
 
-with_room_ok : (kind : Kind) (i j : Input) (e : Expression) (o : Outcome Expression) → expression kind (suc heaviest) loosest (at i.rest heaviest) ≡ o
-    → with_room i.room o ≡ Ok (e, j) → ReadsWhole kind i e j
-with_room_ok kind i j e (Ok (d, k)) is h =
-    let read = sound kind (suc heaviest) loosest (at i.rest heaviest) k d is in
-    let spent = read.room in
-    along (λ x l. ReadsWhole kind i x l) d e (at k.rest i.room) j h (record { tokens = read.tokens; room = refl; is = (read.binds, omega (arith, cost_is d k.room)) })
-with_room_ok kind i j e (Err x) is h = absurd (cc)
+module _ (most : ℕ) where
+  -- what was read as an expression that stands in no other
+  pub record ReadsWhole (kind : Kind) (i : Input) (e : Expression) (j : Input) : Type 0 where
+    pub tokens : i.rest ≡ spell_expression e j.rest
+    pub room : i.room ≡ j.room
+    pub is : IsExpression most kind e
 
-pub whole_ok : (kind : Kind) (i j : Input) (e : Expression) → whole kind i ≡ Ok (e, j) → ReadsWhole kind i e j
-unfolding whole
-whole_ok kind i j e h = with_room_ok kind i j e (expression kind (suc heaviest) loosest (at i.rest heaviest)) refl h
+  with_room_ok : (kind : Kind) (i j : Input) (e : Expression) (o : Outcome Expression) → expression kind (suc most) loosest (at i.rest most) ≡ o
+      → with_room i.room o ≡ Ok (e, j) → ReadsWhole kind i e j
+  with_room_ok kind i j e (Ok (d, k)) is h =
+      let read = sound kind (suc most) loosest (at i.rest most) k d is in
+      let spent = read.room in
+      along (λ x l. ReadsWhole kind i x l) d e (at k.rest i.room) j h (record { tokens = read.tokens; room = refl; is = (read.binds, omega (arith, cost_is d k.room)) })
+  with_room_ok kind i j e (Err x) is h = absurd (cc)
+
+  pub whole_ok : (kind : Kind) (i j : Input) (e : Expression) → whole most kind i ≡ Ok (e, j) → ReadsWhole kind i e j
+  unfolding whole
+  whole_ok kind i j e h = with_room_ok kind i j e (expression kind (suc most) loosest (at i.rest most)) refl h

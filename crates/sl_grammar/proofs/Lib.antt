@@ -17,3 +17,4 @@ pub mod DefinitionRules
 pub mod ConstructorRules
 pub mod ItemRules
 pub mod Faults
+pub mod Keeps

@@ -2,15 +2,14 @@
 use Rattle.std.proofs.Common.{◌≡◌, ℕ, zero, suc, ◌+◌, ◌<◌, ◌≤◌, Bool, true, false, cond, nat_le, List, [], ◌∷◌, ◌++◌, length, drop, Option, None, Some, Ok, Err, refl, ap, ◌∙◌, subst, arith, length-append}
 use Rattle.sl_ast.specs.Symbols.{plain, Sym, number, word}
 use Rattle.sl_ast.specs.Trees.{Name}
-use Rattle.sl_ast.specs.declared.symbols.Feature.{Feature}
 use Rattle.sl_ast.specs.declared.symbols.Feature.TheVariants as f
 use Rattle.sl_ast.specs.declared.symbols.Keyword.{Keyword}
 use Rattle.sl_ast.specs.declared.symbols.Mark.{Mark}
 use Rattle.sl_ast.specs.declared.symbols.Mark.TheVariants as m
 use Rattle.sl_grammar.specs.Lists.{many_from, many, separated_from, separated}
 use Rattle.sl_grammar.specs.Expressions.{with_room}
-use Rattle.sl_grammar.specs.Parallel.{IsPastAt, IsPast, Parallel, both_ok, both_fault, past, Local}
-use Rattle.sl_grammar.specs.Reader.{Form, syntax, nesting, unsupported, Fault, fault, Input, at, left, first, Outcome, Reader, and_then, ◌>>=◌, ◌>>◌, pure, next, skip, enter, unsupport, refused_as, refuse, look, is_mark, is_keyword, expect, expect_keyword, number_by, integer_here, name_by, name_here, size_by, size_here, optional, size_option}
+use Rattle.sl_grammar.specs.Parallel.{IsPast, Parallel, both_ok, both_fault, past, Local}
+use Rattle.sl_grammar.specs.Reader.{Form, nesting, unsupported, Fault, fault, Input, at, left, first, Outcome, Reader, and_then, ◌>>=◌, ◌>>◌, pure, next, skip, enter, unsupport, refused_as, refuse, look, is_mark, is_keyword, expect, expect_keyword, number_by, integer_here, name_by, name_here, size_by, size_here, optional, size_option}
 
 then_past : {A B : Type 0} (o : Outcome A) (go : A → Reader B) (ys : List Sym) → ((a : A) → Local B (go a)) → IsPast ys o → IsPast ys (and_then o go)
 then_past (Ok p) go ys later h = (later p.0).forward p.1 ys h
@@ -31,29 +30,10 @@ local_then p go here later = record {
 pub local_pure : {A : Type 0} (a : A) → Local A (pure a)
 local_pure a = record { alike = λ x xs ys zs r. both_ok a xs r; forward = λ i ys h. h }
 
-past_at : (form : Form) (n most : ℕ) → n < most → IsPastAt form n most
-past_at syntax n most h = h
-past_at nesting n most h = h
-past_at (unsupported feature) n most h = tt
-
 pub local_fault : {A : Type 0} (form : Form) → Local A (λ i. Err (fault form (left i)))
 local_fault form = record {
   alike = λ x xs ys zs r. both_fault form (length xs) _ _ (length-append xs (x ∷ ys)) (length-append xs (x ∷ zs));
-  forward = λ i ys h. past_at form (length i.rest) (length ys) h;
-}
-
--- a form that began one symbol before
-pub local_back : {A : Type 0} (feature : Feature) → Local A (λ i. Err (fault (unsupported feature) (suc (left i))))
-local_back feature = record {
-  alike = λ x xs ys zs r. both_fault (unsupported feature) (suc (length xs)) _ _ (omega (arith, length-append xs (x ∷ ys))) (omega (arith, length-append xs (x ∷ zs)));
-  forward = λ i ys h. tt;
-}
-
--- a form that began two symbols before
-pub local_deep : {A : Type 0} (feature : Feature) → Local A (λ i. Err (fault (unsupported feature) (suc (suc (left i)))))
-local_deep feature = record {
-  alike = λ x xs ys zs r. both_fault (unsupported feature) (suc (suc (length xs))) _ _ (omega (arith, length-append xs (x ∷ ys))) (omega (arith, length-append xs (x ∷ zs)));
-  forward = λ i ys h. tt;
+  forward = λ i ys h. h;
 }
 
 first_alike : (x : Sym) (xs ys zs : List Sym) → first (xs ++ x ∷ ys) ≡ first (xs ++ x ∷ zs)
@@ -117,7 +97,7 @@ unfolding name_here
 local_name = local_peek name_by name_by_local
 
 size_by_local : (o : Option Sym) → Local ℕ (size_by o)
-size_by_local (Some (number n)) = local_if (nat_le n 16) (skip >> pure n) (unsupport f.WideValue) (local_skips (pure n) (local_pure n)) (local_fault (unsupported f.WideValue))
+size_by_local (Some (number n)) = local_if (nat_le n 16) (skip >> pure n) (unsupport f.WideValue 0) (local_skips (pure n) (local_pure n)) (local_fault (unsupported f.WideValue 0))
 size_by_local o = local_refuse
 
 pub local_size : Local ℕ size_here
@@ -253,13 +233,13 @@ same_fault : {A : Type 0} (e g : Fault) → ◌≡◌ {A = Outcome A} (Err e) (E
 unfolding fault_or
 same_fault e g h = ap (fault_or e) h
 
-pub fault_stays : {A : Type 0} (form : Form) → ((n : ℕ) → IsPastAt form n n → ⊥) → (x : Sym) (ys zs : List Sym) (o p : Outcome A) → Parallel A (x ∷ ys) (x ∷ zs) o p
+pub fault_stays : {A : Type 0} (form : Form) (x : Sym) (ys zs : List Sym) (o p : Outcome A) → Parallel A (x ∷ ys) (x ∷ zs) o p
     → o ≡ Err (fault form (length (x ∷ ys))) → p ≡ Err (fault form (length (x ∷ zs)))
-fault_stays form never x ys zs _ _ (both_ok a xs r) h = absurd (cc)
-fault_stays form never x ys zs _ _ (both_fault other d m n e g) h =
+fault_stays form x ys zs _ _ (both_ok a xs r) h = absurd (cc)
+fault_stays form x ys zs _ _ (both_fault other d m n e g) h =
     let same = same_fault (fault other m) (fault form (suc (length ys))) h in
     let here : m ≡ suc (length ys) = ap (λ y. y.left) same in
     let there : n ≡ suc (length zs) = omega arith in
     let kind : other ≡ form = ap (λ y. y.form) same in
     ap (λ y. Err (fault y n)) kind ∙ ap (λ k. Err (fault form k)) there
-fault_stays form never x ys zs _ _ (past o p h k) e = absurd (never (length (x ∷ ys)) (subst (IsPast (x ∷ ys)) e h))
+fault_stays form x ys zs _ _ (past o p h k) e = let less : suc (length ys) < suc (length ys) = subst (IsPast (x ∷ ys)) e h in absurd (omega arith)

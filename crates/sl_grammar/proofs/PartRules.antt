@@ -35,9 +35,6 @@ symbol_then i x j ys took e = took.tokens ∙ ap (λ xs. x ∷ xs) e
 pub tree_then : {A : Type 0} (spell : Spelling A) (Good : A → Type 0) (i : Input) (a : A) (j : Input) (ys : List Sym) → Takes spell Good i a j → j.rest ≡ ys → i.rest ≡ spell a ys
 tree_then spell Good i a j ys took e = took.tokens ∙ ap (spell a) e
 
-pub whole_takes : (kind : Kind) (i j : Input) (e : Expression) → whole kind i ≡ Ok (e, j) → Takes spell_expression (IsExpression kind) i e j
-whole_takes kind i j e h = let w = whole_ok kind i j e h in record { tokens = w.tokens; good = w.is }
-
 pub size_option_takes : (i j : Input) (x : Option ℕ) → size_option i ≡ Ok (x, j) → Takes (spell_option spell_size) (IfWritten IsWidth) i x j
 size_option_takes i j x h = let w = size_option_ok i j x h in record { tokens = w.tokens; good = w.good }
 
@@ -67,18 +64,6 @@ stops_bracket kind rest = stops_by kind loosest (mark m.CloseBracket ∷ rest) r
 
 pub stops_goto : (kind : Kind) (rest : List Sym) → Stops kind loosest (keyword k.Goto ∷ rest)
 stops_goto kind rest = stops_by kind loosest (keyword k.Goto ∷ rest) refl (record { no_colon = refl; no_open = refl; no_bracket = refl })
-
--- ---- rules of what was proved before
-
-pub whole_rule : (kind : Kind) → Rule spell_expression (IsExpression kind) (Stops kind loosest) (whole kind)
-whole_rule kind = record { complete = λ e rest r good may. ec.complete kind e rest r good may; sound = whole_takes kind; here = whole_local kind }
-
-pub pattern_rule : Rule spell_pattern IsPattern (PatternStops pattern_loosest) whole_pattern
-pattern_rule = record {
-  complete = λ p rest r good may. pc.complete p rest r good may;
-  sound = λ i j p h. (let w = whole_pattern_ok i j p h in record { tokens = w.tokens; good = w.is });
-  here = whole_pattern_local;
-}
 
 name_is : (w : Name) (rest : List Sym) (r : ℕ) → name_here (at (name w ∷ rest) r) ≡ Ok (w, at rest r)
 unfolding name_here
@@ -142,7 +127,7 @@ unfolding space_name
 space_local = local_then (expect m.OpenBracket) _ (local_expect m.OpenBracket) (λ _. local_then name_here _ local_name
     (λ w. local_then (expect m.CloseBracket) _ (local_expect m.CloseBracket) (λ _. local_pure w)))
 
-space_rule : Rule spell_space Free Any space_name
+pub space_rule : Rule spell_space Free Any space_name
 space_rule = record { complete = λ w rest r good may. space_is w rest r; sound = space_ok; here = space_local }
 
 space_begins : (w : Name) (rest : List Sym) → is_mark m.OpenBracket (first (spell_space w rest)) ≡ true
@@ -193,30 +178,6 @@ star_local = local_then (expect m.Star) _ (local_expect m.Star) (λ _. local_the
 pub star_rule : Rule spell_star IsStarForm NoStarTail star_form
 star_rule = record { complete = λ form rest r good may. star_is form rest r good may; sound = star_ok; here = star_local }
 
--- ---- values, labels, computed targets
-
-value_is : (e : Expression) (rest : List Sym) (r : ℕ) → IsExpression in_section e → Stops in_section loosest rest → value_here (at (spell_value e rest) r) ≡ Ok (e, at rest r)
-unfolding value_here expect same_mark
-value_is e rest r good may = rw (ec.complete in_section e rest r good may) refl
-
-value_ok : (i j : Input) (e : Expression) → value_here i ≡ Ok (e, j) → Takes spell_value (IsExpression in_section) i e j
-unfolding value_here
-value_ok i j e h =
-    let a = then_ok (expect m.Equals i) _ e j h in
-    let b = then_ok (whole in_section a.1) _ e j a.3 in
-    let read = whole_takes in_section a.1 b.1 b.0 b.2 in
-    along (λ y l. Takes spell_value (IsExpression in_section) i y l) b.0 e b.1 j b.3 (record {
-      tokens = symbol_then i (mark m.Equals) a.1 _ (expect_ok m.Equals i a.1 a.0 a.2) read.tokens;
-      good = read.good;
-    })
-
-value_local : Local Expression value_here
-unfolding value_here
-value_local = local_then (expect m.Equals) _ (local_expect m.Equals) (λ _. local_then (whole in_section) _ (whole_local in_section) (λ e. local_pure e))
-
-pub value_rule : Rule spell_value (IsExpression in_section) (Stops in_section loosest) value_here
-value_rule = record { complete = λ e rest r good may. value_is e rest r good may; sound = value_ok; here = value_local }
-
 label_is : (w : Name) (rest : List Sym) (r : ℕ) → label_here (at (spell_label w rest) r) ≡ Ok (w, at rest r)
 unfolding label_here expect name_here same_mark
 label_is w rest r = refl
@@ -239,31 +200,6 @@ label_local = local_then (expect m.Less) _ (local_expect m.Less) (λ _. local_th
 
 pub label_rule : Rule spell_label Free Any label_here
 label_rule = record { complete = λ w rest r good may. label_is w rest r; sound = label_ok; here = label_local }
-
-computed_is : (e : Expression) (rest : List Sym) (r : ℕ) → IsExpression in_section e → computed_here (at (spell_computed e rest) r) ≡ Ok (e, at rest r)
-unfolding computed_here expect same_mark
-computed_is e rest r good = rw (ec.complete in_section e (mark m.CloseBracket ∷ rest) r good (stops_bracket in_section rest)) refl
-
-computed_ok : (i j : Input) (e : Expression) → computed_here i ≡ Ok (e, j) → Takes spell_computed (IsExpression in_section) i e j
-unfolding computed_here
-computed_ok i j e h =
-    let a = then_ok (expect m.OpenBracket i) _ e j h in
-    let b = then_ok (whole in_section a.1) _ e j a.3 in
-    let c = then_ok (expect m.CloseBracket b.1) _ e j b.3 in
-    let read = whole_takes in_section a.1 b.1 b.0 b.2 in
-    let closed = expect_ok m.CloseBracket b.1 c.1 c.0 c.2 in
-    along (λ y l. Takes spell_computed (IsExpression in_section) i y l) b.0 e c.1 j c.3 (record {
-      tokens = symbol_then i (mark m.OpenBracket) a.1 _ (expect_ok m.OpenBracket i a.1 a.0 a.2) (tree_then spell_expression (IsExpression in_section) a.1 b.0 b.1 _ read closed.tokens);
-      good = read.good;
-    })
-
-computed_local : Local Expression computed_here
-unfolding computed_here
-computed_local = local_then (expect m.OpenBracket) _ (local_expect m.OpenBracket) (λ _. local_then (whole in_section) _ (whole_local in_section)
-    (λ e. local_then (expect m.CloseBracket) _ (local_expect m.CloseBracket) (λ _. local_pure e)))
-
-pub computed_rule : Rule spell_computed (IsExpression in_section) Any computed_here
-computed_rule = record { complete = λ e rest r good may. computed_is e rest r good; sound = computed_ok; here = computed_local }
 
 -- ---- a reader whose tree is wrapped
 
@@ -305,59 +241,6 @@ direct_local = local_peek direct_by direct_by_local
 pub direct_rule : Rule spell_direct Free Any direct_here
 direct_rule = record { complete = λ to rest r good may. direct_is to rest r; sound = direct_ok; here = direct_local }
 
-dest_is : (to : Dest) (rest : List Sym) (r : ℕ) → IsDest to → dest (at (spell_dest to rest) r) ≡ Ok (to, at rest r)
-unfolding dest
-dest_is (direct (to_label w)) rest r good = rw (direct_is (to_label w) rest r) refl
-dest_is (direct (to_operand (by_name w))) rest r good = rw (direct_is (to_operand (by_name w)) rest r) refl
-dest_is (direct (to_operand (by_integer n))) rest r good = rw (direct_is (to_operand (by_integer n)) rest r) refl
-dest_is (computed e) rest r good = rw (computed_is e rest r good) refl
-
-dest_by_ok : (o : Option Sym) (i j : Input) (to : Dest) → dest_by o i ≡ Ok (to, j) → Takes spell_dest IsDest i to j
-dest_by_ok (Some (mark m.OpenBracket)) i j to h =
-    wrap_ok spell_computed (IsExpression in_section) spell_dest IsDest computed_here computed computed_ok (λ i j e t. record { tokens = t.tokens; good = t.good }) i j to h
-dest_by_ok o i j to h = wrap_ok spell_direct Free spell_dest IsDest direct_here direct direct_ok (λ i j x t. record { tokens = t.tokens; good = tt }) i j to h
-
-dest_ok : (i j : Input) (to : Dest) → dest i ≡ Ok (to, j) → Takes spell_dest IsDest i to j
-unfolding dest
-dest_ok i j to h = dest_by_ok (first i.rest) i j to h
-
-dest_by_local : (o : Option Sym) → Local Dest (dest_by o)
-dest_by_local (Some (mark m.OpenBracket)) = wrap_local computed_here computed computed_local
-dest_by_local o = wrap_local direct_here direct direct_local
-
-dest_local : Local Dest dest
-unfolding dest
-dest_local = local_peek dest_by dest_by_local
-
-pub dest_rule : Rule spell_dest IsDest Any dest
-dest_rule = record { complete = λ to rest r good may. dest_is to rest r good; sound = dest_ok; here = dest_local }
-
-target_is : (to : Target) (rest : List Sym) (r : ℕ) → IsTarget to → target (at (spell_target to rest) r) ≡ Ok (to, at rest r)
-unfolding target
-target_is (calls (by_name w)) rest r good = rw (operand_is (by_name w) rest r) refl
-target_is (calls (by_integer n)) rest r good = rw (operand_is (by_integer n) rest r) refl
-target_is (calls_computed e) rest r good = rw (computed_is e rest r good) refl
-
-target_by_ok : (o : Option Sym) (i j : Input) (to : Target) → target_by o i ≡ Ok (to, j) → Takes spell_target IsTarget i to j
-target_by_ok (Some (mark m.OpenBracket)) i j to h =
-    wrap_ok spell_computed (IsExpression in_section) spell_target IsTarget computed_here calls_computed computed_ok (λ i j e t. record { tokens = t.tokens; good = t.good }) i j to h
-target_by_ok o i j to h = wrap_ok spell_operand Free spell_target IsTarget operand calls operand_ok (λ i j x t. record { tokens = t.tokens; good = tt }) i j to h
-
-target_ok : (i j : Input) (to : Target) → target i ≡ Ok (to, j) → Takes spell_target IsTarget i to j
-unfolding target
-target_ok i j to h = target_by_ok (first i.rest) i j to h
-
-target_by_local : (o : Option Sym) → Local Target (target_by o)
-target_by_local (Some (mark m.OpenBracket)) = wrap_local computed_here calls_computed computed_local
-target_by_local o = wrap_local operand calls operand_local
-
-target_local : Local Target target
-unfolding target
-target_local = local_peek target_by target_by_local
-
-pub target_rule : Rule spell_target IsTarget Any target
-target_rule = record { complete = λ to rest r good may. target_is to rest r good; sound = target_ok; here = target_local }
-
 -- ---- exports
 
 operand_no_tail : (x : Operand) (rest : List Sym) → NoStarTail (spell_operand x rest)
@@ -396,3 +279,123 @@ exported_local = local_peek exported_by exported_by_local
 
 pub exported_rule : Rule spell_exported IsExported Any exported
 exported_rule = record { complete = λ x rest r good may. exported_is x rest r good; sound = exported_ok; here = exported_local }
+
+-- ---- within a limit of operators and opening brackets
+
+module _ (most : ℕ) where
+  pub whole_takes : (kind : Kind) (i j : Input) (e : Expression) → whole most kind i ≡ Ok (e, j) → Takes spell_expression (IsExpression most kind) i e j
+  whole_takes kind i j e h = let w = whole_ok most kind i j e h in record { tokens = w.tokens; good = w.is }
+
+  -- ---- rules of what was proved before
+
+  pub whole_rule : (kind : Kind) → Rule spell_expression (IsExpression most kind) (Stops kind loosest) (whole most kind)
+  whole_rule kind = record { complete = λ e rest r good may. (ec.complete most) kind e rest r good may; sound = whole_takes kind; here = whole_local most kind }
+
+  pub pattern_rule : Rule spell_pattern (IsPattern most) (PatternStops pattern_loosest) (whole_pattern most)
+  pattern_rule = record {
+    complete = λ p rest r good may. (pc.complete most) p rest r good may;
+    sound = λ i j p h. (let w = whole_pattern_ok most i j p h in record { tokens = w.tokens; good = w.is });
+    here = (whole_pattern_local most);
+  }
+
+  -- ---- values, labels, computed targets
+
+  value_is : (e : Expression) (rest : List Sym) (r : ℕ) → IsExpression most in_section e → Stops in_section loosest rest → value_here most (at (spell_value e rest) r) ≡ Ok (e, at rest r)
+  unfolding value_here expect same_mark
+  value_is e rest r good may = rw (ec.complete most in_section e rest r good may) refl
+
+  value_ok : (i j : Input) (e : Expression) → value_here most i ≡ Ok (e, j) → Takes spell_value (IsExpression most in_section) i e j
+  unfolding value_here
+  value_ok i j e h =
+      let a = then_ok (expect m.Equals i) _ e j h in
+      let b = then_ok (whole most in_section a.1) _ e j a.3 in
+      let read = whole_takes in_section a.1 b.1 b.0 b.2 in
+      along (λ y l. Takes spell_value (IsExpression most in_section) i y l) b.0 e b.1 j b.3 (record {
+        tokens = symbol_then i (mark m.Equals) a.1 _ (expect_ok m.Equals i a.1 a.0 a.2) read.tokens;
+        good = read.good;
+      })
+
+  value_local : Local Expression (value_here most)
+  unfolding value_here
+  value_local = local_then (expect m.Equals) _ (local_expect m.Equals) (λ _. local_then (whole most in_section) _ (whole_local most in_section) (λ e. local_pure e))
+
+  pub value_rule : Rule spell_value (IsExpression most in_section) (Stops in_section loosest) (value_here most)
+  value_rule = record { complete = λ e rest r good may. value_is e rest r good may; sound = value_ok; here = value_local }
+
+  computed_is : (e : Expression) (rest : List Sym) (r : ℕ) → IsExpression most in_section e → computed_here most (at (spell_computed e rest) r) ≡ Ok (e, at rest r)
+  unfolding computed_here expect same_mark
+  computed_is e rest r good = rw (ec.complete most in_section e (mark m.CloseBracket ∷ rest) r good (stops_bracket in_section rest)) refl
+
+  computed_ok : (i j : Input) (e : Expression) → computed_here most i ≡ Ok (e, j) → Takes spell_computed (IsExpression most in_section) i e j
+  unfolding computed_here
+  computed_ok i j e h =
+      let a = then_ok (expect m.OpenBracket i) _ e j h in
+      let b = then_ok (whole most in_section a.1) _ e j a.3 in
+      let c = then_ok (expect m.CloseBracket b.1) _ e j b.3 in
+      let read = whole_takes in_section a.1 b.1 b.0 b.2 in
+      let closed = expect_ok m.CloseBracket b.1 c.1 c.0 c.2 in
+      along (λ y l. Takes spell_computed (IsExpression most in_section) i y l) b.0 e c.1 j c.3 (record {
+        tokens = symbol_then i (mark m.OpenBracket) a.1 _ (expect_ok m.OpenBracket i a.1 a.0 a.2) (tree_then spell_expression (IsExpression most in_section) a.1 b.0 b.1 _ read closed.tokens);
+        good = read.good;
+      })
+
+  computed_local : Local Expression (computed_here most)
+  unfolding computed_here
+  computed_local = local_then (expect m.OpenBracket) _ (local_expect m.OpenBracket) (λ _. local_then (whole most in_section) _ (whole_local most in_section)
+      (λ e. local_then (expect m.CloseBracket) _ (local_expect m.CloseBracket) (λ _. local_pure e)))
+
+  pub computed_rule : Rule spell_computed (IsExpression most in_section) Any (computed_here most)
+  computed_rule = record { complete = λ e rest r good may. computed_is e rest r good; sound = computed_ok; here = computed_local }
+
+  dest_is : (to : Dest) (rest : List Sym) (r : ℕ) → IsDest most to → dest most (at (spell_dest to rest) r) ≡ Ok (to, at rest r)
+  unfolding dest
+  dest_is (direct (to_label w)) rest r good = rw (direct_is (to_label w) rest r) refl
+  dest_is (direct (to_operand (by_name w))) rest r good = rw (direct_is (to_operand (by_name w)) rest r) refl
+  dest_is (direct (to_operand (by_integer n))) rest r good = rw (direct_is (to_operand (by_integer n)) rest r) refl
+  dest_is (computed e) rest r good = rw (computed_is e rest r good) refl
+
+  dest_by_ok : (o : Option Sym) (i j : Input) (to : Dest) → dest_by most o i ≡ Ok (to, j) → Takes spell_dest (IsDest most) i to j
+  dest_by_ok (Some (mark m.OpenBracket)) i j to h =
+      wrap_ok spell_computed (IsExpression most in_section) spell_dest (IsDest most) (computed_here most) computed computed_ok (λ i j e t. record { tokens = t.tokens; good = t.good }) i j to h
+  dest_by_ok o i j to h = wrap_ok spell_direct Free spell_dest (IsDest most) direct_here direct direct_ok (λ i j x t. record { tokens = t.tokens; good = tt }) i j to h
+
+  dest_ok : (i j : Input) (to : Dest) → dest most i ≡ Ok (to, j) → Takes spell_dest (IsDest most) i to j
+  unfolding dest
+  dest_ok i j to h = dest_by_ok (first i.rest) i j to h
+
+  dest_by_local : (o : Option Sym) → Local Dest (dest_by most o)
+  dest_by_local (Some (mark m.OpenBracket)) = wrap_local (computed_here most) computed computed_local
+  dest_by_local o = wrap_local direct_here direct direct_local
+
+  dest_local : Local Dest (dest most)
+  unfolding dest
+  dest_local = local_peek (dest_by most) dest_by_local
+
+  pub dest_rule : Rule spell_dest (IsDest most) Any (dest most)
+  dest_rule = record { complete = λ to rest r good may. dest_is to rest r good; sound = dest_ok; here = dest_local }
+
+  target_is : (to : Target) (rest : List Sym) (r : ℕ) → IsTarget most to → target most (at (spell_target to rest) r) ≡ Ok (to, at rest r)
+  unfolding target
+  target_is (calls (by_name w)) rest r good = rw (operand_is (by_name w) rest r) refl
+  target_is (calls (by_integer n)) rest r good = rw (operand_is (by_integer n) rest r) refl
+  target_is (calls_computed e) rest r good = rw (computed_is e rest r good) refl
+
+  target_by_ok : (o : Option Sym) (i j : Input) (to : Target) → target_by most o i ≡ Ok (to, j) → Takes spell_target (IsTarget most) i to j
+  target_by_ok (Some (mark m.OpenBracket)) i j to h =
+      wrap_ok spell_computed (IsExpression most in_section) spell_target (IsTarget most) (computed_here most) calls_computed computed_ok (λ i j e t. record { tokens = t.tokens; good = t.good }) i j to h
+  target_by_ok o i j to h = wrap_ok spell_operand Free spell_target (IsTarget most) operand calls operand_ok (λ i j x t. record { tokens = t.tokens; good = tt }) i j to h
+
+  target_ok : (i j : Input) (to : Target) → target most i ≡ Ok (to, j) → Takes spell_target (IsTarget most) i to j
+  unfolding target
+  target_ok i j to h = target_by_ok (first i.rest) i j to h
+
+  target_by_local : (o : Option Sym) → Local Target (target_by most o)
+  target_by_local (Some (mark m.OpenBracket)) = wrap_local (computed_here most) calls_computed computed_local
+  target_by_local o = wrap_local operand calls operand_local
+
+  target_local : Local Target (target most)
+  unfolding target
+  target_local = local_peek (target_by most) target_by_local
+
+  pub target_rule : Rule spell_target (IsTarget most) Any (target most)
+  target_rule = record { complete = λ to rest r good may. target_is to rest r good; sound = target_ok; here = target_local }

@@ -4,7 +4,7 @@ use Rattle.sl_ast.specs.Operators.{in_constraint, loosest, relation_mark, patter
 use Rattle.sl_ast.specs.Spelling.{name, spell_expression, spell_pattern}
 use Rattle.sl_ast.specs.Symbols.{Sym, mark}
 use Rattle.sl_ast.specs.Trees.{Name, Expression, Pattern, bare, constraint, group, ellipsis, joined}
-use Rattle.sl_ast.specs.Validity.{PatternBinds, pattern_weight, IsPattern, heaviest}
+use Rattle.sl_ast.specs.Validity.{PatternBinds, pattern_weight, IsPattern}
 use Rattle.sl_ast.specs.declared.patterns.PatternOp.{PatternOp}
 use Rattle.sl_ast.specs.declared.patterns.PatternOp.TheVariants as j
 use Rattle.sl_ast.specs.declared.patterns.Relation.{Relation}
@@ -100,53 +100,6 @@ relation_is r.LessEqual = refl
 relation_is r.Greater = refl
 relation_is r.GreaterEqual = refl
 
-of_bare : (inner : ℕ → Reader Pattern) (w : Name) (rest : List Sym) (s : ℕ) → relation_in (first rest) ≡ None → part inner (at (name w ∷ rest) s) ≡ Ok (bare w, at rest s)
-unfolding part after_field
-of_bare inner w rest s h = rw h refl
-
-of_constraint : (inner : ℕ → Reader Pattern) (w : Name) (rel : Relation) (e : Expression) (xs rest : List Sym) (t s : ℕ)
-    → expression in_constraint (suc heaviest) loosest (at xs t) ≡ Ok (e, at rest s) → part inner (at (name w ∷ mark (relation_mark rel) ∷ xs) (suc t)) ≡ Ok (constraint w rel e, at rest s)
-unfolding part after_field constrained enter
-of_constraint inner w rel e xs rest t s h = rw (relation_is rel, h) refl
-
-of_group : (inner : ℕ → Reader Pattern) (p : Pattern) (xs rest : List Sym) (t s : ℕ) → inner pattern_loosest (at xs t) ≡ Ok (p, at (mark m.Close ∷ rest) s)
-    → part inner (at (mark m.Open ∷ xs) (suc t)) ≡ Ok (group p, at rest s)
-unfolding part grouped expect same_mark enter
-of_group inner p xs rest t s h = rw h refl
-
-of_part : (inner : ℕ → Reader Pattern) (i : Input) (p : Pattern) (rest : List Sym) (s : ℕ) → part inner i ≡ Ok (p, at rest s) → is_mark m.Ellipsis (first rest) ≡ false
-    → element inner i ≡ Ok (p, at rest s)
-unfolding element
-of_part inner i p rest s h no_ellipsis = rw (h, no_ellipsis) refl
-
-of_ellipsis : (inner : ℕ → Reader Pattern) (i : Input) (p : Pattern) (rest : List Sym) (s : ℕ) → part inner i ≡ Ok (p, at (mark m.Ellipsis ∷ rest) (suc s))
-    → element inner i ≡ Ok (ellipsis p, at rest s)
-unfolding element same_mark enter
-of_ellipsis inner i p rest s h = rw h refl
-
-abbrev pub Climbs : ℕ → ℕ → ℕ → Pattern → Reader Pattern
-Climbs k n m p = climb (pattern_turn n) pattern_right_rank joined (pattern k) m p
-
-climb_stops : (k n m : ℕ) (p : Pattern) (rest : List Sym) (s : ℕ) → pattern_turn n p (first rest) ≡ None → Climbs k n m p (at rest s) ≡ Ok (p, at rest s)
-unfolding climb
-climb_stops k n zero p rest s h = refl
-climb_stops k n (suc m) p rest s h = rw h refl
-
-of_joined : (k n m : ℕ) (op : PatternOp) (p q : Pattern) (xs rest : List Sym) (t s : ℕ) → pattern_turn n p (Some (mark (pattern_mark op))) ≡ Some op
-    → pattern k (pattern_right_rank op) (at xs t) ≡ Ok (q, at rest s)
-    → Climbs k n (suc m) p (at (mark (pattern_mark op) ∷ xs) (suc t)) ≡ Climbs k n m (joined op p q) (at rest s)
-unfolding climb enter
-of_joined k n m op p q xs rest t s allowed h = rw (allowed, h) refl
-
-of_element : (k n : ℕ) (i : Input) (p : Pattern) (rest : List Sym) (s : ℕ) → element (pattern k) i ≡ Ok (p, at rest s) → pattern (suc k) n i ≡ Climbs k n (suc s) p (at rest s)
-unfolding pattern
-of_element k n i p rest s h = rw h refl
-
--- ---- the induction
-
-abbrev Arrives : ℕ → ℕ → Pattern → List Sym → ℕ → Type 0
-Arrives k n p rest s = (m : ℕ) × (s < m) × (pattern (suc k) n (at (spell_pattern p rest) (pattern_cost p s)) ≡ Climbs k n m p (at rest s))
-
 -- the rank of what stands last, and could take an operator that follows
 abbrev last_rank : Pattern → ℕ
 last_rank (joined op p q) = pattern_right_rank op
@@ -166,97 +119,147 @@ rank_most (joined j.Then p q) = omega arith
 rank_most (joined j.Or p q) = omega arith
 rank_most p = omega arith
 
-pub record Facts (p : Pattern) : Type 0 where
-  pub as_part : (k : ℕ) (rest : List Sym) (s : ℕ) → PatternBinds p → takes_ellipsis p ≡ true → pattern_weight p ≤ k → k ≤ heaviest → Follows rest
-      → part (pattern k) (at (spell_pattern p rest) (pattern_cost p s)) ≡ Ok (p, at rest s)
-  pub arrives : (k n : ℕ) (rest : List Sym) (s : ℕ) → PatternBinds p → pattern_rank p ≤ n → pattern_weight p ≤ k → k ≤ heaviest → PatternStops (last_rank p) rest
-      → Arrives k n p rest s
+-- ---- within a limit of operators and opening brackets
 
-ends : (k n : ℕ) (p : Pattern) (rest : List Sym) (s : ℕ) → Facts p → PatternBinds p → pattern_rank p ≤ n → pattern_weight p ≤ k → k ≤ heaviest → PatternStops n rest
-    → pattern (suc k) n (at (spell_pattern p rest) (pattern_cost p s)) ≡ Ok (p, at rest s)
-ends k n p rest s facts binds low fits most stops =
-    let last = last_is p in
-    let come = facts.arrives k n rest s binds low fits most (stops_less n (last_rank p) rest (omega arith) stops) in
-    come.2 ∙ climb_stops k n come.0 p rest s (stops.quiet n p (omega arith))
+module _ (most : ℕ) where
+  of_bare : (inner : ℕ → Reader Pattern) (w : Name) (rest : List Sym) (s : ℕ) → relation_in (first rest) ≡ None → part most inner (at (name w ∷ rest) s) ≡ Ok (bare w, at rest s)
+  unfolding part after_field
+  of_bare inner w rest s h = rw h refl
 
-of_a_part : (p : Pattern) → takes_ellipsis p ≡ true
-    → ((k : ℕ) (rest : List Sym) (s : ℕ) → PatternBinds p → pattern_weight p ≤ k → k ≤ heaviest → Follows rest → part (pattern k) (at (spell_pattern p rest) (pattern_cost p s)) ≡ Ok (p, at rest s))
-    → Facts p
-of_a_part p takes read = record {
-  as_part = λ k rest s binds _ fits most follows. read k rest s binds fits most follows;
-  arrives = λ k n rest s binds low fits most stops. (
-    suc s,
-    omega arith,
-    of_element k n (at (spell_pattern p rest) (pattern_cost p s)) p rest s
-        (of_part (pattern k) (at (spell_pattern p rest) (pattern_cost p s)) p rest s (read k rest s binds fits most stops.follows) stops.no_ellipsis),
-  );
-}
+  of_constraint : (inner : ℕ → Reader Pattern) (w : Name) (rel : Relation) (e : Expression) (xs rest : List Sym) (t s : ℕ)
+      → expression in_constraint (suc most) loosest (at xs t) ≡ Ok (e, at rest s) → part most inner (at (name w ∷ mark (relation_mark rel) ∷ xs) (suc t)) ≡ Ok (constraint w rel e, at rest s)
+  unfolding part after_field constrained enter
+  of_constraint inner w rel e xs rest t s h = rw (relation_is rel, h) refl
 
-constraint_is : (w : Name) (rel : Relation) (e : Expression) (k : ℕ) (rest : List Sym) (s : ℕ) → PatternBinds (constraint w rel e) → pattern_weight (constraint w rel e) ≤ k → k ≤ heaviest
-    → Follows rest → part (pattern k) (at (spell_pattern (constraint w rel e) rest) (suc (cost e s))) ≡ Ok (constraint w rel e, at rest s)
-constraint_is w rel e k rest s binds fits most follows =
-    of_constraint (pattern k) w rel e (spell_expression e rest) rest (cost e s) s
-    (of.ends in_constraint heaviest loosest e rest s (of.facts in_constraint e) binds (of.rank_most e) (omega arith) follows.stops)
+  of_group : (inner : ℕ → Reader Pattern) (p : Pattern) (xs rest : List Sym) (t s : ℕ) → inner pattern_loosest (at xs t) ≡ Ok (p, at (mark m.Close ∷ rest) s)
+      → part most inner (at (mark m.Open ∷ xs) (suc t)) ≡ Ok (group p, at rest s)
+  unfolding part grouped expect same_mark enter
+  of_group inner p xs rest t s h = rw h refl
 
-group_is : (p : Pattern) → Facts p → (k : ℕ) (rest : List Sym) (s : ℕ) → PatternBinds p → suc (pattern_weight p) ≤ k → k ≤ heaviest
-    → part (pattern k) (at (spell_pattern (group p) rest) (suc (pattern_cost p s))) ≡ Ok (group p, at rest s)
-group_is p facts zero rest s binds fits most = absurd (omega arith)
-group_is p facts (suc k) rest s binds fits most =
-    of_group (pattern (suc k)) p (spell_pattern p (mark m.Close ∷ rest)) rest (pattern_cost p s) s
-    (ends k pattern_loosest p (mark m.Close ∷ rest) s facts binds (rank_most p) (omega arith) (omega arith) (stops_close pattern_loosest rest))
+  of_part : (inner : ℕ → Reader Pattern) (i : Input) (p : Pattern) (rest : List Sym) (s : ℕ) → part most inner i ≡ Ok (p, at rest s) → is_mark m.Ellipsis (first rest) ≡ false
+      → element most inner i ≡ Ok (p, at rest s)
+  unfolding element
+  of_part inner i p rest s h no_ellipsis = rw (h, no_ellipsis) refl
 
-ellipsis_arrives : (p : Pattern) → Facts p → (k n : ℕ) (rest : List Sym) (s : ℕ) → PatternBinds (ellipsis p) → pattern_weight p + 1 ≤ k → k ≤ heaviest → Arrives k n (ellipsis p) rest s
-ellipsis_arrives p facts k n rest s binds fits most =
-    let xs = mark m.Ellipsis ∷ rest in
-    let i = at (spell_pattern p xs) (pattern_cost p (suc s)) in (
+  of_ellipsis : (inner : ℕ → Reader Pattern) (i : Input) (p : Pattern) (rest : List Sym) (s : ℕ) → part most inner i ≡ Ok (p, at (mark m.Ellipsis ∷ rest) (suc s))
+      → element most inner i ≡ Ok (ellipsis p, at rest s)
+  unfolding element same_mark enter
+  of_ellipsis inner i p rest s h = rw h refl
+
+  abbrev pub Climbs : ℕ → ℕ → ℕ → Pattern → Reader Pattern
+  Climbs k n m p = climb (pattern_turn n) pattern_right_rank joined (pattern most k) m p
+
+  climb_stops : (k n m : ℕ) (p : Pattern) (rest : List Sym) (s : ℕ) → pattern_turn n p (first rest) ≡ None → Climbs k n m p (at rest s) ≡ Ok (p, at rest s)
+  unfolding climb
+  climb_stops k n zero p rest s h = refl
+  climb_stops k n (suc m) p rest s h = rw h refl
+
+  of_joined : (k n m : ℕ) (op : PatternOp) (p q : Pattern) (xs rest : List Sym) (t s : ℕ) → pattern_turn n p (Some (mark (pattern_mark op))) ≡ Some op
+      → pattern most k (pattern_right_rank op) (at xs t) ≡ Ok (q, at rest s)
+      → Climbs k n (suc m) p (at (mark (pattern_mark op) ∷ xs) (suc t)) ≡ Climbs k n m (joined op p q) (at rest s)
+  unfolding climb enter
+  of_joined k n m op p q xs rest t s allowed h = rw (allowed, h) refl
+
+  of_element : (k n : ℕ) (i : Input) (p : Pattern) (rest : List Sym) (s : ℕ) → element most (pattern most k) i ≡ Ok (p, at rest s) → pattern most (suc k) n i ≡ Climbs k n (suc s) p (at rest s)
+  unfolding pattern
+  of_element k n i p rest s h = rw h refl
+
+  -- ---- the induction
+
+  abbrev Arrives : ℕ → ℕ → Pattern → List Sym → ℕ → Type 0
+  Arrives k n p rest s = (m : ℕ) × (s < m) × (pattern most (suc k) n (at (spell_pattern p rest) (pattern_cost p s)) ≡ Climbs k n m p (at rest s))
+
+  pub record Facts (p : Pattern) : Type 0 where
+    pub as_part : (k : ℕ) (rest : List Sym) (s : ℕ) → PatternBinds p → takes_ellipsis p ≡ true → pattern_weight p ≤ k → k ≤ most → Follows rest
+        → part most (pattern most k) (at (spell_pattern p rest) (pattern_cost p s)) ≡ Ok (p, at rest s)
+    pub arrives : (k n : ℕ) (rest : List Sym) (s : ℕ) → PatternBinds p → pattern_rank p ≤ n → pattern_weight p ≤ k → k ≤ most → PatternStops (last_rank p) rest
+        → Arrives k n p rest s
+
+  ends : (k n : ℕ) (p : Pattern) (rest : List Sym) (s : ℕ) → Facts p → PatternBinds p → pattern_rank p ≤ n → pattern_weight p ≤ k → k ≤ most → PatternStops n rest
+      → pattern most (suc k) n (at (spell_pattern p rest) (pattern_cost p s)) ≡ Ok (p, at rest s)
+  ends k n p rest s facts binds low fits within stops =
+      let last = last_is p in
+      let come = facts.arrives k n rest s binds low fits within (stops_less n (last_rank p) rest (omega arith) stops) in
+      come.2 ∙ climb_stops k n come.0 p rest s (stops.quiet n p (omega arith))
+
+  of_a_part : (p : Pattern) → takes_ellipsis p ≡ true
+      → ((k : ℕ) (rest : List Sym) (s : ℕ) → PatternBinds p → pattern_weight p ≤ k → k ≤ most → Follows rest → part most (pattern most k) (at (spell_pattern p rest) (pattern_cost p s)) ≡ Ok (p, at rest s))
+      → Facts p
+  of_a_part p takes read = record {
+    as_part = λ k rest s binds _ fits within follows. read k rest s binds fits within follows;
+    arrives = λ k n rest s binds low fits within stops. (
       suc s,
       omega arith,
-      of_element k n i (ellipsis p) rest s
-          (of_ellipsis (pattern k) i p rest s (facts.as_part k xs (suc s) binds.1 binds.0 (omega arith) most (follows_ellipsis rest))),
-    )
+      of_element k n (at (spell_pattern p rest) (pattern_cost p s)) p rest s
+          (of_part (pattern most k) (at (spell_pattern p rest) (pattern_cost p s)) p rest s (read k rest s binds fits within stops.follows) stops.no_ellipsis),
+    );
+  }
 
-joined_step : (k n m : ℕ) (op : PatternOp) (p q : Pattern) (rest : List Sym) (s : ℕ) → PatternBinds (joined op p q) → suc (pattern_right_rank op) ≤ n
-    → Facts q → pattern_weight q < k → k ≤ heaviest → PatternStops (pattern_right_rank op) rest → suc (pattern_cost q s) < m
-    → pattern (suc k) n (at (spell_pattern p (mark (pattern_mark op) ∷ spell_pattern q rest)) (pattern_cost p (suc (pattern_cost q s))))
-    ≡ Climbs k n m p (at (mark (pattern_mark op) ∷ spell_pattern q rest) (suc (pattern_cost q s)))
-    → Arrives k n (joined op p q) rest s
-joined_step zero n m op p q rest s binds low facts fits most stops more come = absurd (omega arith)
-joined_step (suc k) n zero op p q rest s binds low facts fits most stops more come = absurd (omega arith)
-joined_step (suc k) n (suc m) op p q rest s binds low facts fits most stops more come =
-    let room = pattern_cost_is q s in (
-      m,
-      omega arith,
-      come ∙ of_joined (suc k) n m op p q (spell_pattern q rest) rest (pattern_cost q s) s
-          (turn_is n p op low binds.0)
-          (ends k (pattern_right_rank op) q rest s facts binds.3 binds.1 (omega arith) (omega arith) stops),
-    )
+  constraint_is : (w : Name) (rel : Relation) (e : Expression) (k : ℕ) (rest : List Sym) (s : ℕ) → PatternBinds (constraint w rel e) → pattern_weight (constraint w rel e) ≤ k → k ≤ most
+      → Follows rest → part most (pattern most k) (at (spell_pattern (constraint w rel e) rest) (suc (cost e s))) ≡ Ok (constraint w rel e, at rest s)
+  constraint_is w rel e k rest s binds fits within follows =
+      of_constraint (pattern most k) w rel e (spell_expression e rest) rest (cost e s) s
+      (of.ends in_constraint most loosest e rest s (of.facts in_constraint e) binds (of.rank_most e) (omega arith) follows.stops)
 
-joined_is : (op : PatternOp) (p q : Pattern) → Facts p → Facts q → (k n : ℕ) (rest : List Sym) (s : ℕ) → PatternBinds (joined op p q)
-    → suc (pattern_right_rank op) ≤ n → pattern_weight p + 1 + pattern_weight q ≤ k → k ≤ heaviest → PatternStops (pattern_right_rank op) rest → Arrives k n (joined op p q) rest s
-joined_is op p q first second k n rest s binds low fits most stops =
-    let left_low = binds.0 in
-    let come = first.arrives k n (mark (pattern_mark op) ∷ spell_pattern q rest) (suc (pattern_cost q s)) binds.2 (omega arith) (omega arith) most
-    (stops_less (pattern_right_rank op) (last_rank p) _ (last_below p (pattern_right_rank op) left_low) (stops_op op (spell_pattern q rest))) in
-    joined_step k n come.0 op p q rest s binds low second (omega arith) most stops come.1 come.2
+  group_is : (p : Pattern) → Facts p → (k : ℕ) (rest : List Sym) (s : ℕ) → PatternBinds p → suc (pattern_weight p) ≤ k → k ≤ most
+      → part most (pattern most k) (at (spell_pattern (group p) rest) (suc (pattern_cost p s))) ≡ Ok (group p, at rest s)
+  group_is p facts zero rest s binds fits within = absurd (omega arith)
+  group_is p facts (suc k) rest s binds fits within =
+      of_group (pattern most (suc k)) p (spell_pattern p (mark m.Close ∷ rest)) rest (pattern_cost p s) s
+      (ends k pattern_loosest p (mark m.Close ∷ rest) s facts binds (rank_most p) (omega arith) (omega arith) (stops_close pattern_loosest rest))
 
-facts : (p : Pattern) → Facts p
-facts (bare w) = of_a_part (bare w) refl (λ k rest s binds fits most follows. of_bare (pattern k) w rest s follows.no_relation)
-facts (constraint w rel e) = of_a_part (constraint w rel e) refl (λ k rest s binds fits most follows. constraint_is w rel e k rest s binds fits most follows)
-facts (group p) = of_a_part (group p) refl (λ k rest s binds fits most follows. group_is p (facts p) k rest s binds (omega arith) most)
-facts (ellipsis p) = record {
-  as_part = λ k rest s binds takes fits most follows. absurd (cc);
-  arrives = λ k n rest s binds low fits most stops. ellipsis_arrives p (facts p) k n rest s binds fits most;
-}
-facts (joined op p q) = record {
-  as_part = λ k rest s binds takes fits most follows. absurd (cc);
-  arrives = λ k n rest s binds low fits most stops. joined_is op p q (facts p) (facts q) k n rest s binds low fits most stops;
-}
+  ellipsis_arrives : (p : Pattern) → Facts p → (k n : ℕ) (rest : List Sym) (s : ℕ) → PatternBinds (ellipsis p) → pattern_weight p + 1 ≤ k → k ≤ most → Arrives k n (ellipsis p) rest s
+  ellipsis_arrives p facts k n rest s binds fits within =
+      let xs = mark m.Ellipsis ∷ rest in
+      let i = at (spell_pattern p xs) (pattern_cost p (suc s)) in (
+        suc s,
+        omega arith,
+        of_element k n i (ellipsis p) rest s
+            (of_ellipsis (pattern most k) i p rest s (facts.as_part k xs (suc s) binds.1 binds.0 (omega arith) within (follows_ellipsis rest))),
+      )
 
--- A pattern is read from its spelling, whatever follows that can't go on with it.
-pub complete : (p : Pattern) (rest : List Sym) (r : ℕ) → IsPattern p → PatternStops pattern_loosest rest → whole_pattern (at (spell_pattern p rest) r) ≡ Ok (p, at rest r)
-unfolding whole_pattern
-complete p rest r is stops =
-    let fits = is.1 in
-    let left = heaviest - pattern_weight p in
-    let room : heaviest ≡ pattern_cost p left = omega (arith, pattern_cost_is p left) in
-    rw (ap (λ n. pattern 257 pattern_loosest (at (spell_pattern p rest) n)) room ∙ ends 256 pattern_loosest p rest left (facts p) is.0 (rank_most p) fits (omega arith) stops) refl
+  joined_step : (k n m : ℕ) (op : PatternOp) (p q : Pattern) (rest : List Sym) (s : ℕ) → PatternBinds (joined op p q) → suc (pattern_right_rank op) ≤ n
+      → Facts q → pattern_weight q < k → k ≤ most → PatternStops (pattern_right_rank op) rest → suc (pattern_cost q s) < m
+      → pattern most (suc k) n (at (spell_pattern p (mark (pattern_mark op) ∷ spell_pattern q rest)) (pattern_cost p (suc (pattern_cost q s))))
+      ≡ Climbs k n m p (at (mark (pattern_mark op) ∷ spell_pattern q rest) (suc (pattern_cost q s)))
+      → Arrives k n (joined op p q) rest s
+  joined_step zero n m op p q rest s binds low facts fits within stops more come = absurd (omega arith)
+  joined_step (suc k) n zero op p q rest s binds low facts fits within stops more come = absurd (omega arith)
+  joined_step (suc k) n (suc m) op p q rest s binds low facts fits within stops more come =
+      let room = pattern_cost_is q s in (
+        m,
+        omega arith,
+        come ∙ of_joined (suc k) n m op p q (spell_pattern q rest) rest (pattern_cost q s) s
+            (turn_is n p op low binds.0)
+            (ends k (pattern_right_rank op) q rest s facts binds.3 binds.1 (omega arith) (omega arith) stops),
+      )
+
+  joined_is : (op : PatternOp) (p q : Pattern) → Facts p → Facts q → (k n : ℕ) (rest : List Sym) (s : ℕ) → PatternBinds (joined op p q)
+      → suc (pattern_right_rank op) ≤ n → pattern_weight p + 1 + pattern_weight q ≤ k → k ≤ most → PatternStops (pattern_right_rank op) rest → Arrives k n (joined op p q) rest s
+  joined_is op p q first second k n rest s binds low fits within stops =
+      let left_low = binds.0 in
+      let come = first.arrives k n (mark (pattern_mark op) ∷ spell_pattern q rest) (suc (pattern_cost q s)) binds.2 (omega arith) (omega arith) within
+      (stops_less (pattern_right_rank op) (last_rank p) _ (last_below p (pattern_right_rank op) left_low) (stops_op op (spell_pattern q rest))) in
+      joined_step k n come.0 op p q rest s binds low second (omega arith) within stops come.1 come.2
+
+  facts : (p : Pattern) → Facts p
+  facts (bare w) = of_a_part (bare w) refl (λ k rest s binds fits within follows. of_bare (pattern most k) w rest s follows.no_relation)
+  facts (constraint w rel e) = of_a_part (constraint w rel e) refl (λ k rest s binds fits within follows. constraint_is w rel e k rest s binds fits within follows)
+  facts (group p) = of_a_part (group p) refl (λ k rest s binds fits within follows. group_is p (facts p) k rest s binds (omega arith) within)
+  facts (ellipsis p) = record {
+    as_part = λ k rest s binds takes fits within follows. absurd (cc);
+    arrives = λ k n rest s binds low fits within stops. ellipsis_arrives p (facts p) k n rest s binds fits within;
+  }
+  facts (joined op p q) = record {
+    as_part = λ k rest s binds takes fits within follows. absurd (cc);
+    arrives = λ k n rest s binds low fits within stops. joined_is op p q (facts p) (facts q) k n rest s binds low fits within stops;
+  }
+
+  -- A pattern is read from its spelling, whatever follows that can't go on with it.
+  pub complete : (p : Pattern) (rest : List Sym) (r : ℕ) → IsPattern most p → PatternStops pattern_loosest rest → whole_pattern most (at (spell_pattern p rest) r) ≡ Ok (p, at rest r)
+  unfolding whole_pattern
+  complete p rest r is stops =
+      let fits = is.1 in
+      let left = most - pattern_weight p in
+      let room : most ≡ pattern_cost p left = omega (arith, pattern_cost_is p left) in
+      rw (ap (λ n. (pattern most) (suc most) pattern_loosest (at (spell_pattern p rest) n)) room ∙ ends most pattern_loosest p rest left (facts p) is.0 (rank_most p) fits (omega arith) stops) refl

@@ -124,7 +124,7 @@ pub record TookSize (i : Input) (n : ℕ) (j : Input) : Type 0 where
   pub fits : IsWidth n
 
 size_test : (b : Bool) (v : ℕ) (i j : Input) (n : ℕ) → first i.rest ≡ Some (number v) → nat_le v 16 ≡ b
-    → cond {A = Reader ℕ} b (λ k. Ok (v, next k)) (λ k. Err (fault (unsupported f.WideValue) (left k))) i ≡ Ok (n, j) → TookSize i n j
+    → cond {A = Reader ℕ} b (λ k. Ok (v, next k)) (λ k. Err (fault (unsupported f.WideValue 0) (left k))) i ≡ Ok (n, j) → TookSize i n j
 size_test true v i j n h t e = along (λ a k. TookSize i a k) v n (next i) j e (record { took = took_next i (number v) h; fits = le_is v 16 t })
 size_test false v i j n h t e = absurd (cc)
 

@@ -1,5 +1,5 @@
 -- The reader of definitions and attached lists.
-use Rattle.std.specs.Prelude.{ℕ, suc, Bool, true, false, if◌then◌else◌, ◌==◌, Option, Some, Err}
+use Rattle.std.specs.Prelude.{ℕ, Bool, true, false, if◌then◌else◌, ◌==◌, Option, Some}
 use Rattle.sl_ast.specs.Symbols.{quoted, Sym, number, word, text, mark}
 use Rattle.sl_ast.specs.Trees.{SpaceAttribute, of_type, of_size, of_word_size, is_default, BitRange, Field, Names, one, several, Definition, endian, alignment, space, bit_ranges, pcode_ops, token, context, registers, Member, member_word, member_text, member_integer, member_negative}
 use Rattle.sl_ast.specs.declared.definitions.AttachKind.{AttachKind}
@@ -12,7 +12,7 @@ use Rattle.sl_ast.specs.declared.symbols.Feature.TheVariants as f
 use Rattle.sl_ast.specs.declared.symbols.Keyword.TheVariants as k
 use Rattle.sl_ast.specs.declared.symbols.Mark.TheVariants as m
 use Rattle.sl_grammar.specs.Lists.{many}
-use Rattle.sl_grammar.specs.Reader.{left, fault, unsupported, Reader, ◌>>=◌, ◌>>◌, pure, peek, skip, refuse, is_keyword, expect, expect_keyword, integer_here, name_here, optional}
+use Rattle.sl_grammar.specs.Reader.{Reader, ◌>>=◌, ◌>>◌, pure, peek, skip, unsupport, refuse, is_keyword, expect, expect_keyword, integer_here, name_here, optional}
 use Rattle.sl_grammar.specs.Statements.{until}
 
 abbrev pub order_by : Option Sym → Reader ByteOrder
@@ -28,7 +28,7 @@ order = do
 
 -- another word size than 1 is refused at the word, two symbols before
 unfoldable pub checked_size : ℕ → Reader SpaceAttribute
-checked_size n = λ i. (if n == 1 then skip >> pure (of_word_size n) else (λ j. Err (fault (unsupported f.WordSize) (suc (suc (left j)))))) i
+checked_size n = λ i. (if n == 1 then skip >> pure (of_word_size n) else unsupport f.WordSize 2) i
 
 abbrev pub word_size_by : Option Sym → Reader SpaceAttribute
 word_size_by (Some (number n)) = checked_size n

@@ -3,7 +3,6 @@ use Rattle.std.specs.Prelude.{ℕ, zero, suc, ◌&&◌, if◌then◌else◌, Opt
 use Rattle.sl_ast.specs.Operators.{Kind, in_section, in_action, in_constraint, is_section, has_operator, rank, right_rank, left_rank, loosest, takes_size, takes_bits, takes_drop, missing_function}
 use Rattle.sl_ast.specs.Symbols.{plain, quoted, Sym, number, word, mark}
 use Rattle.sl_ast.specs.Trees.{Name, Expression, integer, named, paren, call, sized, dropped, bits, prefix, star, binary}
-use Rattle.sl_ast.specs.Validity.{heaviest}
 use Rattle.sl_ast.specs.Views.{arguments}
 use Rattle.sl_ast.specs.declared.expressions.BinaryOp.{BinaryOp}
 use Rattle.sl_ast.specs.declared.expressions.BinaryOp.TheVariants as b
@@ -16,7 +15,7 @@ use Rattle.sl_ast.specs.declared.symbols.Mark.{Mark}
 use Rattle.sl_ast.specs.declared.symbols.Mark.TheVariants as m
 use Rattle.sl_grammar.specs.Climb.{grown}
 use Rattle.sl_grammar.specs.Lists.{separated}
-use Rattle.sl_grammar.specs.Reader.{at, left, fault, nesting, unsupported, Outcome, Reader, ◌>>=◌, ◌>>◌, pure, peek, skip, enter, unsupport, refuse, is_mark, look, expect, integer_here, name_here, size_here, optional, size_option}
+use Rattle.sl_grammar.specs.Reader.{at, left, fault, nesting, Outcome, Reader, ◌>>=◌, ◌>>◌, pure, peek, skip, enter, unsupport, refuse, is_mark, look, expect, integer_here, name_here, size_here, optional, size_option}
 
 -- ---- operators
 
@@ -84,7 +83,7 @@ module _ (kind : Kind) (inner : ℕ → Reader Expression) where
   -- behind the name: a function that is left out is refused at its name
   abbrev pub called_by : Name → Option Feature → Reader Expression
   called_by w None = called w
-  called_by w (Some feature) = λ i. Err (fault (unsupported feature) (suc (left i)))
+  called_by w (Some feature) = unsupport feature 1
 
   unfoldable pub after_name : Name → Reader Expression
   after_name w = look (is_mark m.Open) (called_by w (missing_function w)) (pure (named w))
@@ -92,12 +91,12 @@ module _ (kind : Kind) (inner : ℕ → Reader Expression) where
   abbrev pub name_in : Kind → Name → Reader Expression
   name_in in_section w = skip >> after_name w
   name_in in_action w = skip >> pure (named w)
-  name_in in_constraint w = unsupport f.NameInConstraint
+  name_in in_constraint w = unsupport f.NameInConstraint 0
 
   abbrev pub missing_name_in : Kind → Reader Expression
   missing_name_in in_section = refuse
   missing_name_in in_action = refuse
-  missing_name_in in_constraint = unsupport f.NameInConstraint
+  missing_name_in in_constraint = unsupport f.NameInConstraint 0
 
   abbrev pub atom_by : Option Sym → Reader Expression
   atom_by (Some (number n)) = skip >> pure (integer n)
@@ -163,7 +162,7 @@ module _ (kind : Kind) (inner : ℕ → Reader Expression) where
   prefix_by (Some (mark m.Tilde)) = prefixed p.Complement
   prefix_by (Some (mark m.Exclamation)) = if is_section kind then prefixed p.Not else refuse
   prefix_by (Some (mark m.Star)) = if is_section kind then starred else refuse
-  prefix_by (Some (mark m.Ampersand)) = unsupport f.AddressOf
+  prefix_by (Some (mark m.Ampersand)) = unsupport f.AddressOf 0
   prefix_by o = postfix
 
   unfoldable pub tight : Reader Expression
@@ -178,6 +177,6 @@ abbrev pub with_room : {A : Type 0} → ℕ → Outcome A → Outcome A
 with_room r (Ok p) = Ok (p.0, at p.1.rest r)
 with_room r (Err e) = Err e
 
--- an expression that stands in no other
-unfoldable pub whole : Kind → Reader Expression
-whole kind = λ i. with_room i.room (expression kind (suc heaviest) loosest (at i.rest heaviest))
+-- an expression that stands in no other, with at most so many operators and opening brackets
+unfoldable pub whole : ℕ → Kind → Reader Expression
+whole most kind = λ i. with_room i.room (expression kind (suc most) loosest (at i.rest most))

@@ -5,7 +5,7 @@ use Rattle.sl_ast.specs.Symbols.{Sym}
 use Rattle.sl_ast.specs.Trees.{Item}
 use Rattle.sl_ast.specs.Validity.{AreItems}
 use Rattle.sl_grammar.specs.Items.{specification}
-use Rattle.sl_grammar.specs.Reader.{Form, syntax, nesting, unsupported, fault}
+use Rattle.sl_grammar.specs.Reader.{Form, fault}
 
 -- Symbols spell at most one tree.
 abbrev pub SpellsOneTree : Type 0
@@ -19,18 +19,12 @@ EachTreeIsRead = (items : List Item) → AreItems items → specification (spell
 abbrev pub OnlySpellingsAreRead : Type 0
 OnlySpellingsAreRead = (symbols : List Sym) (items : List Item) → specification symbols ≡ Ok items → (symbols ≡ spell items) × AreItems items
 
--- Nothing behind the place decides such a fault.
-abbrev pub IsDecided : Form → Type 0
-IsDecided syntax = Unit {0}
-IsDecided nesting = Unit {0}
-IsDecided (unsupported feature) = ⊥
-
--- A fault at x stays, whatever stands behind x.
+-- A fault that was found at x stays, whatever stands behind x.
 abbrev pub FaultsStay : Type 0
-FaultsStay = (form : Form) → IsDecided form → (x : Sym) (xs ys zs : List Sym) → specification (xs ++ x ∷ ys) ≡ Err (fault form (suc (length ys)))
+FaultsStay = (form : Form) (x : Sym) (xs ys zs : List Sym) → specification (xs ++ x ∷ ys) ≡ Err (fault form (suc (length ys)))
     → specification (xs ++ x ∷ zs) ≡ Err (fault form (suc (length zs)))
 
--- No tree is spelled with symbols that begin with those up to the place of a fault.
+-- No tree is spelled with symbols that begin with those up to where a fault was found.
 abbrev pub NoneBeginsWithAFault : Type 0
-NoneBeginsWithAFault = (form : Form) → IsDecided form → (x : Sym) (xs ys zs : List Sym) (items : List Item) → specification (xs ++ x ∷ ys) ≡ Err (fault form (suc (length ys)))
+NoneBeginsWithAFault = (form : Form) (x : Sym) (xs ys zs : List Sym) (items : List Item) → specification (xs ++ x ∷ ys) ≡ Err (fault form (suc (length ys)))
     → AreItems items → spell items ≡ xs ++ x ∷ zs → ⊥

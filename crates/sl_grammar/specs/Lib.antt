@@ -7,4 +7,5 @@ pub mod Parallel
 pub mod Statements
 pub mod Definitions
 pub mod Items
+pub mod Faults
 pub mod Laws

@@ -1,18 +1,12 @@
 -- Two readings of symbols that agree up to one place and may differ behind it.
 use Rattle.std.specs.Prelude.{◌≡◌, ℕ, ◌+◌, ◌<◌, List, ◌∷◌, ◌++◌, length, Ok, Err}
 use Rattle.sl_ast.specs.Symbols.{Sym}
-use Rattle.sl_grammar.specs.Reader.{Form, syntax, nesting, unsupported, fault, Input, at, Outcome, Reader}
-
--- A form that the language leaves out may be decided by what stands behind it.
-abbrev pub IsPastAt : Form → ℕ → ℕ → Type 0
-IsPastAt syntax n most = n < most
-IsPastAt nesting n most = n < most
-IsPastAt (unsupported feature) n most = Unit {0}
+use Rattle.sl_grammar.specs.Reader.{Form, fault, Input, at, Outcome, Reader}
 
 -- The reading ended behind the place where `ys` begins.
 abbrev pub IsPast : {A : Type 0} → List Sym → Outcome A → Type 0
 IsPast ys (Ok p) = length p.1.rest < length ys
-IsPast ys (Err e) = IsPastAt e.form e.left (length ys)
+IsPast ys (Err e) = e.left < length ys
 
 -- Both ended before the place where `ys` and `zs` begin, in the same way, or both behind it.
 pub data Parallel (A : Type 0) (ys zs : List Sym) : Outcome A → Outcome A → Type 0 where

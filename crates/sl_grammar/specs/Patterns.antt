@@ -3,7 +3,6 @@ use Rattle.std.specs.Prelude.{ℕ, zero, suc, ◌&&◌, if◌then◌else◌, Opt
 use Rattle.sl_ast.specs.Operators.{in_constraint, loosest, pattern_rank, pattern_right_rank, pattern_loosest}
 use Rattle.sl_ast.specs.Symbols.{plain, Sym, word, mark}
 use Rattle.sl_ast.specs.Trees.{Name, Pattern, bare, constraint, group, ellipsis, joined}
-use Rattle.sl_ast.specs.Validity.{heaviest}
 use Rattle.sl_ast.specs.declared.patterns.PatternOp.{PatternOp}
 use Rattle.sl_ast.specs.declared.patterns.PatternOp.TheVariants as j
 use Rattle.sl_ast.specs.declared.patterns.Relation.{Relation}
@@ -46,45 +45,49 @@ pattern_allowed n p (Some op) = if nat_le (suc (pattern_right_rank op)) n && nat
 unfoldable pub pattern_turn : ℕ → Pattern → Option Sym → Option PatternOp
 pattern_turn n p o = pattern_allowed n p (joining_in o)
 
--- A constraint's expression has the room of its pattern.
-unfoldable pub constrained : Name → Relation → Reader Pattern
-constrained w rel = do
+-- a pattern in brackets; patterns inside are read by `inner`
+unfoldable pub grouped : (ℕ → Reader Pattern) → Reader Pattern
+grouped inner = do
   enter
-  e ← expression in_constraint (suc heaviest) loosest
-  pure (constraint w rel e)
+  p ← inner pattern_loosest
+  expect m.Close
+  pure (group p)
 
-abbrev pub related : Name → Option Relation → Reader Pattern
-related w None = pure (bare w)
-related w (Some rel) = constrained w rel
+-- ---- patterns of an outermost one with at most so many operators and opening brackets
 
-unfoldable pub after_field : Name → Reader Pattern
-after_field w = peek >>= (λ o. related w (relation_in o))
-
-module _ (inner : ℕ → Reader Pattern) where
-  unfoldable pub grouped : Reader Pattern
-  grouped = do
+module _ (most : ℕ) where
+  -- A constraint's expression has the room of its pattern.
+  unfoldable pub constrained : Name → Relation → Reader Pattern
+  constrained w rel = do
     enter
-    p ← inner pattern_loosest
-    expect m.Close
-    pure (group p)
+    e ← expression in_constraint (suc most) loosest
+    pure (constraint w rel e)
 
-  abbrev pub part_by : Option Sym → Reader Pattern
-  part_by (Some (word (plain w))) = skip >> after_field w
-  part_by (Some (mark m.Open)) = grouped
-  part_by (Some (mark m.Ellipsis)) = unsupport f.LeadingEllipsis
-  part_by o = refuse
+  abbrev pub related : Name → Option Relation → Reader Pattern
+  related w None = pure (bare w)
+  related w (Some rel) = constrained w rel
 
-  unfoldable pub part : Reader Pattern
-  part = peek >>= part_by
+  unfoldable pub after_field : Name → Reader Pattern
+  after_field w = peek >>= (λ o. related w (relation_in o))
 
-  unfoldable pub element : Reader Pattern
-  element = part >>= (λ p. look (is_mark m.Ellipsis) (enter >> pure (ellipsis p)) (pure p))
+  module _ (inner : ℕ → Reader Pattern) where
+    abbrev pub part_by : Option Sym → Reader Pattern
+    part_by (Some (word (plain w))) = skip >> after_field w
+    part_by (Some (mark m.Open)) = grouped inner
+    part_by (Some (mark m.Ellipsis)) = unsupport f.LeadingEllipsis 0
+    part_by o = refuse
 
--- A pattern of a rank. Brackets and right operands are nested no deeper than the first number.
-unfoldable pub pattern : ℕ → ℕ → Reader Pattern
-pattern zero n = λ i. Err (fault nesting (left i))
-pattern (suc k) n = element (pattern k) >>= grown (pattern_turn n) pattern_right_rank joined (pattern k)
+    unfoldable pub part : Reader Pattern
+    part = peek >>= part_by
 
--- a pattern that stands in no other
-unfoldable pub whole_pattern : Reader Pattern
-whole_pattern = λ i. with_room i.room (pattern (suc heaviest) pattern_loosest (at i.rest heaviest))
+    unfoldable pub element : Reader Pattern
+    element = part >>= (λ p. look (is_mark m.Ellipsis) (enter >> pure (ellipsis p)) (pure p))
+
+  -- A pattern of a rank. Brackets and right operands are nested no deeper than the first number.
+  unfoldable pub pattern : ℕ → ℕ → Reader Pattern
+  pattern zero n = λ i. Err (fault nesting (left i))
+  pattern (suc k) n = element (pattern k) >>= grown (pattern_turn n) pattern_right_rank joined (pattern k)
+
+  -- a pattern that stands in no other
+  unfoldable pub whole_pattern : Reader Pattern
+  whole_pattern = λ i. with_room i.room (pattern (suc most) pattern_loosest (at i.rest most))

@@ -13,13 +13,14 @@ use Rattle.sl_ast.specs.declared.symbols.Keyword.TheVariants as k
 use Rattle.sl_ast.specs.declared.symbols.Mark.{Mark}
 use Rattle.sl_ast.specs.declared.symbols.Mark.TheVariants as m
 
--- no tree goes on with the token; it goes past a limit of nesting; it begins a form that is left out
+-- no tree goes on with the symbol; it goes past a limit of nesting; or a form that the language leaves out began
+-- so many symbols before it
 pub data Form : Type 0 where
   syntax : Form
   nesting : Form
-  unsupported : Feature → Form
+  unsupported : Feature → ℕ → Form
 
--- a fault, and how many symbols are left at its place
+-- a fault, and how many symbols are left where it was found, that one among them
 pub record Fault : Type 0 where
   pub form : Form
   pub left : ℕ
@@ -80,14 +81,14 @@ enter = λ i. elim (i.room) [
   | suc r ↦ Ok (tt, at (drop 1 i.rest) r)
 ]
 
--- refuses a form that the language leaves out
-abbrev pub unsupport : {A : Type 0} → Feature → Reader A
-unsupport feature = λ i. Err (fault (unsupported feature) (left i))
+-- refuses a form that the language leaves out, which began so many symbols before
+abbrev pub unsupport : {A : Type 0} → Feature → ℕ → Reader A
+unsupport feature back = λ i. Err (fault (unsupported feature back) (left i))
 
 -- what stands in no tree: a mark or a word that the language leaves out wherever it stands, or any other
 abbrev pub refused_as : Option Sym → Form
-refused_as (Some (mark m.Floating)) = unsupported f.FloatingPoint
-refused_as (Some (word (quoted k.InstNext2))) = unsupported f.InstNext2
+refused_as (Some (mark m.Floating)) = unsupported f.FloatingPoint 0
+refused_as (Some (word (quoted k.InstNext2))) = unsupported f.InstNext2 0
 refused_as o = syntax
 
 abbrev pub refuse : {A : Type 0} → Reader A
@@ -136,7 +137,7 @@ unfoldable pub name_here : Reader Name
 name_here = peek >>= name_by
 
 abbrev pub size_by : Option Sym → Reader ℕ
-size_by (Some (number n)) = if nat_le n widest then skip >> pure n else unsupport f.WideValue
+size_by (Some (number n)) = if nat_le n widest then skip >> pure n else unsupport f.WideValue 0
 size_by o = refuse
 
 -- a size in bytes

@@ -1,1 +1,7 @@
-pub mod Rounds
+pub mod Chains
+pub mod ListSteps
+pub mod Answered
+pub mod Lengths
+pub mod Spelled
+pub mod Places
+pub mod Folds

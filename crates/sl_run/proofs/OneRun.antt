@@ -9,7 +9,7 @@ use Rattle.sl_word.specs.declared.word.Endian.{Endian}
 use Rattle.sl_word.specs.declared.word.Endian.TheVariants.{Big}
 use Rattle.sl_description.specs.Registers.{Storage}
 use Rattle.sl_description.specs.Sections.{Held, Constant, Sum, Term}
-use Rattle.sl_description.proofs.Takes.{some_is}
+use Rattle.sl_description.proofs.EachLemmas.{some_is}
 use Rattle.sl_sets.specs.Sets.{IsChoice, IsUnmatched}
 use Rattle.sl_sets.proofs.UniqueSets.{choice_is_one, unmatched_has_no_choice}
 use Rattle.sl_run.specs.Machine.{AreSound, Bytes, Fits, IsAfter, IsPut, IsSoundSum, RunsSection, sum_value, term_value, value}

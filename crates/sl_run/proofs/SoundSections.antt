@@ -5,14 +5,14 @@ use Rattle.std.specs.List.{AllByRecursion}
 use Rattle.std.specs.Option.{option_map}
 use Rattle.std.specs.Str.{bytes_eq}
 use Rattle.std.proofs.lemmas.Bool.{eqb-true, leb-true}
-use Rattle.sl_description.specs.Description.{Addend, Register, Integer, Addition, Constructor, Description, Registers, RegisterSpace, spell_section}
+use Rattle.sl_description.specs.Description.{Addend, Register, Integer, Addition, Constructor, Description, Registers, RegisterSpace}
 use Rattle.sl_description.specs.Outcomes.{◌>>=◌, each, joined}
 use Rattle.sl_description.specs.Registers as laid
 use Rattle.sl_description.specs.Registers.{Space, Storage, address_sizes_of, beside, fits_space, laid_by, laid_in, names_of, placed, register_named, registers_beside, registers_of, space_named}
-use Rattle.sl_description.specs.Sections.{Held, Constant, Resolution, Sum, Term, most_tokens, of_size, resolution_of, section_of, sized_named, storage_named, sum_of, term_of}
+use Rattle.sl_description.specs.Sections.{Held, Constant, Resolution, Sum, Term, most_tokens, of_size, resolution_of, section_of, sized_named, storage_named, sum_of, term_of, tokens_of}
 use Rattle.sl_description.proofs.ResolutionLemmas.{resolved_parts}
 use Rattle.sl_description.proofs.RegisterLemmas.{and_parts}
-use Rattle.sl_description.proofs.Takes.{some_is}
+use Rattle.sl_description.proofs.EachLemmas.{some_is}
 use Rattle.sl_run.specs.Machine.{AreSound, Fits, IsSoundSum, IsSoundTerm, RegisterFits}
 
 -- ---- what each of a list stands for
@@ -163,7 +163,7 @@ section_sound : (sizes : List ℕ) (rs : List laid.Register) (additions : List A
     → section_of rs additions ≡ Some section → AllByRecursion (IsSoundSum sizes) section
 unfolding section_of
 section_sound sizes rs additions section h e = all_each (sum_of rs) (IsSoundSum sizes) (λ a s f. sum_sound sizes rs a s h f) additions section
-    (some_of (nat_le (length (spell_section additions)) most_tokens) (each (sum_of rs) additions) section e)
+    (some_of (nat_le (tokens_of additions) most_tokens) (each (sum_of rs) additions) section e)
 
 at_place : (sizes : List ℕ) (sections : List (List Sum)) (i : ℕ) (section : List Sum) → AllByRecursion (AllByRecursion (IsSoundSum sizes)) sections → slice_get sections i ≡ Some section
     → AllByRecursion (IsSoundSum sizes) section

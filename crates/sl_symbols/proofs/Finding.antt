@@ -1,5 +1,5 @@
 -- A table that is looked through row by row.
-use Rattle.std.proofs.Common.{◌≡◌, ℕ, ◌+◌, ◌<◌, ◌≤◌, ◌==◌, ◌&&◌, true, false, List, [], ◌∷◌, length, drop, get_or, None, Some, refl, ap, ◌∙◌}
+use Rattle.std.proofs.Common.{◌≡◌, ℕ, ◌+◌, ◌<◌, ◌≤◌, ◌==◌, ◌&&◌, true, false, List, [], ◌∷◌, length, drop, get_or, None, Some, refl, ap, sym, ◌∙◌}
 use Rattle.std.proofs.Math.ListN.{drop_of_length-le}
 use Rattle.std.proofs.lemmas.List.{drop_more}
 use denote.Ref.{Bor}
@@ -14,15 +14,17 @@ same_is [] (y ∷ ys) = refl
 same_is (x ∷ xs) [] = refl
 same_is (x ∷ xs) (y ∷ ys) = ap (λ t. (x == y) && t) (same_is xs ys)
 
-pub found_here : {K : Type 0} (text : List ℕ) (rows : List (Bor (List ℕ) × K)) (i : ℕ) (d : Bor (List ℕ) × K) → i < length rows → pointwise eqb text (get_or rows i d).0.now ≡ true
-    → find text (rows_of (drop i rows)) ≡ Some (get_or rows i d).1
-found_here text rows i d less same =
-    ap (λ xs. find text (rows_of xs)) (drop_more rows i d less) ∙ rw (same_is text (get_or rows i d).0.now ∙ same) refl
+module _ {K : Type 0} (text : List ℕ) (rows : List (Bor (List ℕ) × K)) (i : ℕ) where
+  pub found_here : (row : Bor (List ℕ) × K) → i < length rows → row ≡ get_or rows i row → pointwise eqb text row.0.now ≡ true → find text (rows_of (drop i rows)) ≡ Some row.1
+  found_here row less here same =
+      let now : pointwise eqb text (get_or rows i row).0.now ≡ true = ap (λ r. pointwise eqb text r.0.now) (sym here) ∙ same in
+      ap (λ xs. find text (rows_of xs)) (drop_more rows i row less) ∙ rw (same_is text (get_or rows i row).0.now ∙ now) (ap (λ r. Some r.1) (sym here))
 
-pub found_later : {K : Type 0} (text : List ℕ) (rows : List (Bor (List ℕ) × K)) (i : ℕ) (d : Bor (List ℕ) × K) → i < length rows → pointwise eqb text (get_or rows i d).0.now ≡ false
-    → find text (rows_of (drop i rows)) ≡ find text (rows_of (drop (i + 1) rows))
-found_later text rows i d less same =
-    ap (λ xs. find text (rows_of xs)) (drop_more rows i d less) ∙ rw (same_is text (get_or rows i d).0.now ∙ same) refl
+  pub found_later : (row : Bor (List ℕ) × K) → i < length rows → row ≡ get_or rows i row → pointwise eqb text row.0.now ≡ false
+      → find text (rows_of (drop i rows)) ≡ find text (rows_of (drop (i + 1) rows))
+  found_later row less here same =
+      let now : pointwise eqb text (get_or rows i row).0.now ≡ false = ap (λ r. pointwise eqb text r.0.now) (sym here) ∙ same in
+      ap (λ xs. find text (rows_of xs)) (drop_more rows i row less) ∙ rw (same_is text (get_or rows i row).0.now ∙ now) refl
 
-pub found_nowhere : {K : Type 0} (text : List ℕ) (rows : List (Bor (List ℕ) × K)) (i : ℕ) → length rows ≤ i → find text (rows_of (drop i rows)) ≡ None
-found_nowhere text rows i le = ap (λ xs. find text (rows_of xs)) (drop_of_length-le rows le)
+  pub found_nowhere : length rows ≤ i → find text (rows_of (drop i rows)) ≡ None
+  found_nowhere le = ap (λ xs. find text (rows_of xs)) (drop_of_length-le rows le)

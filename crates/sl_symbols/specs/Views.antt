@@ -1,6 +1,6 @@
 -- The symbols of the program as those of the definitions.
-use Rattle.std.specs.Prelude.{◌≡◌, Some}
-use Rattle.sl_ast.specs.Symbols.{keyword_of, plain, quoted, Sym, number, word, text, mark, blank, caret, char}
+use Rattle.std.specs.Prelude.{◌≡◌}
+use Rattle.sl_ast.specs.Symbols.{word_of, plain, quoted, Sym, number, word, text, mark, blank, caret, char}
 use Rattle.sl_symbols.specs.declared.Symbol.{Symbol}
 use Rattle.sl_symbols.specs.declared.Symbol.TheVariants as s
 
@@ -14,7 +14,8 @@ sym_of (s.Blank t) = blank t.now
 sym_of (s.Caret t) = caret t.now
 sym_of (s.Char t) = char t.now
 
--- a keyword's bytes are those of the keyword
-abbrev pub HasItsKeyword : Symbol → Type 0
-HasItsKeyword (s.Quoted keyword w) = keyword_of w.now ≡ Some keyword
-HasItsKeyword symbol = Unit {0}
+-- a word's bytes are those of the word
+abbrev pub HasItsWord : Symbol → Type 0
+HasItsWord (s.Name w) = word_of w.now ≡ plain w.now
+HasItsWord (s.Quoted keyword w) = word_of w.now ≡ quoted keyword
+HasItsWord symbol = Unit {0}

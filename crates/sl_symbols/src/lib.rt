@@ -7,7 +7,7 @@ ghost use Rattle.sl_lex.specs.Views.{view};
 ghost use Rattle.sl_symbols.specs.Marks.{mark_of};
 ghost use Rattle.sl_symbols.specs.Rows.{rows_of};
 ghost use Rattle.sl_symbols.specs.Symbols.{symbol_by, symbol_of};
-ghost use Rattle.sl_symbols.specs.Views.{sym_of, HasItsKeyword};
+ghost use Rattle.sl_symbols.specs.Views.{sym_of, HasItsWord};
 
 use sl_ast::symbols::{Keyword, Mark};
 use sl_lex::{Tok, TokKind};
@@ -108,20 +108,8 @@ static MARKS: [(&[u8], Mark); 52] = [
     (b"f>=", Mark::Floating),
 ];
 
-/// The keyword of the first row with these bytes.
-fn find_keyword(rows: &[(&[u8], Keyword)], text: &[u8]) -> Option<Keyword>
-    ensures { result ≡ find text.now (rows_of rows.now) }
-{
-    'rows: for row in rows {
-        if text == row.0 {
-            return Some(row.1);
-        }
-    }
-    None
-}
-
-/// The mark of the first row with these bytes.
-fn find_mark(rows: &[(&[u8], Mark)], text: &[u8]) -> Option<Mark>
+/// What stands in the first row with these bytes.
+pub fn find_row<K: Copy>(rows: &[(&[u8], K)], text: &[u8]) -> Option<K>
     ensures { result ≡ find text.now (rows_of rows.now) }
 {
     'rows: for row in rows {
@@ -137,7 +125,7 @@ fn find_mark(rows: &[(&[u8], Mark)], text: &[u8]) -> Option<Mark>
 pub fn keyword(text: &[u8]) -> Option<Keyword>
     ensures { result ≡ keyword_of text.now }
 {
-    find_keyword(&KEYWORDS, text)
+    find_row(&KEYWORDS, text)
 }
 
 /// The mark with these bytes; `Unknown` where they are none of the language.
@@ -145,7 +133,7 @@ pub fn keyword(text: &[u8]) -> Option<Keyword>
 pub fn mark(text: &[u8]) -> Mark
     ensures { result ≡ mark_of text.now }
 {
-    find_mark(&MARKS, text).unwrap_or(Mark::Unknown)
+    find_row(&MARKS, text).unwrap_or(Mark::Unknown)
 }
 
 /// A token as the grammar sees it. Texts have their quotes.
@@ -167,7 +155,7 @@ pub enum Symbol<'a> {
 #[tactic(auto, unfolding(sl_ast::specs::Symbols::word_of))]
 fn word<'a>(text: &'a [u8]) -> Symbol<'a>
     ensures sees { sym_of result ≡ symbol_by TokKind.Word text.now }
-    ensures tied { HasItsKeyword result }
+    ensures tied { HasItsWord result }
 {
     match keyword(text) {
         Some(keyword) => Symbol::Quoted(keyword, text),
@@ -178,7 +166,7 @@ fn word<'a>(text: &'a [u8]) -> Symbol<'a>
 /// A token as a symbol.
 pub fn seen<'a>(tok: &Tok<'a>) -> Symbol<'a>
     ensures sees { sym_of result ≡ symbol_of (view tok.now) }
-    ensures tied { HasItsKeyword result }
+    ensures tied { HasItsWord result }
 {
     match tok.kind {
         TokKind::Word => word(tok.text),

@@ -1,5 +1,5 @@
 -- Answers from their parts.
-use Rattle.std.proofs.Common.{◌≡◌, ℕ, suc, zero, ◌<◌, List, [], ◌∷◌, length, Option, Some, None, Result, Ok, Err, refl, sym, ap, subst, arith}
+use Rattle.std.proofs.Common.{◌≡◌, ℕ, suc, zero, ◌<◌, List, [], ◌∷◌, length, Option, Some, None, Result, Ok, Err, refl, sym, ap, subst, ◌∙◌, arith}
 use Rattle.std.specs.Prelude.{IfOk}
 use Rattle.sl_outside.specs.Folder.{Folder, size_limit, HoldsTooLong, IsTooLong}
 use Rattle.sl_preproc.specs.Expanded.{expanded, seen, Text}
@@ -17,20 +17,34 @@ use Rattle.sl_sets.specs.Sets.{HasNoConflict}
 use Rattle.sl_sets.proofs.AlikeLemmas.{AreAlike, all_turned, no_conflict_alike}
 use Rattle.sl_description.specs.Compiled.{AreSetsOf}
 use Rattle.sl_description.specs.Description.{Constructor, Description}
+use Rattle.sl_ast.specs.Symbols.{Sym}
+use Rattle.sl_ast.specs.Trees.{Item}
+use Rattle.sl_ast.specs.Unfolding.{firsts}
+use Rattle.sl_ast.specs.Views.{indexes_of, items_of}
+use Rattle.sl_ast.specs.declared.items.Spec.{Spec}
+use Rattle.sl_grammar.proofs.Faults.{one_tree}
+use Rattle.sl_description.specs.Compiles.{AreSound, IsCompiled}
+use Rattle.sl_description.specs.Form.{description_of}
+use Rattle.sl_description.specs.Describes.{Describes}
+use Rattle.sl_symbols.specs.Symbols.{symbols_of}
 use Rattle.sl_description.specs.Fields.{Matches}
 use Rattle.sl_description.specs.Views.{description}
 use Rattle.sl_description.specs.declared.compiler.Compiled.{Compiled}
 use Rattle.sl_tool.specs.Answers.{Answers, Expands, IsTold}
 use Rattle.sl_tool.specs.Fetches.{IsOverlong}
-use Rattle.sl_tool.specs.Given.{IsAnsweredFor, IsCompiledText, IsRefusal, RefusesError}
+use Rattle.sl_tool.specs.Given.{IsAnsweredFor, IsCompiledText, IsRefusal, RefusesError, RefusesTokens}
 use Rattle.sl_tool.specs.Images.{File}
 use Rattle.sl_tool.specs.Lines.{refusal_line}
 use Rattle.sl_tool.specs.Request.{Request}
-use Rattle.sl_tool.specs.Verdicts.{Expansion, IsUnambiguous, cause_text, fault_text, file_at, line_at}
-use Rattle.sl_tool.specs.Verdicts.Judges.{bad_text}
+use Rattle.sl_tool.specs.Verdicts.{Expansion, IsSpelling, IsUnambiguous, cause_text, fault_text, file_at, line_at, reason_text, start_of}
+use Rattle.sl_tool.specs.Verdicts.Judges.{bad_text, unparsed}
 use Rattle.sl_tool.specs.Answers.Answers.{refused}
 use Rattle.sl_lex.specs.Faults.{Fault}
-use Rattle.sl_lex.specs.Reading.{HasBadPlace}
+use Rattle.sl_grammar.specs.Faults.{no_spelling, too_deep, left_out}
+use Rattle.sl_lex.specs.Reading.{HasBadPlace, ReadsAs, Token}
+use Rattle.sl_parse.specs.Parsing.{IsFaultOf, IsTree}
+use Rattle.sl_parse.specs.declared.parser.ParseError.{ParseError}
+use Rattle.sl_parse.specs.declared.parser.ParseError.TheVariants as parse
 use Rattle.sl_tool.specs.declared.answer.Answer.{Answer}
 use Rattle.sl_tool.specs.declared.status.Status.{Status}
 use Rattle.sl_tool.specs.declared.status.Status.TheVariants.{Refused}
@@ -93,6 +107,16 @@ length-sets d [] (k ∷ ks) h = absurd h
 length-sets d (c ∷ cs) [] h = absurd h
 length-sets d (c ∷ cs) (k ∷ ks) h = ap suc (length-sets d cs ks h.1)
 
+-- what the tokens of a text that was compiled describe
+pub described : (t : Text) (c : Compiled) (h : IsCompiledText t c) → Describes (symbols_of h.tokens) (description c.description)
+described t c h = record {
+  items = h.tree.items;
+  spells = h.tree.spells;
+  good = h.tree.good;
+  form = h.compiled.are.form;
+  sound = h.compiled.are.sound;
+}
+
 pub unambiguous : (t : Text) (c : Compiled) → IsCompiledText t c → HasNoConflict has_cube c.sets.items → IsUnambiguous (Ok t) (description c.description)
 unambiguous t c h none =
     let d = description c.description in
@@ -100,7 +124,7 @@ unambiguous t c h none =
       text = t;
       tokens = h.tokens;
       has = record { is = refl; reads = h.reads };
-      describes = h.compiled.describes;
+      describes = described t c h;
       clear = no_conflict_alike has_cube (Matches d) c.sets.items d.constructors (alike_sets d d.constructors c.sets.items h.compiled.sets) none;
     }
 
@@ -142,3 +166,41 @@ pub bad_answers : (told : Option Folder) (r : Request) (t : Text) (fault : Fault
     → IsRefusal (file_at t place) (line_at t place) (fault_text fault) a → IsAnsweredFor told r t a
 bad_answers told r t fault place a bad h =
     for_any_image told r t a (λ image. refusal_answers r (Ok t) image (file_at t place) (line_at t place) (fault_text fault) a h (refused (bad_text refl bad)))
+
+-- tokens that spell no tree, for whatever image
+pub unparsed_answers : (told : Option Folder) (r : Request) (t : Text) (tokens : List Token) (error : ParseError) (a : Answer) → ReadsAs t.bytes tokens
+    → IsFaultOf (symbols_of tokens) error → RefusesTokens t tokens error a → IsAnsweredFor told r t a
+unparsed_answers told r t tokens (parse.Syntax place) a reads fault h =
+    for_any_image told r t a (λ image. refusal_answers r (Ok t) image (file_at t (start_of t tokens place)) (line_at t (start_of t tokens place)) (reason_text no_spelling) a h
+    (refused (unparsed (record { is = refl; reads = reads }) fault)))
+unparsed_answers told r t tokens (parse.Nesting place) a reads fault h =
+    for_any_image told r t a (λ image. refusal_answers r (Ok t) image (file_at t (start_of t tokens place)) (line_at t (start_of t tokens place)) (reason_text too_deep) a h
+    (refused (unparsed (record { is = refl; reads = reads }) fault)))
+unparsed_answers told r t tokens (parse.NotSupported feature place) a reads fault h =
+    for_any_image told r t a (λ image. refusal_answers r (Ok t) image (file_at t (start_of t tokens place)) (line_at t (start_of t tokens place)) (reason_text (left_out feature)) a h
+    (refused (unparsed (record { is = refl; reads = reads }) fault)))
+unparsed_answers told r t tokens parse.NoMemory a reads fault h = absurd h
+
+-- ---- trees
+
+pub spelled_tree : (symbols : List Sym) (tree : Spec) → IsTree symbols tree → IsSpelling symbols
+spelled_tree symbols tree h = record { items = items_of tree; spells = h.spells; good = h.good }
+
+-- the tree that the text's tokens spell was compiled
+pub tree_compiled : (t : Text) (tokens : List Token) (tree : Spec) (c : Compiled) → ReadsAs t.bytes tokens → IsTree (symbols_of tokens) tree
+    → IsCompiled (items_of tree) (indexes_of tree) c → IsCompiledText t c
+tree_compiled t tokens tree c reads h compiled = record {
+  tokens = tokens;
+  reads = reads;
+  tree = record { items = items_of tree; spells = h.spells; good = h.good };
+  compiled = subst (λ (indexes : List ℕ). IsCompiled (items_of tree) indexes c) h.places compiled;
+}
+
+-- what no tree is that the symbols spell, the symbols don't describe
+pub no_description : (symbols : List Sym) (tree : Spec) → IsTree symbols tree → ((d : Description) → AreSound (items_of tree) (indexes_of tree) d → ⊥)
+    → (d : Description) → Describes symbols d → ⊥
+no_description symbols tree h none d g =
+    let same : g.items ≡ items_of tree = one_tree g.items (items_of tree) g.good h.good (sym g.spells ∙ h.spells) in
+    let form = ap (λ (indexes : List ℕ). description_of (items_of tree) indexes) h.places
+    ∙ ap (λ (items : List Item). description_of items (firsts items)) (sym same) ∙ g.form in
+    none d (record { form = form; sound = g.sound })

@@ -3,7 +3,7 @@ use Rattle.std.proofs.Common.{◌≡◌, ℕ, ◌/◌, ◌^◌, ◌<◌, ◌≤�
 use Rattle.std.specs.Prelude.{codes}
 use Rattle.sl_description.specs.Description.{Description}
 use Rattle.sl_description.specs.Fields.{Matches}
-use Rattle.sl_description.proofs.Takes.{some_is}
+use Rattle.sl_description.proofs.EachLemmas.{some_is}
 use Rattle.sl_tool.specs.Lines.{refusal_line}
 use Rattle.sl_tool.specs.Listing.{Lists}
 use Rattle.sl_tool.specs.Request.{Command, ListImage, RunImage, Request}

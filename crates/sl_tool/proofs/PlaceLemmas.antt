@@ -1,30 +1,23 @@
 -- Places that refusals name.
-use Rattle.std.proofs.Common.{◌≡◌, ℕ, suc, zero, ◌+◌, ◌-◌, ◌<◌, ◌≤◌, List, [], ◌∷◌, ◌++◌, length, Option, Some, None, refl, ap, subst, ◌∙◌, arith, inl, inr, get_or, length-append, map, not}
+use Rattle.std.proofs.Common.{◌≡◌, ℕ, suc, zero, ◌+◌, ◌-◌, ◌<◌, ◌≤◌, List, [], ◌∷◌, ◌++◌, length, Option, Some, None, refl, ap, subst, ◌∙◌, arith, inl, inr, get_or, length-append, map}
 use Rattle.std.specs.Prelude.{slice_get, min}
 use Rattle.std.specs.List.{AllByRecursion}
 use Rattle.std.specs.Option.{option_map}
 use Rattle.std.proofs.lemmas.List.{length-map}
-use Rattle.std.proofs.lemmas.List.Elements.{All-filter, All-get_or}
-use Rattle.std.proofs.lemmas.Option.{get_or_from_slice_get, slice_get-map, slice_get_read, slice_get_within}
+use Rattle.std.proofs.lemmas.Option.{slice_get-map, slice_get_read}
 use Rattle.sl_lex.specs.Faults.{Fault, IsBadByte, IsFault}
 use Rattle.sl_lex.specs.Faults.Fault.{NoLexeme, OpenQuote, TooWide}
-use Rattle.sl_lex.specs.Reading.{Token, Piece, Reads, ReadsAs, HasBadPlace, mode_after}
-use Rattle.sl_lex.specs.Views.{view}
-use Rattle.sl_lex.specs.declared.Tok.{Tok}
+use Rattle.sl_lex.specs.Reading.{Token, Piece, Reads, HasBadPlace, mode_after}
 use Rattle.sl_lex.specs.declared.mode.Mode.{Mode}
 use Rattle.sl_lex.specs.declared.mode.Mode.TheVariants.{Top}
-use Rattle.sl_lex.proofs.OneReading.{one_reading}
-use Rattle.sl_lex.proofs.SliceLemmas.{begins_within}
 use Rattle.sl_preproc.specs.Expanded.{Text, line_index, or_no_place, place_at}
 use Rattle.sl_preproc.specs.Sound.{IsSound}
 use Rattle.sl_preproc.specs.declared.places.Place.{Place}
-use Rattle.sl_description.specs.Description.{Constructor, Description, spell_constructor, spell_constructors, spell_definitions, AreNumberedFrom, IsSpelled}
-use Rattle.sl_description.specs.Symbols.{Symbol, is_blank, symbol_of, symbols_of, without_blanks}
 use Rattle.sl_description.specs.Views.{constructor, description}
 use Rattle.sl_description.specs.declared.description.Constructor as program
 use Rattle.sl_description.specs.declared.compiler.Compiled.{Compiled}
 use Rattle.sl_tool.specs.Given.{IsCompiledText}
-use Rattle.sl_tool.specs.Verdicts.{BeginsAt}
+use Rattle.sl_tool.specs.Verdicts.{from_or}
 use Rattle.sl_tool.proofs.AnswerLemmas.{length-sets}
 
 -- ---- places of lines
@@ -71,28 +64,19 @@ reads_within mode from text (p ∷ ps) bad (rest, here, later) =
 pub bad_place_within : (text : List ℕ) (fault : Fault) (place : ℕ) → HasBadPlace text fault place → place ≤ length text
 bad_place_within text fault place (tokens, (pieces, reads, are)) = omega (arith, reads_within Top 0 text pieces (fault, place) reads)
 
--- ---- places of constructors
+-- ---- places of tokens
 
-numbered_within : (index total : ℕ) (cs : List Constructor) (i : ℕ) (c : Constructor) → AreNumberedFrom index cs → slice_get cs i ≡ Some c
-    → index + length (spell_constructors cs) ≤ total → c.first < total
-numbered_within index total [] i c h e le = absurd (cc)
-numbered_within index total (b ∷ cs) zero c h e le =
-    let same : b ≡ c = cc in
-    let size = length-append (spell_constructor b) (spell_constructors cs) in
-    subst (λ (x : Constructor). x.first < total) same (omega (arith, h.0, size))
-numbered_within index total (b ∷ cs) (suc i) c h e le =
-    let size = length-append (spell_constructor b) (spell_constructors cs) in
-    numbered_within (index + length (spell_constructor b)) total cs i c h.1 e (omega (arith, size))
-
--- a constructor's first token is one of the tokens
-first_within : (s : List Symbol) (d : Description) (i : ℕ) (c : Constructor) → IsSpelled s d → slice_get d.constructors i ≡ Some c → c.first < length s
-first_within s d i c h e =
-    let size = ap length h.spelled ∙ length-append (spell_definitions d) (spell_constructors d.constructors) in
-    numbered_within (length (spell_definitions d)) (length s) d.constructors i c h.numbered e (omega (arith, size))
+-- behind all tokens
+pub past_all : (end : ℕ) (tokens : List Token) (index : ℕ) → length tokens ≤ index → from_or end (slice_get tokens index) ≡ end
+past_all end [] index past = refl
+past_all end (token ∷ tokens) zero past = absurd (omega arith)
+past_all end (token ∷ tokens) (suc index) past = past_all end tokens index (omega arith)
 
 -- what is read in a list that is seen in this way
 seen_at : {X Y : Type 0} (see : X → Y) (xs : List X) (i : ℕ) (x : X) → i < length xs → x ≡ get_or xs i x → slice_get (map see xs) i ≡ Some (see x)
 seen_at see xs i x within is = slice_get-map see xs i ∙ ap (option_map see) (slice_get_read xs (length xs) i x refl within is)
+
+-- ---- constructors
 
 module _ (t : Text) (c : Compiled) (is : IsCompiledText t c) (i : ℕ) (within : i < length c.sets.items) where
   pub constructor_within : i < length c.description.constructors.items
@@ -100,28 +84,5 @@ module _ (t : Text) (c : Compiled) (is : IsCompiledText t c) (i : ℕ) (within :
       let d = description c.description in
       omega (arith, within, length-sets d d.constructors c.sets.items is.compiled.sets, length-map c.description.constructors.items constructor)
 
-  module _ (k : program.Constructor) (here : k ≡ get_or c.description.constructors.items i k) where
-    pub seen_constructor : slice_get (description c.description).constructors i ≡ Some (constructor k)
-    seen_constructor = seen_at constructor c.description.constructors.items i k constructor_within here
-
-    pub token_within : k.first < length c.tokens.items
-    token_within =
-        let first = first_within (symbols_of (without_blanks is.tokens)) (description c.description) i (constructor k) is.compiled.describes.spelled seen_constructor in
-        omega (arith, first, length-map (without_blanks is.tokens) symbol_of, ap length is.compiled.kept, length-map c.tokens.items view)
-
-    module _ (tok : Tok) (there : tok ≡ get_or c.tokens.items k.first tok) where
-      token_is : slice_get (without_blanks is.tokens) k.first ≡ Some (view tok)
-      token_is =
-          subst (λ (ts : List Token). slice_get ts k.first ≡ Some (view tok)) is.compiled.kept (seen_at view c.tokens.items k.first tok token_within there)
-
-      -- the first token begins in the text
-      pub from_within : tok.from < length t.bytes
-      from_within =
-          let kept = without_blanks is.tokens in
-          let all = All-filter (λ (x : Token). not (is_blank x.kind)) (λ (x : Token). x.from < length t.bytes) is.tokens (begins_within t.bytes is.tokens is.reads) in
-          let here = All-get_or (λ (x : Token). x.from < length t.bytes) kept k.first (view tok) (slice_get_within kept k.first (view tok) token_is) all in
-          subst (λ (x : Token). x.from < length t.bytes) (get_or_from_slice_get kept k.first (view tok) (view tok) token_is) here
-
-      -- and there alone
-      pub begins : (tokens : List Token) → ReadsAs t.bytes tokens → BeginsAt tokens k.first tok.from
-      begins tokens reads = (view tok, subst (λ (ts : List Token). slice_get (without_blanks ts) k.first ≡ Some (view tok)) (one_reading t.bytes is.tokens tokens is.reads reads) token_is, refl)
+  pub seen_constructor : (k : program.Constructor) → k ≡ get_or c.description.constructors.items i k → slice_get (description c.description).constructors i ≡ Some (constructor k)
+  seen_constructor k here = seen_at constructor c.description.constructors.items i k constructor_within here

@@ -18,7 +18,7 @@ use Rattle.sl_description.specs.Registers.{Register, address_sizes_of}
 use Rattle.sl_description.specs.Outcomes.{◌>>=◌, each}
 use Rattle.sl_description.specs.Sections.{Resolution, resolution_of, section_of}
 use Rattle.sl_description.proofs.ResolutionLemmas.{resolved_parts}
-use Rattle.sl_description.proofs.Takes.{some_is}
+use Rattle.sl_description.proofs.EachLemmas.{some_is}
 use Rattle.sl_run.specs.Machine.{Bytes}
 use Rattle.sl_run.specs.declared.steps.Outcome.{Outcome}
 use Rattle.sl_run.proofs.AlikeRuns.{HoldsBytes}

@@ -13,7 +13,9 @@ ghost use Rattle.sl_description.specs.Views.{description};
 ghost use Rattle.sl_sets.specs.Cubes.{has_cube};
 ghost use Rattle.sl_sets.specs.Sets.{HasNoConflict, IsFirstConflict};
 ghost use Rattle.sl_tool.specs.Answers.{Answers, mnemonics};
-ghost use Rattle.sl_tool.specs.Given.{HasCompiled, IsAnswered, IsAnsweredFor, IsCompiledText, IsRefusal};
+ghost use Rattle.sl_parse.specs.Parsing.{IsTree};
+ghost use Rattle.sl_symbols.specs.Symbols.{symbols_of};
+ghost use Rattle.sl_tool.specs.Given.{HasCompiled, IsAnswered, IsAnsweredFor, IsCompiledText, IsRefusal, RefusesTokens};
 ghost use Rattle.sl_tool.specs.Images.{File};
 ghost use Rattle.sl_tool.specs.Listing.{Lists};
 ghost use Rattle.sl_tool.specs.Requests.{request as request_view};
@@ -22,14 +24,18 @@ ghost use Rattle.sl_tool.specs.Running.{status_of};
 use crate::fault::Fault;
 use crate::files::{Fetched, fetch_whole};
 use crate::listing::listing;
-use crate::refusals::{constructor_place, refused, refused_at, unexpanded};
+use crate::refusals::{
+    constructor_place, missing_text, refused, refused_at, refused_at_token, unexpanded,
+};
 use crate::reports::conflict_text;
 use crate::request::{Command, Request};
 use crate::running::run_image;
 use crate::status::Status;
+use sl_ast::items::Spec;
 use sl_description::{Compiled, Refusal, compile};
 use sl_lex::{LexError, Tok, lex};
 use sl_outside::Files;
+use sl_parse::{ParseError, parse};
 use sl_preproc::{Expanded, expand};
 use sl_sets::{Chooser, first_conflict, report_on};
 use std::alloc::{AllocError, Global};
@@ -71,7 +77,10 @@ fn answer_expanded<F: Files>(
     ensures never_falls { F.faults files.old ≤ F.faults files.new }
 {
     match lex(alloc, expanded.text.as_slice()) {
-        Ok(tokens) => answer_tokens(alloc, request, expanded, tokens, files),
+        Ok(tokens) => {
+            let answer = answer_tokens(alloc, request, expanded, tokens.as_slice(), files)?;
+            Ok(answer)
+        }
         Err(LexError::BadByte(at)) => refused_at(alloc, expanded, at, "bad byte"),
         Err(LexError::OpenString(at)) => refused_at(alloc, expanded, at, "open string"),
         Err(LexError::WideInteger(at)) => refused_at(alloc, expanded, at, "wide integer"),
@@ -80,22 +89,75 @@ fn answer_expanded<F: Files>(
 }
 
 /// The answer where the text has these tokens.
-fn answer_tokens<'a, F: Files>(
+fn answer_tokens<F: Files>(
     alloc: Global,
     request: Request,
     expanded: &Expanded,
-    tokens: Vec<Tok<'a>>,
+    tokens: &[Tok],
     files: &mut F,
 ) -> Result<Answer, Fault>
     requires sound { IsSound (seen expanded.now) }
-    requires reads { ReadsAs expanded.now.text.items (views tokens.items) }
+    requires reads { ReadsAs expanded.now.text.items (views tokens.now) }
     ensures found { IfOk result (IsAnsweredFor (F.told files.old) (request_view request.entry) (seen expanded.now)) }
     ensures failed { IsErrOf result Fault.Read → Rose (F.faults files.old) (F.faults files.new) }
     ensures same_folder { F.told files.new ≡ F.told files.old }
     ensures never_falls { F.faults files.old ≤ F.faults files.new }
 {
-    match compile(alloc, tokens) {
-        Ok(compiled) => answer_compiled(alloc, request, expanded, &compiled, files),
+    match parse(alloc, tokens) {
+        Ok(tree) => {
+            let answer = answer_tree(alloc, request, expanded, tokens, &tree, files)?;
+            Ok(answer)
+        }
+        Err(error) => unparsed(alloc, expanded, tokens, error),
+    }
+}
+
+/// The refusal of tokens that spell no tree for this error.
+fn unparsed(
+    alloc: Global,
+    expanded: &Expanded,
+    tokens: &[Tok],
+    error: ParseError,
+) -> Result<Answer, Fault>
+    requires sound { IsSound (seen expanded.now) }
+    requires reads { ReadsAs expanded.now.text.items (views tokens.now) }
+    ensures refusal { IfOk result (RefusesTokens (seen expanded.now) (views tokens.now) error) }
+    ensures no_read { IsErrOf result Fault.Read → ⊥ }
+{
+    match error {
+        ParseError::Syntax(at) => refused_at_token(alloc, expanded, tokens, at, "syntax error"),
+        ParseError::Nesting(at) => {
+            refused_at_token(alloc, expanded, tokens, at, "nesting too deep")
+        }
+        ParseError::NotSupported { feature, token } => {
+            refused_at_token(alloc, expanded, tokens, token, missing_text(feature))
+        }
+        ParseError::NoMemory => Err(Fault::NoMemory),
+    }
+}
+
+/// The answer where the tokens spell this tree.
+fn answer_tree<F: Files>(
+    alloc: Global,
+    request: Request,
+    expanded: &Expanded,
+    tokens: &[Tok],
+    tree: &Spec,
+    files: &mut F,
+) -> Result<Answer, Fault>
+    requires sound { IsSound (seen expanded.now) }
+    requires reads { ReadsAs expanded.now.text.items (views tokens.now) }
+    requires tree { IsTree (symbols_of (views tokens.now)) tree.now }
+    ensures found { IfOk result (IsAnsweredFor (F.told files.old) (request_view request.entry) (seen expanded.now)) }
+    ensures failed { IsErrOf result Fault.Read → Rose (F.faults files.old) (F.faults files.new) }
+    ensures same_folder { F.told files.new ≡ F.told files.old }
+    ensures never_falls { F.faults files.old ≤ F.faults files.new }
+{
+    match compile(alloc, tree) {
+        Ok(compiled) => {
+            let answer = answer_compiled(alloc, request, expanded, tokens, &compiled, files)?;
+            Ok(answer)
+        }
         Err(Refusal::NotYet) => refused(alloc, request.spec, 0, "not yet"),
         Err(Refusal::NoMemory) => Err(Fault::NoMemory),
     }
@@ -106,10 +168,12 @@ fn answer_compiled<F: Files>(
     alloc: Global,
     request: Request,
     expanded: &Expanded,
+    tokens: &[Tok],
     compiled: &Compiled,
     files: &mut F,
 ) -> Result<Answer, Fault>
     requires sound { IsSound (seen expanded.now) }
+    requires reads { ReadsAs expanded.now.text.items (views tokens.now) }
     requires compiled { IsCompiledText (seen expanded.now) compiled.now }
     ensures found { IfOk result (IsAnsweredFor (F.told files.old) (request_view request.entry) (seen expanded.now)) }
     ensures failed { IsErrOf result Fault.Read → Rose (F.faults files.old) (F.faults files.new) }
@@ -117,7 +181,9 @@ fn answer_compiled<F: Files>(
     ensures never_falls { F.faults files.old ≤ F.faults files.new }
 {
     match first_conflict(compiled.sets.as_slice()) {
-        Some((first, second)) => ambiguous(alloc, request, expanded, compiled, first, second),
+        Some((first, second)) => ambiguous(
+            alloc, request, expanded, tokens, compiled, first, second,
+        ),
         None => answer_image(alloc, request, expanded, compiled, files),
     }
 }
@@ -127,19 +193,21 @@ fn ambiguous(
     alloc: Global,
     request: Request,
     expanded: &Expanded,
+    tokens: &[Tok],
     compiled: &Compiled,
     first: usize,
     second: usize,
 ) -> Result<Answer, Fault>
     requires sound { IsSound (seen expanded.now) }
+    requires reads { ReadsAs expanded.now.text.items (views tokens.now) }
     requires compiled { IsCompiledText (seen expanded.now) compiled.now }
     requires conflict { IsFirstConflict has_cube compiled.now.sets.items first second }
     ensures found { IfOk result (λ a. (image : File) → Answers (request_view request.entry) (Ok (seen expanded.now)) image a.status a.text.items) }
     ensures no_read { IsErrOf result Fault.Read → ⊥ }
 {
     let told = report_on(alloc, &compiled.sets[first], &compiled.sets[second])?;
-    let (first_file, first_line) = constructor_place(expanded, compiled, first);
-    let (second_file, second_line) = constructor_place(expanded, compiled, second);
+    let (first_file, first_line) = constructor_place(expanded, tokens, compiled, first);
+    let (second_file, second_line) = constructor_place(expanded, tokens, compiled, second);
     let lines = conflict_text(
         alloc,
         first_file,

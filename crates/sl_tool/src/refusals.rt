@@ -9,13 +9,18 @@ ghost use Rattle.sl_description.specs.Description as spec;
 ghost use Rattle.sl_description.specs.Views.{description};
 ghost use Rattle.sl_tool.specs.Given.{IsCompiledText, IsRefusal, RefusesError};
 ghost use Rattle.sl_tool.specs.Places.{IsPlaceOf};
-ghost use Rattle.sl_tool.specs.Verdicts.{file_at, line_at};
+ghost use Rattle.sl_tool.specs.Verdicts.{file_at, line_at, reason_text, start_of};
+ghost use Rattle.sl_lex.specs.Reading.{ReadsAs};
+ghost use Rattle.sl_lex.specs.Views.{views};
+ghost use Rattle.sl_grammar.specs.Faults.{left_out};
 
 use crate::answer::Answer;
 use crate::fault::Fault;
 use crate::lines::push_refusal;
 use crate::status::Status;
+use sl_ast::symbols::Feature;
 use sl_description::Compiled;
+use sl_lex::Tok;
 use sl_preproc::{Expanded, PreError};
 use std::alloc::Global;
 
@@ -92,19 +97,70 @@ pub fn refused_at(
     refused(alloc, file, line, why)
 }
 
+/// The byte at which the token of this index begins; behind the last one it is the text's end.
+fn start_of(expanded: &Expanded, tokens: &[Tok], index: usize) -> usize
+    requires { ReadsAs expanded.now.text.items (views tokens.now) }
+    ensures start { result ≡ start_of (seen expanded.now) (views tokens.now) index }
+    ensures within { result ≤ length expanded.now.text.items }
+{
+    match tokens.get(index) {
+        Some(token) => token.from,
+        None => expanded.text.len(),
+    }
+}
+
+/// A refusal at the place of the token of this index.
+pub fn refused_at_token(
+    alloc: Global,
+    expanded: &Expanded,
+    tokens: &[Tok],
+    index: usize,
+    why: &str,
+) -> Result<Answer, Fault>
+    requires sound { IsSound (seen expanded.now) }
+    requires reads { ReadsAs expanded.now.text.items (views tokens.now) }
+    ensures refusal { IfOk result (IsRefusal (file_at (seen expanded.now) (start_of (seen expanded.now) (views tokens.now) index))
+        (line_at (seen expanded.now) (start_of (seen expanded.now) (views tokens.now) index)) why.now) }
+    ensures no_read { IsErrOf result Fault.Read → ⊥ }
+{
+    let start = start_of(expanded, tokens, index);
+    refused_at(alloc, expanded, start, why)
+}
+
+/// What is told of a form that the language leaves out.
+pub fn missing_text(feature: Feature) -> &'static str
+    ensures { result.now ≡ reason_text (left_out feature) }
+{
+    match feature {
+        Feature::Crossbuild => "not supported: crossbuild",
+        Feature::DelaySlot => "not supported: delay slot",
+        Feature::FloatingPoint => "not supported: floating point",
+        Feature::ConstantPool => "not supported: constant pool",
+        Feature::NewObject => "not supported: new object",
+        Feature::AddressOf => "not supported: address of",
+        Feature::LeadingEllipsis => "not supported: leading ellipsis",
+        Feature::NameInConstraint => "not supported: name in constraint",
+        Feature::WordSize => "not supported: word size",
+        Feature::InstNext2 => "not supported: inst_next2",
+        Feature::WideValue => "not supported: wide value",
+    }
+}
+
 /// The place of the constructor's first token.
 pub fn constructor_place<'e>(
     expanded: &'e Expanded,
+    tokens: &[Tok],
     compiled: &Compiled,
     constructor: usize,
 ) -> (&'e str, u64)
     requires sound { IsSound (seen expanded.now) }
+    requires reads { ReadsAs expanded.now.text.items (views tokens.now) }
     requires compiled { IsCompiledText (seen expanded.now) compiled.now }
     requires constructor { constructor < length compiled.now.sets.items }
     ensures { (c : spec.Constructor) → slice_get (description compiled.now.description).constructors constructor ≡ Some c
-        → IsPlaceOf (seen expanded.now) c.first result.0.now result.1 }
+        → IsPlaceOf (seen expanded.now) (views tokens.now) c.first result.0.now result.1 }
 {
     let first = compiled.description.constructors[constructor].first;
-    let from = compiled.tokens[first].from;
-    place(expanded, from)
+    let start = start_of(expanded, tokens, first);
+    place(expanded, start)
 }

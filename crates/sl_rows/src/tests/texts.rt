@@ -17,7 +17,7 @@ struct Text {
     text: &'static str,
 }
 
-static TEXTS: [Text; 21] = [
+static TEXTS: [Text; 24] = [
     // Comments, and integers of three bases.
     Text {
         files: &[(
@@ -156,6 +156,37 @@ static TEXTS: [Text; 21] = [
         ],
         status: Status::Refused,
         text: "s:2: ambiguous in instruction with s:3\nboth 10000000000000000000000000000000 0000000000000000\nsame\n",
+    },
+    // Comments between all tokens, a constraint's value in two bases, and a mnemonic of the grammar's.
+    Text {
+        files: &[
+            (
+                "s",
+                "@include \"t\"\n:call is # one\na = # two\n0x1 &\n\tb=0b110 # three\n{ # }\n\n}\n",
+            ),
+            ("t", DEFINITIONS),
+        ],
+        status: Status::Done,
+        text: "0000: 16 call\n",
+    },
+    // What is no specification, in an included file, and at the end of the text.
+    Text {
+        files: &[
+            ("s", "@include \"t\"\n@include \"b\"\n:add is a=1 {}\n"),
+            ("t", DEFINITIONS),
+            ("b", "\n:sub is a=2 {}\n:mul is a= {}\n"),
+        ],
+        status: Status::Refused,
+        text: "b:3: syntax error\n",
+    },
+    Text {
+        files: &[
+            ("s", "@include \"t\"\n:add is a=1 {}\n@include \"b\"\n"),
+            ("t", DEFINITIONS),
+            ("b", "\n:sub is a=2\n\n"),
+        ],
+        status: Status::Refused,
+        text: "b:3: syntax error\n",
     },
     // A name that no file has.
     Text {

@@ -1,4 +1,4 @@
-use Rattle.sl_grammar.proofs.ItemRules as law
+use Rattle.sl_grammar.proofs.Faults as law
 use Rattle.sl_grammar.proofs.laws.one_tree.Goals as goal
 
 pub returns : goal.returns

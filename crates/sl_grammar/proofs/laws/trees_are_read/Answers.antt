@@ -1,4 +1,4 @@
-use Rattle.sl_grammar.proofs.ItemRules as law
+use Rattle.sl_grammar.proofs.Faults as law
 use Rattle.sl_grammar.proofs.laws.trees_are_read.Goals as goal
 
 pub returns : goal.returns

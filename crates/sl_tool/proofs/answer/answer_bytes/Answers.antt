@@ -2,6 +2,7 @@ use Rattle.std.proofs.Common.{◌^◌, ◌<◌, length, refl, sym, ap, subst, �
 use Rattle.std.specs.Prelude.{Some, codes}
 use Rattle.std.proofs.lemmas.Bool.{cases_lt, false≢true}
 use Rattle.sl_preproc.specs.Expanded.{seen}
+use Rattle.sl_ast.specs.Unfolding.{firsts}
 use Rattle.sl_description.specs.Views.{description}
 use Rattle.sl_tool.specs.Answers.Answers.{long_image, listed, ran}
 use Rattle.sl_tool.specs.Verdicts.Judges.{accepted}
@@ -37,9 +38,9 @@ returns-in_ok-lines-in-Run-clause-found c =
     ran (accepted clear) (record { has = record { is = refl; within = c.requires.image }; fits = c.fits.ensures.0 c.if-not-fits.false })
     (ap command c.in-Run.is) run
 
--- the tokens that were compiled are some tokens
+-- the tree that was compiled is some tree
 pub list_image-requires-clause-compiled : goal.list_image-requires-clause-compiled
-list_image-requires-clause-compiled c = (c.requires.compiled.tokens, c.requires.compiled.compiled)
+list_image-requires-clause-compiled c = ((c.requires.compiled.tree.items, firsts c.requires.compiled.tree.items), c.requires.compiled.compiled)
 
 pub run_image-requires-clause-compiled : goal.run_image-requires-clause-compiled
-run_image-requires-clause-compiled c = (c.requires.compiled.tokens, c.requires.compiled.compiled)
+run_image-requires-clause-compiled c = ((c.requires.compiled.tree.items, firsts c.requires.compiled.tree.items), c.requires.compiled.compiled)

@@ -1,0 +1,9 @@
+use Rattle.std.proofs.Common.{◌≡◌, ◌+◌, ◌-◌}
+use Rattle.sl_grammar.specs.Lists.{separated, separated_from}
+use Rattle.sl_phrases.specs.Reads.{seen_by}
+use Rattle.sl_parse.proofs.lists.separated.Given as goal
+
+abbrev pub invariant-rounds : goal.invariant-rounds
+invariant-rounds g l =
+    separated g.P.Part.reader l.fn.symbols
+    ≡ separated_from g.P.Part.reader (l._round-end + 1 - l._round) (seen_by g.P.Part.view l.found) l.symbols
