@@ -330,7 +330,7 @@ static NOT_YET: [(&str, [&str; 4]); 60] = [
 ];
 
 /// What is no specification, and what is told of it.
-static MISREAD: [(&str, [&str; 4], &str); 27] = [
+static MISREAD: [(&str, [&str; 4], &str); 29] = [
     (
         "no end",
         [ENDIAN, SPACE, TOKEN, ":n is a=1 {"],
@@ -415,6 +415,26 @@ static MISREAD: [(&str, [&str; 4], &str); 27] = [
         "half a constraint behind a line's end",
         [ENDIAN, SPACE, TOKEN, "\n:n is a=1 &\n b= {}"],
         "s:3: syntax error\n",
+    ),
+    (
+        "no value before a delay slot",
+        [
+            ENDIAN,
+            SPACE,
+            TOKEN,
+            "\n:x is a=1 {\nA = ;\ndelayslot(1); }",
+        ],
+        "s:3: syntax error\n",
+    ),
+    (
+        "no value behind a delay slot",
+        [
+            ENDIAN,
+            SPACE,
+            TOKEN,
+            "\n:x is a=1 {\ndelayslot(1);\nA = ; }",
+        ],
+        "s:3: not supported: delay slot\n",
     ),
     (
         "a section that stays open",
