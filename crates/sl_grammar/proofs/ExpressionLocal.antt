@@ -90,47 +90,47 @@ atom_local : (kind : Kind) (inner : ℕ → Reader Expression) → LocalInner in
 unfolding atom
 atom_local kind inner here shrinks = local_peek (atom_by kind inner) (atom_by_local kind inner here shrinks)
 
-size_behind_local : (kind : Kind) (inner : ℕ → Reader Expression) (e : Expression) → Local Expression (size_behind kind inner e)
+size_behind_local : (e : Expression) → Local Expression (size_behind e)
 unfolding size_behind
-size_behind_local kind inner e = local_skips (size_here >>= (λ n. pure (sized e n))) (local_then size_here _ local_size (λ n. local_pure (sized e n)))
+size_behind_local e = local_skips (size_here >>= (λ n. pure (sized e n))) (local_then size_here _ local_size (λ n. local_pure (sized e n)))
 
-drop_behind_local : (kind : Kind) (inner : ℕ → Reader Expression) (e : Expression) → Local Expression (drop_behind kind inner e)
+drop_behind_local : (e : Expression) → Local Expression (drop_behind e)
 unfolding drop_behind
-drop_behind_local kind inner e =
+drop_behind_local e =
     local_then enter _ local_enter (λ _. local_then integer_here _ local_integer (λ n. local_then (expect m.Close) _ (local_expect m.Close) (λ _. local_pure (dropped e n))))
 
-bits_behind_local : (kind : Kind) (inner : ℕ → Reader Expression) (e : Expression) → Local Expression (bits_behind kind inner e)
+bits_behind_local : (e : Expression) → Local Expression (bits_behind e)
 unfolding bits_behind
-bits_behind_local kind inner e =
+bits_behind_local e =
     local_then enter _ local_enter (λ _. local_then integer_here _ local_integer (λ l. local_then (expect m.Comma) _ (local_expect m.Comma)
     (λ _. local_then integer_here _ local_integer (λ c. local_then (expect m.CloseBracket) _ (local_expect m.CloseBracket) (λ _. local_pure (bits e l c))))))
 
-behind_local : (kind : Kind) (inner : ℕ → Reader Expression) (e : Expression) → Local Expression (behind kind inner e)
+behind_local : (e : Expression) → Local Expression (behind e)
 unfolding behind
-behind_local kind inner e =
-    local_look (λ o. is_mark m.Colon o && takes_size e) (size_behind kind inner e) _ (size_behind_local kind inner e)
-    (local_look (λ o. is_mark m.Open o && takes_drop e) (drop_behind kind inner e) _ (drop_behind_local kind inner e)
-    (local_look (λ o. is_mark m.OpenBracket o && takes_bits e) (bits_behind kind inner e) (pure e) (bits_behind_local kind inner e) (local_pure e)))
+behind_local e =
+    local_look (λ o. is_mark m.Colon o && takes_size e) (size_behind e) _ (size_behind_local e)
+    (local_look (λ o. is_mark m.Open o && takes_drop e) (drop_behind e) _ (drop_behind_local e)
+    (local_look (λ o. is_mark m.OpenBracket o && takes_bits e) (bits_behind e) (pure e) (bits_behind_local e) (local_pure e)))
 
 postfix_local : (kind : Kind) (inner : ℕ → Reader Expression) → LocalInner inner → Shrinks (inner loosest) → Local Expression (postfix kind inner)
 unfolding postfix
 postfix_local kind inner here shrinks =
-    local_then (atom kind inner) _ (atom_local kind inner here shrinks) (λ e. local_if (is_section kind) (behind kind inner e) (pure e) (behind_local kind inner e) (local_pure e))
+    local_then (atom kind inner) _ (atom_local kind inner here shrinks) (λ e. local_if (is_section kind) (behind e) (pure e) (behind_local e) (local_pure e))
 
 prefixed_local : (kind : Kind) (inner : ℕ → Reader Expression) → LocalInner inner → (op : PrefixOp) → Local Expression (prefixed kind inner op)
 unfolding prefixed
 prefixed_local kind inner here op = local_then enter _ local_enter (λ _. local_then (inner 0) _ (here 0) (λ e. local_pure (prefix op e)))
 
-space_local : (kind : Kind) (inner : ℕ → Reader Expression) → Local (Option Name) (space_in kind inner)
+space_local : Local (Option Name) space_in
 unfolding space_in
-space_local kind inner =
+space_local =
     local_optional (is_mark m.OpenBracket) (enter >> (name_here >>= (λ w. expect m.CloseBracket >> pure w)))
     (local_then enter _ local_enter (λ _. local_then name_here _ local_name (λ w. local_then (expect m.CloseBracket) _ (local_expect m.CloseBracket) (λ _. local_pure w))))
 
 starred_local : (kind : Kind) (inner : ℕ → Reader Expression) → LocalInner inner → Local Expression (starred kind inner)
 unfolding starred
 starred_local kind inner here =
-    local_then enter _ local_enter (λ _. local_then (space_in kind inner) _ (space_local kind inner)
+    local_then enter _ local_enter (λ _. local_then space_in _ space_local
     (λ place. local_then size_option _ local_size_option (λ width. local_then (inner 0) _ (here 0) (λ e. local_pure (star place width e)))))
 
 prefix_by_local : (kind : Kind) (inner : ℕ → Reader Expression) → LocalInner inner → Shrinks (inner loosest) → (o : Option Sym) → Local Expression (prefix_by kind inner o)

@@ -248,10 +248,10 @@ atom_ok kind inner sound i j e h = atom_by_ok kind inner sound i j e (first i.re
 
 -- ---- what stands behind an atom
 
-size_behind_ok : (inner : ℕ → Reader Expression) (i k j : Input) (e u : Expression) → Reads in_section 0 i e k → first k.rest ≡ Some (mark m.Colon) → takes_size e ≡ true
-    → size_behind in_section inner e k ≡ Ok (u, j) → Reads in_section 0 i u j
+size_behind_ok : (i k j : Input) (e u : Expression) → Reads in_section 0 i e k → first k.rest ≡ Some (mark m.Colon) → takes_size e ≡ true
+    → size_behind e k ≡ Ok (u, j) → Reads in_section 0 i u j
 unfolding size_behind
-size_behind_ok inner i k j e u read is takes h =
+size_behind_ok i k j e u read is takes h =
     let a = then_ok (size_here (next k)) _ u j h in
     let colon = took_next k (mark m.Colon) is in
     let size = size_ok (next k) a.1 a.0 a.2 in
@@ -262,10 +262,10 @@ size_behind_ok inner i k j e u read is takes h =
       low = omega arith;
     })
 
-drop_behind_ok : (inner : ℕ → Reader Expression) (i k j : Input) (e u : Expression) → Reads in_section 0 i e k → first k.rest ≡ Some (mark m.Open) → takes_drop e ≡ true
-    → drop_behind in_section inner e k ≡ Ok (u, j) → Reads in_section 0 i u j
+drop_behind_ok : (i k j : Input) (e u : Expression) → Reads in_section 0 i e k → first k.rest ≡ Some (mark m.Open) → takes_drop e ≡ true
+    → drop_behind e k ≡ Ok (u, j) → Reads in_section 0 i u j
 unfolding drop_behind
-drop_behind_ok inner i k j e u read is takes h =
+drop_behind_ok i k j e u read is takes h =
     let a = then_ok (enter k) _ u j h in
     let b = then_ok (integer_here a.1) _ u j a.3 in
     let c = then_ok (expect m.Close b.1) _ u j b.3 in
@@ -279,10 +279,10 @@ drop_behind_ok inner i k j e u read is takes h =
       low = omega arith;
     })
 
-bits_behind_ok : (inner : ℕ → Reader Expression) (i k j : Input) (e u : Expression) → Reads in_section 0 i e k → first k.rest ≡ Some (mark m.OpenBracket) → takes_bits e ≡ true
-    → bits_behind in_section inner e k ≡ Ok (u, j) → Reads in_section 0 i u j
+bits_behind_ok : (i k j : Input) (e u : Expression) → Reads in_section 0 i e k → first k.rest ≡ Some (mark m.OpenBracket) → takes_bits e ≡ true
+    → bits_behind e k ≡ Ok (u, j) → Reads in_section 0 i u j
 unfolding bits_behind
-bits_behind_ok inner i k j e u read is takes h =
+bits_behind_ok i k j e u read is takes h =
     let a = then_ok (enter k) _ u j h in
     let b = then_ok (integer_here a.1) _ u j a.3 in
     let c = then_ok (expect m.Comma b.1) _ u j b.3 in
@@ -302,30 +302,30 @@ bits_behind_ok inner i k j e u read is takes h =
     })
 
 -- an atom, which may be followed by what its shape allows
-behind_ok : (inner : ℕ → Reader Expression) (i k j : Input) (e u : Expression) → Reads in_section 0 i e k → behind in_section inner e k ≡ Ok (u, j) → Reads in_section 0 i u j
+behind_ok : (i k j : Input) (e u : Expression) → Reads in_section 0 i e k → behind e k ≡ Ok (u, j) → Reads in_section 0 i u j
 unfolding behind
-behind_ok inner i k j e u read h = elim (look_ok (λ o. is_mark m.Colon o && takes_size e) _ _ k (Ok (u, j)) h) [
-  | inl f ↦ let t = both_true (is_mark m.Colon (first k.rest)) (takes_size e) f.0 in size_behind_ok inner i k j e u read (mark_first m.Colon (first k.rest) t.0) t.1 f.1
+behind_ok i k j e u read h = elim (look_ok (λ o. is_mark m.Colon o && takes_size e) _ _ k (Ok (u, j)) h) [
+  | inl f ↦ let t = both_true (is_mark m.Colon (first k.rest)) (takes_size e) f.0 in size_behind_ok i k j e u read (mark_first m.Colon (first k.rest) t.0) t.1 f.1
   | inr f ↦ elim (look_ok (λ o. is_mark m.Open o && takes_drop e) _ _ k (Ok (u, j)) f.1) [
-    | inl g ↦ let t = both_true (is_mark m.Open (first k.rest)) (takes_drop e) g.0 in drop_behind_ok inner i k j e u read (mark_first m.Open (first k.rest) t.0) t.1 g.1
+    | inl g ↦ let t = both_true (is_mark m.Open (first k.rest)) (takes_drop e) g.0 in drop_behind_ok i k j e u read (mark_first m.Open (first k.rest) t.0) t.1 g.1
     | inr g ↦ elim (look_ok (λ o. is_mark m.OpenBracket o && takes_bits e) _ _ k (Ok (u, j)) g.1) [
-      | inl d ↦ let t = both_true (is_mark m.OpenBracket (first k.rest)) (takes_bits e) d.0 in bits_behind_ok inner i k j e u read (mark_first m.OpenBracket (first k.rest) t.0) t.1 d.1
+      | inl d ↦ let t = both_true (is_mark m.OpenBracket (first k.rest)) (takes_bits e) d.0 in bits_behind_ok i k j e u read (mark_first m.OpenBracket (first k.rest) t.0) t.1 d.1
       | inr d ↦ along (λ x l. Reads in_section 0 i x l) e u k j d.1 read
     ]
   ]
 ]
 
-behind_in : (kind : Kind) (inner : ℕ → Reader Expression) (i k j : Input) (e u : Expression) → Reads kind 0 i e k
-    → cond {A = Reader Expression} (is_section kind) (behind kind inner e) (pure e) k ≡ Ok (u, j) → Reads kind 0 i u j
-behind_in in_section inner i k j e u read h = behind_ok inner i k j e u read h
-behind_in in_action inner i k j e u read h = along (λ x l. Reads in_action 0 i x l) e u k j h read
-behind_in in_constraint inner i k j e u read h = along (λ x l. Reads in_constraint 0 i x l) e u k j h read
+behind_in : (kind : Kind) (i k j : Input) (e u : Expression) → Reads kind 0 i e k
+    → cond {A = Reader Expression} (is_section kind) (behind e) (pure e) k ≡ Ok (u, j) → Reads kind 0 i u j
+behind_in in_section i k j e u read h = behind_ok i k j e u read h
+behind_in in_action i k j e u read h = along (λ x l. Reads in_action 0 i x l) e u k j h read
+behind_in in_constraint i k j e u read h = along (λ x l. Reads in_constraint 0 i x l) e u k j h read
 
 postfix_ok : (kind : Kind) (inner : ℕ → Reader Expression) → SoundInner kind inner → Sound kind 0 (postfix kind inner)
 unfolding postfix
 postfix_ok kind inner sound i j u h =
     let a = then_ok (atom kind inner i) _ u j h in
-    behind_in kind inner i a.1 j a.0 u (atom_ok kind inner sound i a.1 a.0 a.2) a.3
+    behind_in kind i a.1 j a.0 u (atom_ok kind inner sound i a.1 a.0 a.2) a.3
 
 -- ---- prefixes
 
@@ -349,9 +349,9 @@ pub record TookSpace (i : Input) (place : Option Name) (j : Input) : Type 0 wher
   pub tokens : i.rest ≡ spell_option spell_space place j.rest
   pub room : i.room ≡ space_cost place j.room
 
-pub space_ok : (kind : Kind) (inner : ℕ → Reader Expression) (i j : Input) (place : Option Name) → space_in kind inner i ≡ Ok (place, j) → TookSpace i place j
+pub space_ok : (i j : Input) (place : Option Name) → space_in i ≡ Ok (place, j) → TookSpace i place j
 unfolding space_in
-space_ok kind inner i j place h = elim (look_ok (is_mark m.OpenBracket) _ _ i (Ok (place, j)) h) [
+space_ok i j place h = elim (look_ok (is_mark m.OpenBracket) _ _ i (Ok (place, j)) h) [
   | inl f ↦
       let z = then_ok (and_then (enter i) (λ _ a. and_then (name_here a) (λ w b. and_then (expect m.CloseBracket b) (λ _ c. Ok (w, c))))) _ place j f.1 in
       let a = then_ok (enter i) _ z.0 z.1 z.2 in
@@ -372,11 +372,11 @@ starred_ok : (kind : Kind) (inner : ℕ → Reader Expression) → SoundInner ki
 unfolding starred
 starred_ok kind inner sound section i j e is h =
     let a = then_ok (enter i) _ e j h in
-    let b = then_ok (space_in kind inner a.1) _ e j a.3 in
+    let b = then_ok (space_in a.1) _ e j a.3 in
     let c = then_ok (size_option b.1) _ e j b.3 in
     let d = then_ok (inner 0 c.1) _ e j c.3 in
     let entered = enter_ok i a.1 (mark m.Star) a.0 is a.2 in
-    let place = space_ok kind inner a.1 b.1 b.0 b.2 in
+    let place = space_ok a.1 b.1 b.0 b.2 in
     let width = size_option_ok b.1 c.1 c.0 c.2 in
     let read = sound 0 c.1 d.1 d.0 d.2 in
     along (λ x l. Reads kind 0 i x l) (star b.0 c.0 d.0) e d.1 j d.3 (record {

@@ -202,11 +202,11 @@ of_prefix kind inner p.Negate e xs rest r s has h = rw h refl
 of_prefix kind inner p.Complement e xs rest r s has h = rw h refl
 of_prefix kind inner p.Not e xs rest r s has h = rw (has, h) refl
 
-space_is : (kind : Kind) (inner : ℕ → Reader Expression) (place : Option Name) (rest : List Sym) (s : ℕ) → is_mark m.OpenBracket (first rest) ≡ false
-    → space_in kind inner (at (spell_option spell_space place rest) (space_cost place s)) ≡ Ok (place, at rest s)
+space_is : (place : Option Name) (rest : List Sym) (s : ℕ) → is_mark m.OpenBracket (first rest) ≡ false
+    → space_in (at (spell_option spell_space place rest) (space_cost place s)) ≡ Ok (place, at rest s)
 unfolding space_in same_mark enter name_here expect
-space_is kind inner None rest s no_bracket = rw no_bracket refl
-space_is kind inner (Some w) rest s no_bracket = refl
+space_is None rest s no_bracket = rw no_bracket refl
+space_is (Some w) rest s no_bracket = refl
 
 width_begins : (width : Option ℕ) (rest : List Sym) → is_mark m.OpenBracket (first rest) ≡ false → is_mark m.OpenBracket (first (spell_option spell_size width rest)) ≡ false
 unfolding same_mark
@@ -218,7 +218,7 @@ pub of_star : (kind : Kind) (inner : ℕ → Reader Expression) (place : Option 
     → tight kind inner (at (mark m.Star ∷ spell_option spell_space place (spell_option spell_size width xs)) (suc (space_cost place r))) ≡ Ok (star place width e, at rest s)
 unfolding tight starred enter
 of_star kind inner place width e xs rest r s section fits begins h =
-    rw (section, space_is kind inner place (spell_option spell_size width xs) r (width_begins width xs begins.no_bracket), size_option_is width xs r fits begins.no_colon, h) refl
+    rw (section, space_is place (spell_option spell_size width xs) r (width_begins width xs begins.no_bracket), size_option_is width xs r fits begins.no_colon, h) refl
 
 -- ---- operators of two operands
 

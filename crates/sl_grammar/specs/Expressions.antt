@@ -63,6 +63,40 @@ allowed kind n l (Some op) = if has_operator kind op && (nat_le (suc (right_rank
 unfoldable pub turn : Kind → ℕ → Expression → Option Sym → Option BinaryOp
 turn kind n l o = allowed kind n l (operator_of o)
 
+-- ---- what stands behind an atom of a section, and in a star form
+
+unfoldable pub size_behind : Expression → Reader Expression
+size_behind e = do
+  skip
+  n ← size_here
+  pure (sized e n)
+
+unfoldable pub drop_behind : Expression → Reader Expression
+drop_behind e = do
+  enter
+  n ← integer_here
+  expect m.Close
+  pure (dropped e n)
+
+unfoldable pub bits_behind : Expression → Reader Expression
+bits_behind e = do
+  enter
+  l ← integer_here
+  expect m.Comma
+  c ← integer_here
+  expect m.CloseBracket
+  pure (bits e l c)
+
+-- one of these, if it may follow the atom
+unfoldable pub behind : Expression → Reader Expression
+behind e =
+    look (λ o. is_mark m.Colon o && takes_size e) (size_behind e)
+    (look (λ o. is_mark m.Open o && takes_drop e) (drop_behind e)
+    (look (λ o. is_mark m.OpenBracket o && takes_bits e) (bits_behind e) (pure e)))
+
+unfoldable pub space_in : Reader (Option Name)
+space_in = optional (is_mark m.OpenBracket) (do enter; w ← name_here; expect m.CloseBracket; pure w)
+
 -- ---- Expressions in brackets and operands are read by `inner`, by their loosest rank.
 
 module _ (kind : Kind) (inner : ℕ → Reader Expression) where
@@ -108,35 +142,6 @@ module _ (kind : Kind) (inner : ℕ → Reader Expression) where
   unfoldable pub atom : Reader Expression
   atom = peek >>= atom_by
 
-  unfoldable pub size_behind : Expression → Reader Expression
-  size_behind e = do
-    skip
-    n ← size_here
-    pure (sized e n)
-
-  unfoldable pub drop_behind : Expression → Reader Expression
-  drop_behind e = do
-    enter
-    n ← integer_here
-    expect m.Close
-    pure (dropped e n)
-
-  unfoldable pub bits_behind : Expression → Reader Expression
-  bits_behind e = do
-    enter
-    l ← integer_here
-    expect m.Comma
-    c ← integer_here
-    expect m.CloseBracket
-    pure (bits e l c)
-
-  -- what stands behind an atom of a section
-  unfoldable pub behind : Expression → Reader Expression
-  behind e =
-      look (λ o. is_mark m.Colon o && takes_size e) (size_behind e)
-      (look (λ o. is_mark m.Open o && takes_drop e) (drop_behind e)
-      (look (λ o. is_mark m.OpenBracket o && takes_bits e) (bits_behind e) (pure e)))
-
   unfoldable pub postfix : Reader Expression
   postfix = atom >>= (λ e. if is_section kind then behind e else pure e)
 
@@ -145,9 +150,6 @@ module _ (kind : Kind) (inner : ℕ → Reader Expression) where
     enter
     e ← inner 0
     pure (prefix op e)
-
-  unfoldable pub space_in : Reader (Option Name)
-  space_in = optional (is_mark m.OpenBracket) (do enter; w ← name_here; expect m.CloseBracket; pure w)
 
   unfoldable pub starred : Reader Expression
   starred = do

@@ -3,12 +3,9 @@
 ghost use Rattle.sl_ast.specs.Views.{bytes, expression_of};
 ghost use Rattle.std.specs.Prelude.{◌≡◌, ◌&&◌, option_map};
 ghost use Rattle.sl_grammar.specs.Expressions as reader;
-ghost use Rattle.sl_grammar.specs.Expressions.{expression};
 ghost use Rattle.sl_grammar.specs.Reader.{first, is_mark};
-ghost use Rattle.sl_phrases.specs.Kinds.{kind_of};
 ghost use Rattle.sl_phrases.specs.Reads.{Reads};
 
-use crate::operators::Kind;
 use crate::shapes::{takes_bits, takes_drop, takes_size};
 use crate::stop::Stop;
 use crate::symbols::Symbols;
@@ -21,11 +18,9 @@ use std::alloc::Global;
 pub fn size_behind<'a>(
     alloc: Global,
     symbols: &mut Symbols<'_, 'a>,
-    kind: Kind,
-    depth: usize,
     inner: Expr<'a>,
 ) -> Result<Expr<'a>, Stop>
-    ensures { Reads expression_of (reader.size_behind (kind_of kind) (expression (kind_of kind) depth) (expression_of inner.entry) symbols.old) result symbols.new }
+    ensures { Reads expression_of (reader.size_behind (expression_of inner.entry) symbols.old) result symbols.new }
 {
     symbols.skip();
     let size = symbols.size()?;
@@ -38,11 +33,9 @@ pub fn size_behind<'a>(
 pub fn drop_behind<'a>(
     alloc: Global,
     symbols: &mut Symbols<'_, 'a>,
-    kind: Kind,
-    depth: usize,
     inner: Expr<'a>,
 ) -> Result<Expr<'a>, Stop>
-    ensures { Reads expression_of (reader.drop_behind (kind_of kind) (expression (kind_of kind) depth) (expression_of inner.entry) symbols.old) result symbols.new }
+    ensures { Reads expression_of (reader.drop_behind (expression_of inner.entry) symbols.old) result symbols.new }
 {
     symbols.enter()?;
     let count = symbols.integer()?;
@@ -56,11 +49,9 @@ pub fn drop_behind<'a>(
 pub fn bits_behind<'a>(
     alloc: Global,
     symbols: &mut Symbols<'_, 'a>,
-    kind: Kind,
-    depth: usize,
     inner: Expr<'a>,
 ) -> Result<Expr<'a>, Stop>
-    ensures { Reads expression_of (reader.bits_behind (kind_of kind) (expression (kind_of kind) depth) (expression_of inner.entry) symbols.old) result symbols.new }
+    ensures { Reads expression_of (reader.bits_behind (expression_of inner.entry) symbols.old) result symbols.new }
 {
     symbols.enter()?;
     let low = symbols.integer()?;
@@ -73,12 +64,8 @@ pub fn bits_behind<'a>(
 
 /// `[space]` of a star form in an expression, which may lack.
 #[tactic(auto, unfolding(sl_grammar::specs::Expressions::space_in))]
-pub fn space_in<'a>(
-    symbols: &mut Symbols<'_, 'a>,
-    kind: Kind,
-    depth: usize,
-) -> Result<Option<&'a [u8]>, Stop>
-    ensures { Reads (option_map bytes) (reader.space_in (kind_of kind) (expression (kind_of kind) depth) symbols.old) result symbols.new }
+pub fn space_in<'a>(symbols: &mut Symbols<'_, 'a>) -> Result<Option<&'a [u8]>, Stop>
+    ensures { Reads (option_map bytes) (reader.space_in symbols.old) result symbols.new }
 {
     if symbols.is_mark(Mark::OpenBracket) {
         symbols.enter()?;
@@ -102,18 +89,16 @@ fn is_mark_and(symbols: &Symbols, mark: Mark, allowed: bool) -> bool
 pub fn behind<'a>(
     alloc: Global,
     symbols: &mut Symbols<'_, 'a>,
-    kind: Kind,
-    depth: usize,
     inner: Expr<'a>,
 ) -> Result<Expr<'a>, Stop>
-    ensures { Reads expression_of (reader.behind (kind_of kind) (expression (kind_of kind) depth) (expression_of inner.entry) symbols.old) result symbols.new }
+    ensures { Reads expression_of (reader.behind (expression_of inner.entry) symbols.old) result symbols.new }
 {
     if is_mark_and(symbols, Mark::Colon, takes_size(&inner)) {
-        size_behind(alloc, symbols, kind, depth, inner)
+        size_behind(alloc, symbols, inner)
     } else if is_mark_and(symbols, Mark::Open, takes_drop(&inner)) {
-        drop_behind(alloc, symbols, kind, depth, inner)
+        drop_behind(alloc, symbols, inner)
     } else if is_mark_and(symbols, Mark::OpenBracket, takes_bits(&inner)) {
-        bits_behind(alloc, symbols, kind, depth, inner)
+        bits_behind(alloc, symbols, inner)
     } else {
         Ok(inner)
     }

@@ -136,7 +136,7 @@ fn starred<'a>(
     ensures { Reads expression_of (reader.starred (kind_of kind) (expression (kind_of kind) depth) symbols.old) result symbols.new }
 {
     symbols.enter()?;
-    let space = space_in(symbols, kind, depth)?;
+    let space = space_in(symbols)?;
     let size = symbols.size_option()?;
     let pointer = expression(alloc, symbols, kind, depth, 0)?;
     let whole = star(alloc, space, size, pointer)?;
@@ -156,7 +156,7 @@ fn postfix<'a>(
 {
     let inner = atom(alloc, symbols, kind, depth)?;
     if is_section(kind) {
-        behind(alloc, symbols, kind, depth, inner)
+        behind(alloc, symbols, inner)
     } else {
         Ok(inner)
     }

@@ -145,16 +145,16 @@ module _ {zs ys K W : List Sym} (h : Pair zs ys K W) (more : ℕ) (kind : Kind) 
   unfolding atom
   atom_begun = begun_peek h more atom_by_begun
 
-  size_behind_begun : (e : Expression) → Begun h more Firm 1 (suc n) (size_behind kind inner e) (size_behind kind outer e)
+  size_behind_begun : (e : Expression) → Begun h more Firm 1 (suc n) (size_behind e) (size_behind e)
   unfolding size_behind
   size_behind_begun e = begun_skips h more (beside_then h more (beside_size h more) (λ x. beside_pure h more (sized e x)))
 
-  drop_behind_begun : (e : Expression) → Begun h more Firm 1 (suc n) (drop_behind kind inner e) (drop_behind kind outer e)
+  drop_behind_begun : (e : Expression) → Begun h more Firm 1 (suc n) (drop_behind e) (drop_behind e)
   unfolding drop_behind
   drop_behind_begun e =
       begun_enters h more (beside_then h more (beside_integer h more) (λ x. beside_then h more (beside_expect h more m.Close tt) (λ _. beside_pure h more (dropped e x))))
 
-  bits_behind_begun : (e : Expression) → Begun h more Firm 1 (suc n) (bits_behind kind inner e) (bits_behind kind outer e)
+  bits_behind_begun : (e : Expression) → Begun h more Firm 1 (suc n) (bits_behind e) (bits_behind e)
   unfolding bits_behind
   bits_behind_begun e =
       begun_enters h more (beside_then h more (beside_integer h more) (λ l. beside_then h more (beside_expect h more m.Comma tt)
@@ -165,14 +165,14 @@ module _ {zs ys K W : List Sym} (h : Pair zs ys K W) (more : ℕ) (kind : Kind) 
   look_and k b none there not_there =
       look_none h more (λ o. is_mark k o && b) (and_false (is_mark k (first K)) b none.0) (and_false (is_mark k (first W)) b none.1) (begun_less h more zero (omega arith) there) not_there
 
-  behind_beside : (e : Expression) → Beside h more Firm zero (suc n) (behind kind inner e) (behind kind outer e)
+  behind_beside : (e : Expression) → Beside h more Firm zero (suc n) (behind e) (behind e)
   unfolding behind
   behind_beside e =
       look_and m.Colon (takes_size e) (no_mark h m.Colon tt) (size_behind_begun e)
       (look_and m.Open (takes_drop e) (no_mark h m.Open tt) (drop_behind_begun e)
       (look_and m.OpenBracket (takes_bits e) (no_mark h m.OpenBracket tt) (bits_behind_begun e) (beside_pure h more e)))
 
-  tail_beside : (b : Bool) (e : Expression) → Beside h more Firm zero (suc n) (λ i. cond {A = Reader Expression} b (behind kind inner e) (pure e) i) (λ i. cond {A = Reader Expression} b (behind kind outer e) (pure e) i)
+  tail_beside : (b : Bool) (e : Expression) → Beside h more Firm zero (suc n) (λ i. cond {A = Reader Expression} b (behind e) (pure e) i) (λ i. cond {A = Reader Expression} b (behind e) (pure e) i)
   tail_beside true e = behind_beside e
   tail_beside false e = beside_pure h more e
 
@@ -184,7 +184,7 @@ module _ {zs ys K W : List Sym} (h : Pair zs ys K W) (more : ℕ) (kind : Kind) 
   unfolding prefixed
   prefixed_begun op = begun_enters h more (loose_then h more (here 0) (λ e. beside_pure h more (prefix op e)) (λ e. closed_pure (prefix op e)))
 
-  space_beside : Beside h more Firm zero n (space_in kind inner) (space_in kind outer)
+  space_beside : Beside h more Firm zero n space_in space_in
   unfolding space_in
   space_beside =
       beside_optional h more m.OpenBracket tt
@@ -245,7 +245,7 @@ lead_here in_action inner outer more t r = apart tt _ _ _ dots
 lead_here in_constraint inner outer more t r = stuck tt _ _
 
 prefix_by_here : {zs ys K W : List Sym} (h : Pair zs ys K W) (more t r : ℕ) (kind : Kind) (inner outer : ℕ → Reader Expression)
-    → ((e : Expression) (i : Input) → NoMore (length i.rest) (cond {A = Reader Expression} (is_section kind) (behind kind outer e) (pure e) i))
+    → ((e : Expression) (i : Input) → NoMore (length i.rest) (cond {A = Reader Expression} (is_section kind) (behind e) (pure e) i))
     → ((w : Name) (i : Input) → NoMore (length i.rest) (after_name kind outer w i))
     → Abreast h more (Untaken zs (has_names kind)) Expression t zero r (prefix_by kind inner (first K) (at K (more + r))) (prefix_by kind outer (first W) (at W r))
 unfolding postfix atom

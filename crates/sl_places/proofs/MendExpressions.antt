@@ -133,7 +133,7 @@ module _ (extra : ℕ) (kind : Kind) (k : ℕ) (mends : MendsExpression extra ki
   space_then i here starts room_left e (Err d) is h =
       subst (λ y. Mended extra (spell_option spell_space) FewSpaces i.rest y) (same_error d e h) ((space_closes room_left).mend i (starts, here) d is)
 
-  space_mends : suc spent ≤ extra + room → (i : Input) → Spent room (suc spent) i → (e : Fault) → space_in kind (expression kind k) i ≡ Err e → Mended extra (spell_option spell_space) FewSpaces i.rest e
+  space_mends : suc spent ≤ extra + room → (i : Input) → Spent room (suc spent) i → (e : Fault) → space_in i ≡ Err e → Mended extra (spell_option spell_space) FewSpaces i.rest e
   unfolding space_in
   space_mends room_left i here e h = elim (look_ok (is_mark m.OpenBracket) _ _ i (Err e) h) [
     | inl g ↦ space_then i here (mark_first m.OpenBracket (first i.rest) g.0) room_left e _ refl g.1
@@ -144,15 +144,15 @@ module _ (extra : ℕ) (kind : Kind) (k : ℕ) (mends : MendsExpression extra ki
   space_costs None s = omega arith
   space_costs (Some w) s = omega arith
 
-  part_space : suc spent ≤ extra + room → Part extra (spell_option spell_space) FewSpaces (Spent room (suc spent)) (λ x j. Spent room (suc spent + space_weight x) j) (space_in kind (expression kind k))
+  part_space : suc spent ≤ extra + room → Part extra (spell_option spell_space) FewSpaces (Spent room (suc spent)) (λ x j. Spent room (suc spent + space_weight x) j) space_in
   part_space room_left = record {
     sound = λ i j x here h. (
-        let took = es.space_ok kind (expression kind k) i j x h in
+        let took = es.space_ok i j x h in
         let counted = took.room in
         let costs_so = space_costs x j.room in
         record { tokens = took.tokens; good = omega (arith, counted, costs_so, here) });
     next = λ i j x here h. (
-        let took = es.space_ok kind (expression kind k) i j x h in
+        let took = es.space_ok i j x h in
         let counted = took.room in
         let costs_so = space_costs x j.room in
         omega (arith, counted, costs_so, here));
@@ -167,7 +167,7 @@ module _ (extra : ℕ) (kind : Kind) (k : ℕ) (mends : MendsExpression extra ki
   starred_closes section =
       closes_enter extra spell_expression (Fits extra room kind 0 spent) (λ rest. rest) spent room (mark m.Star) _ (integer 0) (short_fits extra room kind 0 spent less) (λ rest. number 0 ∷ rest)
       (λ rest. refl) (nothing_keeps extra)
-      (λ room_left. closes_then extra (spell_option spell_space) FewSpaces (Spent room (suc spent)) _ (space_in kind (expression kind k)) spell_expression (Fits extra room kind 0 spent)
+      (λ room_left. closes_then extra (spell_option spell_space) FewSpaces (Spent room (suc spent)) _ space_in spell_expression (Fits extra room kind 0 spent)
       (λ rest. mark m.Star ∷ rest) _ (part_space room_left) (keeps_one extra (mark m.Star))
       (λ place few keeps. closes_then extra (spell_option spell_size) (IfWritten IsWidth) _ _ size_option spell_expression (Fits extra room kind 0 spent) _ _
       (part_size_option extra (λ r. suc spent + space_weight place + r ≡ room)) keeps
@@ -191,7 +191,7 @@ module _ (extra : ℕ) (kind : Kind) (k : ℕ) (mends : MendsExpression extra ki
     abbrev Now : ℕ
     Now = spent + weight a
 
-    drop_closes : takes_drop a ≡ true → Shape (λ rest. spell_expression a rest) (λ j. (first j.rest ≡ Some (mark m.Open)) × Spent room Now j) (drop_behind kind (expression kind k) a)
+    drop_closes : takes_drop a ≡ true → Shape (λ rest. spell_expression a rest) (λ j. (first j.rest ≡ Some (mark m.Open)) × Spent room Now j) (drop_behind a)
     unfolding drop_behind
     drop_closes takes =
         closes_enter extra spell_expression (Fits extra room kind 0 spent) (λ rest. spell_expression a rest) Now room (mark m.Open) _ a fits (λ rest. rest) (λ rest. refl) (all_expressions_keep extra a)
@@ -202,7 +202,7 @@ module _ (extra : ℕ) (kind : Kind) (k : ℕ) (mends : MendsExpression extra ki
         (λ u good more. closes_pure extra spell_expression (Fits extra room kind 0 spent) _ _ (dropped a n)
         (record { binds = (section, takes, fits.binds); low = omega arith; few = omega (arith, room_left) }) (λ rest. refl))))
 
-    bits_closes : takes_bits a ≡ true → Shape (λ rest. spell_expression a rest) (λ j. (first j.rest ≡ Some (mark m.OpenBracket)) × Spent room Now j) (bits_behind kind (expression kind k) a)
+    bits_closes : takes_bits a ≡ true → Shape (λ rest. spell_expression a rest) (λ j. (first j.rest ≡ Some (mark m.OpenBracket)) × Spent room Now j) (bits_behind a)
     unfolding bits_behind
     bits_closes takes =
         closes_enter extra spell_expression (Fits extra room kind 0 spent) (λ rest. spell_expression a rest) Now room (mark m.OpenBracket) _ a fits (λ rest. rest) (λ rest. refl) (all_expressions_keep extra a)
@@ -217,7 +217,7 @@ module _ (extra : ℕ) (kind : Kind) (k : ℕ) (mends : MendsExpression extra ki
         (λ v fit still. closes_pure extra spell_expression (Fits extra room kind 0 spent) _ _ (bits a l c)
         (record { binds = (section, takes, fits.binds); low = omega arith; few = omega (arith, room_left) }) (λ rest. refl))))))
 
-    behind_mends : (j : Input) → Spent room Now j → (e : Fault) → behind kind (expression kind k) a j ≡ Err e → MendedExpression extra room kind 0 spent (spell_expression a j.rest) e
+    behind_mends : (j : Input) → Spent room Now j → (e : Fault) → behind a j ≡ Err e → MendedExpression extra room kind 0 spent (spell_expression a j.rest) e
     unfolding behind size_behind
     behind_mends j here e h = elim (look_ok (λ o. is_mark m.Colon o && takes_size a) _ _ j (Err e) h) [
       | inl g ↦
@@ -420,12 +420,12 @@ module _ (extra : ℕ) (kind : Kind) (k : ℕ) (mends : MendsExpression extra ki
   atom_mended spent fuel i here e h = atom_by_mended (first i.rest) spent fuel i here refl e h
 
   behind_in_mended : (section : Bool) → is_section kind ≡ section → (spent : ℕ) → room < suc spent + k → (a : Expression) → Fits extra room kind 0 spent a → (j : Input) → Spent room (spent + weight a) j → (e : Fault)
-      → cond {A = Reader Expression} section (behind kind (expression kind k) a) (pure a) j ≡ Err e → Mends 0 spent (spell_expression a j.rest) e
+      → cond {A = Reader Expression} section (behind a) (pure a) j ≡ Err e → Mends 0 spent (spell_expression a j.rest) e
   behind_in_mended true is spent fuel a fits j here e h = behind_mends extra kind k mends room spent fuel (omega (arith, here)) a is fits j here e h
   behind_in_mended false is spent fuel a fits j here e h = absurd (cc)
 
   postfix_then : (spent : ℕ) → room < suc spent + k → (i : Input) → Spent room spent i → (e : Fault) (o : Outcome Expression) → atom kind (expression kind k) i ≡ o
-      → and_then o (λ a. cond {A = Reader Expression} (is_section kind) (behind kind (expression kind k) a) (pure a)) ≡ Err e → Mends 0 spent i.rest e
+      → and_then o (λ a. cond {A = Reader Expression} (is_section kind) (behind a) (pure a)) ≡ Err e → Mends 0 spent i.rest e
   postfix_then spent fuel i here e (Ok x) is h =
       let a = x.0 in
       let j = x.1 in

@@ -86,22 +86,22 @@ module _ (more : ℕ) (kind : Kind) (inner outer : ℕ → Reader Expression) (h
   unfolding atom
   atom_raises = raises_peek more atom_by_raises
 
-  size_behind_raises : (e : Expression) → Raises more (size_behind kind inner e) (size_behind kind outer e)
+  size_behind_raises : (e : Expression) → Raises more (size_behind e) (size_behind e)
   unfolding size_behind
   size_behind_raises e = raises_skips more (raises_then more (raises_size more) (λ n. raises_pure more (sized e n)))
 
-  drop_behind_raises : (e : Expression) → Raises more (drop_behind kind inner e) (drop_behind kind outer e)
+  drop_behind_raises : (e : Expression) → Raises more (drop_behind e) (drop_behind e)
   unfolding drop_behind
   drop_behind_raises e =
       raises_then more (raises_enter more) (λ _. raises_then more (raises_integer more) (λ n. raises_then more (raises_expect more m.Close) (λ _. raises_pure more (dropped e n))))
 
-  bits_behind_raises : (e : Expression) → Raises more (bits_behind kind inner e) (bits_behind kind outer e)
+  bits_behind_raises : (e : Expression) → Raises more (bits_behind e) (bits_behind e)
   unfolding bits_behind
   bits_behind_raises e =
       raises_then more (raises_enter more) (λ _. raises_then more (raises_integer more) (λ l. raises_then more (raises_expect more m.Comma)
       (λ _. raises_then more (raises_integer more) (λ c. raises_then more (raises_expect more m.CloseBracket) (λ _. raises_pure more (bits e l c))))))
 
-  behind_raises : (e : Expression) → Raises more (behind kind inner e) (behind kind outer e)
+  behind_raises : (e : Expression) → Raises more (behind e) (behind e)
   unfolding behind
   behind_raises e =
       raises_look more (λ o. is_mark m.Colon o && takes_size e) (size_behind_raises e)
@@ -116,7 +116,7 @@ module _ (more : ℕ) (kind : Kind) (inner outer : ℕ → Reader Expression) (h
   unfolding prefixed
   prefixed_raises op = raises_then more (raises_enter more) (λ _. raises_then more (here 0) (λ e. raises_pure more (prefix op e)))
 
-  space_raises : Raises more (space_in kind inner) (space_in kind outer)
+  space_raises : Raises more space_in space_in
   unfolding space_in
   space_raises =
       raises_optional more (is_mark m.OpenBracket)
