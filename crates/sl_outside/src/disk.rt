@@ -3,7 +3,8 @@
 ghost use Rattle.std.specs.Prelude.{◌≡◌, ◌<◌, ◌≤◌, None, length, IfOk, IfErr};
 ghost use Rattle.std.specs.Result.{IsErrOf};
 ghost use Rattle.std.specs.Io.KnownBytes.{WriteAppends};
-ghost use Rattle.sl_outside.specs.Causes.{Rose};
+ghost use Rattle.sl_outside.specs.Causes.{Rose, next_count};
+ghost use Rattle.sl_outside.specs.Uses.{UsesSink};
 
 use crate::{FetchError, Files, SIZE_LIMIT, Sink, SinkError};
 use std::alloc::Global;
@@ -62,6 +63,8 @@ impl<R: std::rt::Files + Drop> Files for DiskFiles<R> {
 
     ghost faults = { λ files. files.faults };
 
+    ghost asked = { λ _. None };
+
     fn fetch(&mut self, name: &str, into: &mut Vec<u8>) -> Result<(), FetchError> {
         if name.as_bytes().contains(&0) {
             return Err(FetchError::Absent);
@@ -86,14 +89,19 @@ impl<R: std::rt::Files + Drop> Files for DiskFiles<R> {
 pub struct StdSink<R: Print + Drop> {
     rt: R,
     faults: u64,
+    calls: u64,
 }
 
 impl<R: Print + Drop> StdSink<R> {
     pub fn new(rt: R) -> Self
         ensures no_faults { result.faults ≡ 0 }
+        ensures no_calls { result.calls ≡ 0 }
     {
-        let faults = 0;
-        StdSink { rt, faults }
+        StdSink {
+            rt,
+            faults: 0,
+            calls: 0,
+        }
     }
 }
 
@@ -102,14 +110,18 @@ impl<R: Print + Drop> Sink for StdSink<R> {
 
     ghost faults = { λ sink. sink.faults };
 
+    ghost calls = { λ sink. sink.calls };
+
     fn put(&mut self, piece: &[u8]) -> Result<usize, SinkError>
         requires { 0 < length piece.now }
         ensures some { IfOk result (λ count. (0 < count) × (count ≤ length piece.now)) }
         ensures appends { WriteAppends None None result piece.now }
-        ensures never_falls { self.old.faults ≤ self.new.faults }
-        ensures failed { IsErrOf result SinkError.Failed → Rose self.old.faults self.new.faults }
+        ensures counts { self.new.calls ≡ next_count self.old.calls }
+        ensures sink { UsesSink (λ s. s.faults) (λ s. s.calls) self.old self.new
+            (IsErrOf result SinkError.Failed) }
         ensures no_other { IfErr result (λ error. error ≡ SinkError.Failed) }
     {
+        self.calls = self.calls.saturating_add(1);
         match self.rt.write_some(piece) {
             Ok(count) if count > 0 => Ok(count),
             _ => {

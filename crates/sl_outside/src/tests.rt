@@ -1,4 +1,4 @@
-use crate::{DiskFiles, FetchError, Files, MemFiles, MemSink, Sink, StdSink};
+use crate::{DiskFiles, FetchError, Files, MemFiles, MemSink, Sink, SinkError, StdSink};
 use std::test::Fail;
 use std::{env, fs};
 
@@ -21,6 +21,36 @@ fn a_memory_sink_keeps_its_pieces(rt: HostRuntime) {
     assert!(rt; sink.put(b"one") == Ok(3));
     assert!(rt; sink.put(b", two") == Ok(5));
     assert_eq!(rt; sink.bytes(), b"one, two".as_slice());
+}
+
+#[test]
+fn listed_calls_fail(rt: HostRuntime) -> Result<(), Fail> {
+    let mut files = MemFiles::new(rt.alloc());
+    files.add("a", b"text")?;
+    files.fail_on(2)?;
+    let mut into = Vec::new(rt.alloc());
+    assert!(rt; files.fetch("a", &mut into) == Ok(()));
+    assert!(rt; files.fetch("a", &mut into) == Err(FetchError::Failed));
+    assert!(rt; files.fetch("a", &mut into) == Ok(()));
+    let mut sink = MemSink::new(rt.alloc());
+    sink.fail_on(2)?;
+    assert!(rt; sink.put(b"one") == Ok(3));
+    assert!(rt; sink.put(b"two") == Err(SinkError::Failed));
+    assert!(rt; sink.put(b"three") == Ok(5));
+    assert_eq!(rt; sink.bytes(), b"onethree".as_slice());
+    Ok(())
+}
+
+#[test]
+fn a_sink_takes_what_fits(rt: HostRuntime) {
+    let mut sink = MemSink::new(rt.alloc());
+    sink.room(4);
+    assert!(rt; sink.put(b"one") == Ok(3));
+    assert!(rt; sink.put(b"two") == Ok(1));
+    assert!(rt; sink.put(b"three") == Err(SinkError::Failed));
+    sink.room(1);
+    assert!(rt; sink.put(b"four") == Ok(1));
+    assert_eq!(rt; sink.bytes(), b"onetf".as_slice());
 }
 
 #[test]
