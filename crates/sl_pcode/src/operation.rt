@@ -1,9 +1,11 @@
 //! One operation.
 
 ghost use Rattle.std.specs.Prelude.{◌≡◌, ◌≤◌, ◌↔◌, length, IsTrue};
+ghost use Rattle.sl_word.specs.Sizes.{byte_counts};
 ghost use Rattle.sl_pcode.specs.WellFormed.{AreOfOneSize, IsWellFormedOp, TakesOperands, WritesInRange, ReadsInRange};
 
 use crate::{Place2, Varnode};
+use sl_word::AddressSize;
 use smallvec::SmallVec;
 use std::alloc::Global;
 
@@ -38,8 +40,8 @@ impl Op {
         Op { code, out, inputs }
     }
 
-    pub(crate) fn is_well_formed(&self, sizes: &[u8]) -> bool
-        ensures { IsTrue result ↔ IsWellFormedOp sizes.now self.now }
+    pub(crate) fn is_well_formed(&self, sizes: &[AddressSize]) -> bool
+        ensures { IsTrue result ↔ IsWellFormedOp (byte_counts sizes.now) self.now }
     {
         self.takes_operands() && self.writes_in_range(sizes) && self.reads_in_range(sizes)
     }
@@ -63,8 +65,8 @@ impl Op {
         self.inputs.len() == count && self.inputs.iter().all(|input| input.size == out.size)
     }
 
-    fn writes_in_range(&self, sizes: &[u8]) -> bool
-        ensures { IsTrue result ↔ WritesInRange sizes.now self.now.out }
+    fn writes_in_range(&self, sizes: &[AddressSize]) -> bool
+        ensures { IsTrue result ↔ WritesInRange (byte_counts sizes.now) self.now.out }
     {
         match self.out {
             Some(out) => out.place != Place2::Const && out.is_in_range(sizes),
@@ -72,8 +74,8 @@ impl Op {
         }
     }
 
-    fn reads_in_range(&self, sizes: &[u8]) -> bool
-        ensures { IsTrue result ↔ ReadsInRange sizes.now self.now.inputs.items }
+    fn reads_in_range(&self, sizes: &[AddressSize]) -> bool
+        ensures { IsTrue result ↔ ReadsInRange (byte_counts sizes.now) self.now.inputs.items }
     {
         self.inputs.iter().all(|input| input.is_in_range(sizes))
     }

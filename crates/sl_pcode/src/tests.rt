@@ -3,8 +3,8 @@
 ghost use Rattle.std.specs.Prelude.{◌≤◌, length};
 
 use crate::{Code, Op, OpList, Place2, Varnode};
-use sl_word::{Size, SpaceId};
-use std::alloc::{AllocError, Global};
+use sl_word::{AddressSize, Size, SpaceId};
+use std::alloc::Global;
 use std::test::Fail;
 
 fn varnode(place: Place2, offset: u64, bytes: u8) -> Result<Varnode, Fail> {
@@ -16,18 +16,23 @@ fn varnode(place: Place2, offset: u64, bytes: u8) -> Result<Varnode, Fail> {
     })
 }
 
+fn address_size(bytes: u8) -> Result<AddressSize, Fail> {
+    Ok(AddressSize::new(bytes).ok_or("a size")?)
+}
+
 // A list of one operation, for spaces whose addresses have four, one and eight bytes.
 fn one_op(
     alloc: Global,
     code: Code,
     out: Option<Varnode>,
     inputs: &[Varnode],
-) -> Result<Option<OpList>, AllocError>
+) -> Result<Option<OpList>, Fail>
     requires { length inputs.now ≤ 3 }
 {
     let mut ops = Vec::new(alloc);
     ops.push(Op::make(alloc, code, out, inputs))?;
-    Ok(OpList::from_ops(ops, &[4, 1, 8]))
+    let sizes = [address_size(4)?, address_size(1)?, address_size(8)?];
+    Ok(OpList::from_ops(ops, &sizes))
 }
 
 #[test]
@@ -94,7 +99,7 @@ fn a_list_gives_its_operations(rt: HostRuntime) -> Result<(), Fail> {
     let mut ops = Vec::new(rt.alloc());
     ops.push(Op::make(rt.alloc(), Code::IntAdd, Some(unique), &[ram, ram]))?;
     ops.push(Op::make(rt.alloc(), Code::Copy, Some(ram), &[unique]))?;
-    let list = OpList::from_ops(ops, &[4]).ok_or("a list")?;
+    let list = OpList::from_ops(ops, &[address_size(4)?]).ok_or("a list")?;
     let [add, copy] = list.ops() else {
         return Err("two operations".into());
     };

@@ -3,8 +3,9 @@
 ghost use Rattle.std.specs.Prelude.{◌≡◌, ◌^◌, ◌<◌, ◌↔◌, IsTrue};
 ghost use Rattle.sl_pcode.specs.declared.varnode.Place2.TheVariants.{Const};
 ghost use Rattle.sl_pcode.specs.WellFormed.{IsAddress, IsInRange};
+ghost use Rattle.sl_word.specs.Sizes.{byte_counts};
 
-use sl_word::{Size, SpaceId};
+use sl_word::{AddressSize, Size, SpaceId};
 
 /// What the offset of a varnode counts in.
 #[derive(Clone, Copy, Debug, PartialEq, Eq)]
@@ -45,9 +46,9 @@ impl Default for Varnode {
 }
 
 impl Varnode {
-    // Whether its place has it, where addresses have so many bytes in each space.
-    pub(crate) fn is_in_range(self, sizes: &[u8]) -> bool
-        ensures { IsTrue result ↔ IsInRange sizes.now self }
+    // Whether its place has it, where `sizes` has the size of addresses for each space.
+    pub(crate) fn is_in_range(self, sizes: &[AddressSize]) -> bool
+        ensures { IsTrue result ↔ IsInRange (byte_counts sizes.now) self }
     {
         let bytes = self.size.get();
         match self.place {
@@ -58,11 +59,11 @@ impl Varnode {
     }
 }
 
-fn is_address(sizes: &[u8], space: SpaceId, offset: u64) -> bool
-    ensures { IsTrue result ↔ IsAddress sizes.now space offset }
+fn is_address(sizes: &[AddressSize], space: SpaceId, offset: u64) -> bool
+    ensures { IsTrue result ↔ IsAddress (byte_counts sizes.now) space offset }
 {
     match sizes.get(space.0 as usize) {
-        Some(size) => fits(offset, *size),
+        Some(size) => fits(offset, size.get()),
         None => false,
     }
 }

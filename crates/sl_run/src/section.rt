@@ -3,6 +3,7 @@
 ghost use Rattle.std.specs.Prelude.{◌≡◌, ◌%◌, ◌^◌, ◌<◌, IfOk, OnOk, Some, List, length};
 ghost use Rattle.std.specs.List.{AllByRecursion};
 ghost use Rattle.sl_word.specs.Bytes.{address_sizes, byte_at, endian_of};
+ghost use Rattle.sl_word.specs.Sizes.{byte_counts};
 ghost use Rattle.sl_pcode.specs.WellFormed.{IsInRange, IsWellFormed, IsWellFormedOp};
 ghost use Rattle.sl_pcode.specs.Operations.{operations};
 ghost use Rattle.sl_run.specs.Machine.{Fits, IsAfter, IsPut, IsSoundSum, RunsSection, sum_value};
@@ -13,18 +14,18 @@ ghost use Rattle.sl_description.specs.declared.sections.Sum.{Sum};
 
 use sl_description::{Storage, Sum, Term};
 use sl_pcode::{Code, Op, OpList, Place2, Varnode};
-use sl_word::{Op2, Size, SpaceId, State, Word, apply2};
+use sl_word::{AddressSize, Op2, Size, SpaceId, State, Word, apply2};
 use std::alloc::{AllocError, Global};
 
-/// Runs the statements of a section in order. `sizes` has the number of bytes of an address for each
-/// space of the state. The only error is want of memory, which may leave some statements done.
+/// Runs the statements of a section in order. `sizes` has the size of addresses for each space of the
+/// state. The only error is want of memory, which may leave some statements done.
 pub fn run_section(
     alloc: Global,
     state: &mut State,
-    sizes: &[u8],
+    sizes: &[AddressSize],
     section: &[Sum],
 ) -> Result<(), AllocError>
-    requires sizes { sizes.now ≡ address_sizes state.old }
+    requires sizes { byte_counts sizes.now ≡ address_sizes state.old }
     requires sound { AllByRecursion (IsSoundSum (address_sizes state.old)) (sums section.now) }
     ensures sizes { address_sizes state.new ≡ address_sizes state.old }
     ensures endian { endian_of state.new ≡ endian_of state.old }

@@ -4,6 +4,7 @@ ghost use Rattle.std.specs.Prelude.{◌≡◌, ℕ, ◌+◌, ◌%◌, ◌^◌, �
 ghost use Rattle.sl_description.specs.Views.{statements, sums};
 ghost use Rattle.sl_cube.specs.declared.Cube.{Cube};
 ghost use Rattle.sl_word.specs.Bytes.{address_sizes, byte_at, endian_of};
+ghost use Rattle.sl_word.specs.Sizes.{byte_counts};
 ghost use Rattle.sl_sets.specs.Cubes.{has_cube};
 ghost use Rattle.sl_run.specs.Machine.{AreSound};
 ghost use Rattle.sl_run.specs.Runs.{IsChosenSection, Runs, point_from};
@@ -14,7 +15,7 @@ use crate::section::run_section;
 use sl_cube::Point;
 use sl_description::Sum;
 use sl_sets::Chooser;
-use sl_word::{Size, SpaceId, State};
+use sl_word::{AddressSize, Size, SpaceId, State};
 use std::alloc::{AllocError, Global};
 
 /// How a run ended.
@@ -30,21 +31,21 @@ pub struct Outcome {
 
 /// Runs at most so many instructions, the first at address 0 of the first space. `sections` has the
 /// section of each constructor, by its place among the cubes that the chooser was built from, and
-/// `sizes` the number of bytes of an address for each space of the state. The only error is want of
+/// `sizes` the size of addresses for each space of the state. The only error is want of
 /// memory, which may leave some instructions done.
 pub fn run_steps(
     alloc: Global,
     chooser: &Chooser,
     sections: &[Vec<Sum>],
-    sizes: &[u8],
+    sizes: &[AddressSize],
     address_bytes: u8,
     token_bytes: u8,
     state: &mut State,
     steps: u64,
 ) -> Result<Outcome, AllocError>
-    requires sizes { sizes.now ≡ address_sizes state.old }
+    requires sizes { byte_counts sizes.now ≡ address_sizes state.old }
     requires some_space { 0 < length sizes.now }
-    requires first_space { slice_index sizes.now 0 ≡ address_bytes }
+    requires first_space { slice_index (byte_counts sizes.now) 0 ≡ address_bytes }
     requires address_bytes { address_bytes ≤ 8 }
     requires sound { AreSound (address_sizes state.old) (statements sections.now) }
     ensures sizes { address_sizes state.new ≡ address_sizes state.old }

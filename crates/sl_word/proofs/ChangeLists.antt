@@ -73,7 +73,7 @@ pub changes_end : (opening now : State) (list : List Change) → address_sizes o
 unfolding byte_at address_sizes endian_of
 changes_end opening now list sizes before =
     let count : length opening.spaces.items ≡ length now.spaces.items =
-    sym (length-map opening.spaces.items (λ one. one.size)) ∙ ap length sizes ∙ length-map now.spaces.items (λ one. one.size)
+    sym (length-map opening.spaces.items (λ one. one.size.bytes)) ∙ ap length sizes ∙ length-map now.spaces.items (λ one. one.size.bytes)
     in
     record {
       each = λ i x inside. (before.each i x inside).0;

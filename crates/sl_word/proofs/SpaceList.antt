@@ -4,11 +4,13 @@ use Rattle.std.specs.Prelude.{slice_get}
 use Rattle.std.specs.Option.{option_map_or}
 use Rattle.std.proofs.lemmas.Option.{slice_get_within, slice_get_read}
 use Rattle.std.proofs.lemmas.Bool.{cases_eq}
-use Rattle.std.proofs.lemmas.List.{length-map, map-append, take_more}
+use Rattle.std.proofs.lemmas.List.{get_or-map, length-map, map-append, take_more}
 use Rattle.sl_word.specs.declared.space.Space.{Space}
 use Rattle.sl_word.specs.declared.state.State.{State}
 use Rattle.sl_word.specs.Bytes.{byte_among, byte_at, address_size, address_sizes, endian_of, number_at, KeepsOthers, IsSame, PutsBytes}
+use Rattle.sl_word.specs.declared.word.AddressSize.{AddressSize}
 use Rattle.sl_word.specs.Pages.{byte_in}
+use Rattle.sl_word.specs.Sizes.{byte_counts}
 use Rattle.sl_word.specs.Layout.{Puts, byte_of}
 use Rattle.sl_word.proofs.LayoutLaws.{number_of-Puts}
 
@@ -24,16 +26,16 @@ slice_get-set_other (z ∷ zs) zero (suc j) x ne = refl
 slice_get-set_other (z ∷ zs) (suc i) zero x ne = refl
 slice_get-set_other (z ∷ zs) (suc i) (suc j) x ne = slice_get-set_other zs i j x (λ e. ne (ap suc e))
 
-sizes_kept : (xs : List Space) (i : ℕ) (x y : Space) → slice_get xs i ≡ Some y → x.size ≡ y.size → map (λ one. one.size) (set xs i x) ≡ map (λ one. one.size) xs
+sizes_kept : (xs : List Space) (i : ℕ) (x y : Space) → slice_get xs i ≡ Some y → x.size ≡ y.size → map (λ one. one.size.bytes) (set xs i x) ≡ map (λ one. one.size.bytes) xs
 sizes_kept [] i x y was size = refl
 sizes_kept (z ∷ zs) zero x y was size =
     let same : z ≡ y = cc in
-    ap (λ n. n ∷ map (λ one. one.size) zs) (size ∙ ap (λ one. one.size) (sym same))
-sizes_kept (z ∷ zs) (suc i) x y was size = ap (λ ns. z.size ∷ ns) (sizes_kept zs i x y was size)
+    ap (λ n. n ∷ map (λ one. one.size.bytes) zs) (ap (λ (n : AddressSize). n.bytes) size ∙ ap (λ one. one.size.bytes) (sym same))
+sizes_kept (z ∷ zs) (suc i) x y was size = ap (λ ns. z.size.bytes ∷ ns) (sizes_kept zs i x y was size)
 
-size_at : (xs : List Space) (i : ℕ) (y : Space) → slice_get xs i ≡ Some y → get_or (map (λ one. one.size) xs) i 0 ≡ y.size
+size_at : (xs : List Space) (i : ℕ) (y : Space) → slice_get xs i ≡ Some y → get_or (map (λ one. one.size.bytes) xs) i 0 ≡ y.size.bytes
 size_at [] i y was = cc
-size_at (z ∷ zs) zero y was = let same : z ≡ y = cc in ap (λ one. one.size) same
+size_at (z ∷ zs) zero y was = let same : z ≡ y = cc in ap (λ one. one.size.bytes) same
 size_at (z ∷ zs) (suc i) y was = size_at zs i y was
 
 -- A state s, of which one space y is changed to x.
@@ -63,7 +65,7 @@ module _ (s : State) (i : ℕ) (x y : Space) (was : slice_get s.spaces.items i �
         | inr away ↦ at_other j offset away
       ]
 
-  pub Puts-changed : (base count : ℕ) (byte : ℕ → ℕ) → Puts (256 ^ y.size) base count byte (byte_in y) (byte_in x) → Puts (256 ^ address_size s i) base count byte (byte_at s i) (byte_among (set s.spaces.items i x) i)
+  pub Puts-changed : (base count : ℕ) (byte : ℕ → ℕ) → Puts (256 ^ y.size.bytes) base count byte (byte_in y) (byte_in x) → Puts (256 ^ address_size s i) base count byte (byte_at s i) (byte_among (set s.spaces.items i x) i)
   unfolding byte_at address_sizes endian_of
   Puts-changed base count byte puts =
       rw (size_at s.spaces.items i y was) (record {
@@ -76,7 +78,7 @@ module _ (s : State) (i : ℕ) (x y : Space) (was : slice_get s.spaces.items i �
   KeepsOthers-changed new endian spaces size =
       record {
         endian = endian;
-        sizes = ap (λ xs. map (λ one. one.size) xs) spaces ∙ sizes_kept s.spaces.items i x y was size;
+        sizes = ap (λ xs. map (λ one. one.size.bytes) xs) spaces ∙ sizes_kept s.spaces.items i x y was size;
         bytes = λ other offset ne. ap (λ xs. byte_among xs other offset) spaces ∙ at_other other offset ne;
       }
 
@@ -85,7 +87,7 @@ module _ (s : State) (i : ℕ) (x y : Space) (was : slice_get s.spaces.items i �
   IsSame-changed new endian spaces size same =
       record {
         endian = endian;
-        sizes = ap (λ xs. map (λ one. one.size) xs) spaces ∙ sizes_kept s.spaces.items i x y was size;
+        sizes = ap (λ xs. map (λ one. one.size.bytes) xs) spaces ∙ sizes_kept s.spaces.items i x y was size;
         bytes = λ space offset. ap (λ xs. byte_among xs space offset) spaces ∙ at_any same space offset;
       }
 
@@ -93,7 +95,7 @@ module _ (s : State) (i : ℕ) (x y : Space) (was : slice_get s.spaces.items i �
 pub was_there : (s : State) (i : ℕ) (y : Space) → i < length (address_sizes s) → y ≡ get_or s.spaces.items i y → slice_get s.spaces.items i ≡ Some y
 unfolding byte_at address_sizes endian_of
 was_there s i y inside read =
-    slice_get_read s.spaces.items (length s.spaces.items) i y refl (rw (← length-map s.spaces.items (λ one. one.size)) inside) read
+    slice_get_read s.spaces.items (length s.spaces.items) i y refl (rw (← length-map s.spaces.items (λ one. one.size.bytes)) inside) read
 
 -- one more space of zeros
 pub zeros_more : (xs : List Space) (x : Space) → ((space offset : ℕ) → byte_among xs space offset ≡ 0) → ((offset : ℕ) → byte_in x offset ≡ 0) → (space offset : ℕ) → byte_among (xs ++ x ∷ []) space offset ≡ 0
@@ -102,12 +104,12 @@ zeros_more [] x before new (suc k) offset = refl
 zeros_more (z ∷ zs) x before new zero offset = before 0 offset
 zeros_more (z ∷ zs) x before new (suc k) offset = zeros_more zs x (λ j o. before (suc j) o) new k offset
 
-pub sizes_more : (xs : List Space) (x : Space) (sizes : List ℕ) (i : ℕ) → i < length sizes → map (λ one. one.size) xs ≡ take i sizes → x.size ≡ get_or sizes i 0 → map (λ one. one.size) (xs ++ x ∷ []) ≡ take (i + 1) sizes
-sizes_more xs x sizes i inside before new =
-    map-append (λ (one : Space). one.size) xs (x ∷ [])
-    ∙ ap (λ ns. ns ++ x.size ∷ []) before
-    ∙ ap (λ n. take i sizes ++ n ∷ []) new
-    ∙ sym (take_more sizes i 0 inside)
+pub sizes_more : (xs : List Space) (x : Space) (sizes : List AddressSize) (i : ℕ) → i < length sizes → map (λ one. one.size.bytes) xs ≡ take i (byte_counts sizes) → (y : AddressSize) → x.size ≡ y → y ≡ get_or sizes i y → map (λ one. one.size.bytes) (xs ++ x ∷ []) ≡ take (i + 1) (byte_counts sizes)
+sizes_more xs x sizes i inside before y same read =
+    map-append (λ (one : Space). one.size.bytes) xs (x ∷ [])
+    ∙ ap (λ ns. ns ++ x.size.bytes ∷ []) before
+    ∙ ap (λ n. take i (byte_counts sizes) ++ n ∷ []) (ap (λ (n : AddressSize). n.bytes) (same ∙ read) ∙ sym (get_or-map (λ (n : AddressSize). n.bytes) sizes i y 0 inside))
+    ∙ sym (take_more (byte_counts sizes) i 0 (rw (length-map sizes (λ (n : AddressSize). n.bytes)) inside))
 
 -- what was written is what is read
 pub reads_back : (old new : State) (space offset size bits : ℕ) → KeepsOthers old new space → bits < 256 ^ size → PutsBytes old new space offset size (byte_of (endian_of old) size bits) → number_at new space offset size ≡ bits

@@ -16,7 +16,7 @@ byte_at state space offset = byte_among state.spaces.items space offset
 
 -- How many bytes an address has in each space.
 unfoldable pub address_sizes : State → List ℕ
-address_sizes state = map (λ one. one.size) state.spaces.items
+address_sizes state = map (λ one. one.size.bytes) state.spaces.items
 
 abbrev pub address_size : State → ℕ → ℕ
 address_size state space = slice_index (address_sizes state) space

@@ -5,3 +5,4 @@ pub mod Layout
 pub mod Numbers
 pub mod Operations
 pub mod Pages
+pub mod Sizes

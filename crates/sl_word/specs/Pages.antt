@@ -15,8 +15,8 @@ HasPage space number = IsSome (get nat_cmp space.pages number)
 
 -- The byte some places after a base, round the end of the space.
 abbrev pub byte_after : Space → ℕ → ℕ → ℕ
-byte_after space base i = byte_in space ((base + i) % 256 ^ space.size)
+byte_after space base i = byte_in space ((base + i) % 256 ^ space.size.bytes)
 
 -- Each of so many bytes after a base lies in a page that is there.
 abbrev pub HasPages : Space → ℕ → ℕ → Type 0
-HasPages space base count = (i : ℕ) → i < count → HasPage space ((base + i) % 256 ^ space.size / 4096)
+HasPages space base count = (i : ℕ) → i < count → HasPage space ((base + i) % 256 ^ space.size.bytes / 4096)

@@ -12,4 +12,4 @@ mod word;
 
 pub use operation::{DivideByZero, Op1, Op2, apply1, apply2};
 pub use state::{Change, State};
-pub use word::{Endian, Size, SpaceId, UserId, Word};
+pub use word::{AddressSize, Endian, Size, SpaceId, UserId, Word};

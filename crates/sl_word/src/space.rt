@@ -4,7 +4,7 @@ ghost use Rattle.std.specs.Prelude.{◌≡◌, ℕ, ◌+◌, ◌*◌, ◌/◌, �
 ghost use Rattle.std.specs.Option.{option_map_or, option_copied};
 ghost use Rattle.sl_word.specs.Layout.{Puts, byte_of, number_of, little_endian, big_endian};
 
-use crate::{Endian, Size, Word};
+use crate::{AddressSize, Endian, Size, Word};
 use std::alloc::{AllocError, Global};
 use std::collections::BTreeMap;
 
@@ -26,23 +26,19 @@ impl Page {
     }
 }
 
-/// Pages by their numbers; what has no page is 0. Addresses have `size` bytes.
+/// Pages by their numbers; what has no page is 0.
 #[derive(Drop)]
 pub(crate) struct Space {
     alloc: Global,
-    size: u8,
+    size: AddressSize,
     pages: BTreeMap<u64, Page>,
-    ghost some: { 1 ≤ size },
-    ghost at_most_8: { size ≤ 8 },
 }
 
 impl Space {
     ghost use Rattle.sl_word.specs.Pages.{byte_in, byte_after, HasPage, HasPages};
     ghost use Rattle.sl_word.specs.Differences.{IsFirstDifference, IsFirstPage};
 
-    pub(crate) fn new(alloc: Global, size: u8) -> Space
-        requires some { 1 ≤ size }
-        requires at_most_8 { size ≤ 8 }
+    pub(crate) fn new(alloc: Global, size: AddressSize) -> Space
         ensures size { result.size ≡ size }
         ensures zero { (offset : ℕ) → byte_in result offset ≡ 0 }
     {
@@ -63,9 +59,9 @@ impl Space {
 
     // Some offset after the base, round the end of the space.
     fn address(&self, base: u64, after: u64) -> u64
-        ensures { result ≡ (base + after) % 256 ^ self.now.size }
+        ensures { result ≡ (base + after) % 256 ^ self.now.size.bytes }
     {
-        let mask = u64::MAX >> (64 - 8 * u32::from(self.size));
+        let mask = u64::MAX >> (64 - 8 * u32::from(self.size.bytes));
         base.wrapping_add(after) & mask
     }
 
@@ -117,7 +113,7 @@ impl Space {
     fn set_word(&mut self, base: u64, endian: Endian, word: Word)
         requires { HasPages self.old base word.size.bytes }
         ensures size { self.new.size ≡ self.old.size }
-        ensures put { Puts (256 ^ self.old.size) base word.size.bytes (byte_of endian word.size.bytes word.bits) (byte_in self.old) (byte_in self.new) }
+        ensures put { Puts (256 ^ self.old.size.bytes) base word.size.bytes (byte_of endian word.size.bytes word.bits) (byte_in self.old) (byte_in self.new) }
     {
         for place in 0..word.size.bytes {
             let offset = self.address(base, u64::from(place));
@@ -127,9 +123,9 @@ impl Space {
 
     fn set_bytes(&mut self, base: u64, bytes: &[u8])
         requires pages { HasPages self.old base (length bytes.now) }
-        requires short { length bytes.now ≤ 256 ^ self.old.size }
+        requires short { length bytes.now ≤ 256 ^ self.old.size.bytes }
         ensures size { self.new.size ≡ self.old.size }
-        ensures put { Puts (256 ^ self.old.size) base (length bytes.now) (slice_index bytes.now) (byte_in self.old) (byte_in self.new) }
+        ensures put { Puts (256 ^ self.old.size.bytes) base (length bytes.now) (slice_index bytes.now) (byte_in self.old) (byte_in self.new) }
     {
         for place in 0..bytes.len() {
             let offset = self.address(base, place as u64);
@@ -188,7 +184,7 @@ impl Space {
     // Puts the word's bytes in memory order. A refusal changes no byte.
     pub(crate) fn write(&mut self, base: u64, endian: Endian, word: Word) -> Result<(), AllocError>
         ensures size { self.new.size ≡ self.old.size }
-        ensures put { OnOk result (Puts (256 ^ self.old.size) base word.size.bytes (byte_of endian word.size.bytes word.bits) (byte_in self.old) (byte_in self.new)) }
+        ensures put { OnOk result (Puts (256 ^ self.old.size.bytes) base word.size.bytes (byte_of endian word.size.bytes word.bits) (byte_in self.old) (byte_in self.new)) }
         ensures unchanged { OnErr result ((offset : ℕ) → byte_in self.new offset ≡ byte_in self.old offset) }
     {
         self.add_pages(base, u64::from(word.size.bytes))?;
@@ -198,9 +194,9 @@ impl Space {
 
     // Puts the bytes. A refusal changes no byte.
     pub(crate) fn load(&mut self, base: u64, bytes: &[u8]) -> Result<(), AllocError>
-        requires { length bytes.now ≤ 256 ^ self.old.size }
+        requires { length bytes.now ≤ 256 ^ self.old.size.bytes }
         ensures size { self.new.size ≡ self.old.size }
-        ensures put { OnOk result (Puts (256 ^ self.old.size) base (length bytes.now) (slice_index bytes.now) (byte_in self.old) (byte_in self.new)) }
+        ensures put { OnOk result (Puts (256 ^ self.old.size.bytes) base (length bytes.now) (slice_index bytes.now) (byte_in self.old) (byte_in self.new)) }
         ensures unchanged { OnErr result ((offset : ℕ) → byte_in self.new offset ≡ byte_in self.old offset) }
     {
         self.add_pages(base, bytes.len() as u64)?;

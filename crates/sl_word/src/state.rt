@@ -1,11 +1,10 @@
 //! The state of a machine: the bytes of its spaces.
 
 ghost use Rattle.std.specs.Prelude.{◌≡◌, ◌≢◌, ℕ, ◌+◌, ◌%◌, ◌^◌, ◌<◌, ◌≤◌, length, slice_index, OnOk, OnErr, IfOk};
-ghost use Rattle.std.specs.List.{All};
 ghost use Rattle.sl_word.specs.Layout.{byte_of};
 
 use crate::space::Space;
-use crate::{Endian, Size, SpaceId, Word};
+use crate::{AddressSize, Endian, Size, SpaceId, Word};
 use std::alloc::{AllocError, Global};
 
 /// The bytes of each space of a machine, all 0 at first, and the order of bytes in memory.
@@ -30,15 +29,15 @@ pub struct Change {
 #[tactic(auto, unfolding(crate::specs::Bytes::byte_at, crate::specs::Bytes::address_sizes, crate::specs::Bytes::endian_of))]
 impl State {
     ghost use Rattle.sl_word.specs.Bytes.{byte_at, number_at, address_size, address_sizes, endian_of, IsSame, KeepsOthers, PutsBytes};
+    ghost use Rattle.sl_word.specs.Sizes.{byte_counts};
     ghost use Rattle.sl_word.specs.Changes.{ListsChanges, change_of};
     ghost use Rattle.sl_word.specs.Differences.{ListsChangesBefore, IsFirstDifference};
 
-    /// A state with one space for each number of bytes that an address has in it.
-    pub fn new(alloc: Global, endian: Endian, sizes: &[u8]) -> Result<State, AllocError>
-        requires sizes { All (λ size. (1 ≤ size) × (size ≤ 8)) sizes.now }
+    /// A state with one space for each size of addresses.
+    pub fn new(alloc: Global, endian: Endian, sizes: &[AddressSize]) -> Result<State, AllocError>
         requires few { length sizes.now < 2 ^ 32 }
         ensures endian { IfOk result (λ state. endian_of state ≡ endian) }
-        ensures sizes { IfOk result (λ state. address_sizes state ≡ sizes.now) }
+        ensures sizes { IfOk result (λ state. address_sizes state ≡ byte_counts sizes.now) }
         ensures zero { IfOk result (λ state. (space offset : ℕ) → byte_at state space offset ≡ 0) }
     {
         let mut spaces = Vec::new(alloc);

@@ -1,11 +1,17 @@
 ghost use Rattle.std.specs.Prelude.{◌≡◌, ◌+◌, ◌<◌, ◌≤◌, IsTrue};
 ghost use Rattle.sl_word.specs.Operations.{TakesSizes1, TakesSizes2};
 
-use crate::{Change, DivideByZero, Endian, Op1, Op2, Size, SpaceId, State, Word, apply1, apply2};
+use crate::{
+    AddressSize, Change, DivideByZero, Endian, Op1, Op2, Size, SpaceId, State, Word, apply1, apply2,
+};
 use std::test::Fail;
 
 fn size(n: u8) -> Result<Size, Fail> {
     Ok(Size::new(n).ok_or("a size")?)
+}
+
+fn address_size(n: u8) -> Result<AddressSize, Fail> {
+    Ok(AddressSize::new(n).ok_or("a size")?)
 }
 
 fn word(bits: u128, n: u8) -> Result<Word, Fail> {
@@ -107,8 +113,9 @@ fn operations_on_two_words(rt: HostRuntime) -> Result<(), Fail> {
 #[test]
 fn a_state_keeps_what_is_written(rt: HostRuntime) -> Result<(), Fail> {
     let (ram, small) = (SpaceId(0), SpaceId(1));
-    let opening = State::new(rt.alloc(), Endian::Big, &[2, 1])?;
-    let mut state = State::new(rt.alloc(), Endian::Big, &[2, 1])?;
+    let sizes = [address_size(2)?, address_size(1)?];
+    let opening = State::new(rt.alloc(), Endian::Big, &sizes)?;
+    let mut state = State::new(rt.alloc(), Endian::Big, &sizes)?;
     state.load_image(ram, 0xfffd, b"\x01\x02\x03")?;
     state.write(small, 0xff, word(0x1122, 2)?)?;
     assert_eq!(rt; state.read(ram, 0xfffe, size(4)?).bits, 0x0203_0000);

@@ -51,6 +51,34 @@ impl Size {
     }
 }
 
+/// The number of bytes of an address in one space, from 1 to 8.
+#[derive(Clone, Copy, Debug, PartialEq, Eq)]
+pub struct AddressSize {
+    pub bytes: u8,
+    ghost some: { 1 ≤ bytes },
+    ghost at_most_8: { bytes ≤ 8 },
+}
+
+impl AddressSize {
+    /// The size of addresses of `n` bytes.
+    pub fn new(n: u8) -> Option<AddressSize>
+        ensures valid { IsSome result ↔ ((1 ≤ n) × (n ≤ 8)) }
+        ensures value { IfSome result (λ size. size.bytes ≡ n) }
+    {
+        if n == 0 || n > 8 {
+            return None;
+        }
+        Some(AddressSize { bytes: n })
+    }
+
+    /// The number of bytes.
+    pub fn get(self) -> u8
+        ensures { result ≡ self.bytes }
+    {
+        self.bytes
+    }
+}
+
 /// The order of the bytes of a number in memory: the least significant byte first, or last.
 #[derive(Clone, Copy, Debug, PartialEq, Eq)]
 pub enum Endian {

@@ -4,7 +4,7 @@ use Rattle.sl_word.proofs.space.Space.address.Goals as goal
 
 pub returns : goal.returns
 returns c =
-    let fits : 8 * c.args.self.now.size ≤ 64 = omega (arith, c.args.self.now.at_most_8) in
-    let mask = greatest-shift 64 c.args.self.now.size (8 * c.from.result) (omega arith) fits in
-    low-mask ((c.args.base + c.args.after) % 2 ^ 64) _ c.args.self.now.size mask
-    ∙ low-wrap (c.args.base + c.args.after) 64 c.args.self.now.size fits
+    let fits : 8 * c.args.self.now.size.bytes ≤ 64 = omega (arith, c.args.self.now.size.at_most_8) in
+    let mask = greatest-shift 64 c.args.self.now.size.bytes (8 * c.from.result) (omega arith) fits in
+    low-mask ((c.args.base + c.args.after) % 2 ^ 64) _ c.args.self.now.size.bytes mask
+    ∙ low-wrap (c.args.base + c.args.after) 64 c.args.self.now.size.bytes fits

@@ -8,5 +8,5 @@ invariant-loop-place l =
     record {
       size : l.self.size ≡ l.initial.self.size;
       there : HasPages l.self l.base (length l.bytes);
-      put : Puts (256 ^ l.initial.self.size) l.base l.place (λ k. get_or l.bytes k 0) (byte_in l.initial.self) (byte_in l.self);
+      put : Puts (256 ^ l.initial.self.size.bytes) l.base l.place (λ k. get_or l.bytes k 0) (byte_in l.initial.self) (byte_in l.self);
     }

@@ -2,20 +2,21 @@ use Rattle.std.proofs.Common.{◌≡◌, ◌+◌, ◌%◌, ◌^◌, ◌<◌, ◌
 use Rattle.sl_word.specs.Pages.{byte_in}
 use Rattle.sl_word.specs.Layout.{byte_of}
 use Rattle.sl_word.proofs.Powers.{bytes_mono}
+use Rattle.sl_word.specs.declared.word.AddressSize.{AddressSize}
 use Rattle.sl_word.proofs.Memory.{Puts-more}
 use Rattle.sl_word.proofs.space.Space.set_word.Goals as goal
 
 pub loop-place-preserved : goal.loop-place-preserved
 loop-place-preserved c =
-    let inside : c.loop-place.place < 256 ^ c.args.self.now.size = omega (arith, c.args.word.size.at_most_16, bytes_mono 1 c.args.self.now.size c.args.self.now.some) in
-    let at : c.address-offset.result ≡ (c.args.base + c.loop-place.place) % 256 ^ c.args.self.now.size =
-    c.address-offset.ensures ∙ ap (λ x. (c.args.base + x) % 256 ^ c.loop-place.self.size) c.from.ensures
-    ∙ ap (λ n. (c.args.base + c.loop-place.place) % 256 ^ n) c.loop-place.invariant.size
+    let inside : c.loop-place.place < 256 ^ c.args.self.now.size.bytes = omega (arith, c.args.word.size.at_most_16, bytes_mono 1 c.args.self.now.size.bytes c.args.self.now.size.some) in
+    let at : c.address-offset.result ≡ (c.args.base + c.loop-place.place) % 256 ^ c.args.self.now.size.bytes =
+    c.address-offset.ensures ∙ ap (λ x. (c.args.base + x) % 256 ^ c.loop-place.self.size.bytes) c.from.ensures
+    ∙ ap (λ (n : AddressSize). (c.args.base + c.loop-place.place) % 256 ^ n.bytes) c.loop-place.invariant.size
     in
     record {
       size = c.set_byte.ensures.size ∙ c.loop-place.invariant.size;
       there = λ i h. rw c.set_byte.ensures.size (c.set_byte.ensures.stay _ (c.loop-place.invariant.there i h));
-      put = Puts-more (256 ^ c.args.self.now.size) c.args.base c.loop-place.place c.address-offset.result c.byte.result (byte_of c.args.endian c.args.word.size.bytes c.args.word.bits)
+      put = Puts-more (256 ^ c.args.self.now.size.bytes) c.args.base c.loop-place.place c.address-offset.result c.byte.result (byte_of c.args.endian c.args.word.size.bytes c.args.word.bits)
           (byte_in c.args.self.now) (byte_in c.loop-place.self) (byte_in c.set_byte.new.self)
           inside at c.byte.ensures c.loop-place.invariant.put c.set_byte.ensures.bytes;
     }

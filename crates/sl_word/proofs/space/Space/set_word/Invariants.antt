@@ -8,5 +8,5 @@ invariant-loop-place l =
     record {
       size : l.self.size ≡ l.initial.self.size;
       there : HasPages l.self l.base l.fn.word.size.bytes;
-      put : Puts (256 ^ l.initial.self.size) l.base l.place (byte_of l.endian l.fn.word.size.bytes l.fn.word.bits) (byte_in l.initial.self) (byte_in l.self);
+      put : Puts (256 ^ l.initial.self.size.bytes) l.base l.place (byte_of l.endian l.fn.word.size.bytes l.fn.word.bits) (byte_in l.initial.self) (byte_in l.self);
     }

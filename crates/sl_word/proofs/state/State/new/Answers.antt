@@ -7,6 +7,6 @@ loop-size-preserved c =
     let added : c.push.new.self.items ≡ c.loop-size.spaces.items ++ c.new.result ∷ [] = search rules in
     record {
       sizes = rw added (sizes_more c.loop-size.spaces.items c.new.result c.args.sizes.now c.loop-size.size-index
-          c.loop-size-test.true c.loop-size.invariant.sizes c.new.ensures.size);
+          c.loop-size-test.true c.loop-size.invariant.sizes c.size-item.result c.new.ensures.size c.size-item.is);
       zero = rw added (zeros_more c.loop-size.spaces.items c.new.result c.loop-size.invariant.zero c.new.ensures.zero);
     }
