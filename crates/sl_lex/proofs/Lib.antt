@@ -15,3 +15,4 @@ pub mod OneFault
 pub mod OneReading
 pub mod SliceLemmas
 pub mod KindLemmas
+pub mod SomeReading

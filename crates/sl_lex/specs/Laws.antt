@@ -1,13 +1,21 @@
-use Rattle.std.specs.Prelude.{◌≡◌, ℕ, ◌+◌, ◌<◌, ◌≤◌, List, [], ◌∷◌, length, take, drop, All, Option, Some}
+use Rattle.std.specs.Prelude.{◌≡◌, ℕ, ◌+◌, ◌<◌, ◌≤◌, ◌⊎◌, List, [], ◌∷◌, length, take, drop, All, Option, Some}
 use Rattle.sl_lex.specs.Faults.{Fault}
 use Rattle.sl_lex.specs.Lexemes.{IsLongest}
-use Rattle.sl_lex.specs.Reading.{Token, ReadsTo, Fits}
+use Rattle.sl_lex.specs.Reading.{Token, ReadsTo, ReadsAs, HasBadPlace, Fits}
 use Rattle.sl_lex.specs.declared.mode.Mode.{Mode}
 
 -- A text reads in one way alone: it has one list of tokens, and one end.
 abbrev pub HasOneReading : Type 0
 HasOneReading = (text : List ℕ) (ts us : List Token) (end fin : Option (Fault × ℕ)) → ReadsTo text ts end → ReadsTo text us fin
     → (ts ≡ us) × (end ≡ fin)
+
+-- The text reads as some tokens, or has a first bad place.
+abbrev pub HasReading : List ℕ → Type 0
+HasReading text = ((tokens : List Token) × ReadsAs text tokens) ⊎ ((fault : Fault) × (place : ℕ) × HasBadPlace text fault place)
+
+-- It can't be that a text neither reads as tokens nor has a bad place.
+abbrev pub EachTextReads : Type 0
+EachTextReads = (text : List ℕ) → (HasReading text → ⊥) → ⊥
 
 -- The token's bytes, of which there are some, are those of the text at the token's place.
 pub record IsSliceOf (text : List ℕ) (t : Token) : Type 0 where
