@@ -3,3 +3,4 @@ pub mod RunLemmas
 pub mod SoundSections
 pub mod OneRun
 pub mod AlikeRuns
+pub mod SomeRun

@@ -50,7 +50,7 @@ some_least_point holds p range h =
     )) (surely_least (λ c. InRange (point first.0 c) × holds (point first.0 c)) first.1.here.0 (first.1.here.1, first.1.here.2)))
 
 -- what is surely so at each point in range is surely so at all of them
-surely_at_all : (P : Point → Type 0) → ((p : Point) → InRange p → Surely (P p)) → Surely ((p : Point) → InRange p → P p)
+pub surely_at_all : (P : Point → Type 0) → ((p : Point) → InRange p → Surely (P p)) → Surely ((p : Point) → InRange p → P p)
 surely_at_all P each =
     surely_map (λ all. λ p range. all p.bytes range.0 p.context range.1)
     (surely_each (λ b. (c : ℕ) → c < 2 ^ 64 → P (point b c)) (2 ^ 128) (λ b below_b.
