@@ -2,14 +2,12 @@
 
 ghost use Rattle.std.specs.Prelude.{◌≡◌, ℕ, ◌+◌, ◌%◌, ◌^◌, ◌<◌, ◌≤◌, IfOk, IfSome, MatchOption, Some, List, length, slice_get, slice_index};
 ghost use Rattle.sl_description.specs.Views.{statements, sums};
-ghost use Rattle.sl_cube.specs.declared.Cube.{Cube};
 ghost use Rattle.sl_word.specs.Bytes.{address_sizes, byte_at, endian_of};
 ghost use Rattle.sl_word.specs.Sizes.{byte_counts};
 ghost use Rattle.sl_sets.specs.Cubes.{has_cube};
 ghost use Rattle.sl_run.specs.Machine.{AreSound};
 ghost use Rattle.sl_run.specs.Runs.{IsChosenSection, Runs, point_from};
-ghost use Rattle.sl_sets.specs.Scan.{StandsFor};
-ghost use Rattle.sl_sets.specs.Sets.{HasNoConflict, IsUnmatched};
+ghost use Rattle.sl_sets.specs.Sets.{IsUnmatched};
 
 use crate::section::run_section;
 use sl_cube::Point;
@@ -48,11 +46,10 @@ pub fn run_steps(
     requires first_space { slice_index (byte_counts sizes.now) 0 ≡ address_bytes }
     requires address_bytes { address_bytes ≤ 8 }
     requires sound { AreSound (address_sizes state.old) (statements sections.now) }
+    requires counted { length chooser.now ≡ length sections.now }
     ensures sizes { address_sizes state.new ≡ address_sizes state.old }
     ensures endian { endian_of state.new ≡ endian_of state.old }
-    ensures runs { (cubes : List Cube) → StandsFor chooser.now cubes → HasNoConflict has_cube cubes
-        → length cubes ≡ length sections.now
-        → IfOk result (λ outcome. Runs has_cube cubes (statements sections.now) address_bytes token_bytes (endian_of state.old)
+    ensures runs { IfOk result (λ outcome. Runs has_cube chooser.now (statements sections.now) address_bytes token_bytes (endian_of state.old)
         steps (byte_at state.old) 0 outcome.ran (byte_at state.new) outcome.counter outcome.stopped) }
 {
     let mut counter = 0;
@@ -77,11 +74,10 @@ pub fn run_steps(
 
 /// The section of the constructor that is chosen at the point.
 fn chosen<'a>(chooser: &Chooser, sections: &'a [Vec<Sum>], point: &Point) -> Option<&'a Vec<Sum>>
+    requires { length chooser.now ≡ length sections.now }
     ensures among { IfSome result (λ section. (i : ℕ) × (slice_get (statements sections.now) i ≡ Some (sums section.now.items))) }
-    ensures chosen { (cubes : List Cube) → StandsFor chooser.now cubes → HasNoConflict has_cube cubes
-        → length cubes ≡ length sections.now
-        → MatchOption result (IsUnmatched has_cube cubes point.now)
-        (λ section. IsChosenSection has_cube cubes (statements sections.now) point.now (sums section.now.items)) }
+    ensures chosen { MatchOption result (IsUnmatched has_cube chooser.now point.now)
+        (λ section. IsChosenSection has_cube chooser.now (statements sections.now) point.now (sums section.now.items)) }
 {
     let index = chooser.pick(point)?;
     let section = sections.get(index)?;

@@ -18,7 +18,7 @@ steps-init c = record {
   sizes = search rules;
   endian = search rules;
   counter = omega arith;
-  runs = λ cubes stands clear counted. starts cubes (statements c.args.sections.now) c.args.address_bytes c.args.token_bytes (endian_of c.args.state.now)
+  runs = starts c.args.chooser.now (statements c.args.sections.now) c.args.address_bytes c.args.token_bytes (endian_of c.args.state.now)
       c.args.steps (byte_at c.args.state.now);
 }
 
@@ -35,19 +35,19 @@ steps-preserved c =
       sizes = c.run_section.ensures.sizes ∙ c.steps.invariant.sizes;
       endian = c.run_section.ensures.endian ∙ c.steps.invariant.endian;
       counter = c.wrapped-counter.type_inv;
-      runs = λ cubes stands clear counted. continues cubes (statements c.args.sections.now) c.args.address_bytes c.args.token_bytes (endian_of c.args.state.now)
+      runs = continues c.args.chooser.now (statements c.args.sections.now) c.args.address_bytes c.args.token_bytes (endian_of c.args.state.now)
           c.args.steps start c.steps.ran now between c.steps.counter c.wrapped-counter.result section c.steps-test.true
-          (subst (λ (p : Point). IsChosenSection has_cube cubes (statements c.args.sections.now) p section) c.point_at-point.ensures
-          (c.in-Some.ensures.chosen cubes stands clear counted))
-          runs (rw (c.from.ensures, c.from-in-steps.ensures) at c.wrapped-counter.ensures) (c.steps.invariant.runs cubes stands clear counted);
+          (subst (λ (p : Point). IsChosenSection has_cube c.args.chooser.now (statements c.args.sections.now) p section) c.point_at-point.ensures
+          (c.in-Some.ensures.chosen))
+          runs (rw (c.from.ensures, c.from-in-steps.ensures) at c.wrapped-counter.ensures) (c.steps.invariant.runs);
     }
 
 pub returns-in_default-clause-runs : goal.returns-in_default-clause-runs
-returns-in_default-clause-runs c = λ cubes stands clear counted.
-    halted cubes (statements c.args.sections.now) c.args.address_bytes c.args.token_bytes (endian_of c.args.state.now)
+returns-in_default-clause-runs c =
+    halted c.args.chooser.now (statements c.args.sections.now) c.args.address_bytes c.args.token_bytes (endian_of c.args.state.now)
     c.args.steps (byte_at c.args.state.now) c.steps.ran (byte_at c.steps.state) c.steps.counter c.steps-test.true
-    (subst (λ (p : Point). IsUnmatched has_cube cubes p) c.point_at-point.ensures (c.in_default.ensures.chosen cubes stands clear counted))
-    (c.steps.invariant.runs cubes stands clear counted)
+    (subst (λ (p : Point). IsUnmatched has_cube c.args.chooser.now p) c.point_at-point.ensures (c.in_default.ensures.chosen))
+    (c.steps.invariant.runs)
 
 pub run_section-requires-clause-sound : goal.run_section-requires-clause-sound
 run_section-requires-clause-sound c =
@@ -59,7 +59,7 @@ pub overflow_add-from : goal.overflow_add-from
 overflow_add-from c = omega (arith, c.steps.invariant.counter)
 
 pub returns-clause-runs : goal.returns-clause-runs
-returns-clause-runs c = λ cubes stands clear counted.
+returns-clause-runs c =
     let all : c.steps.ran ≡ c.args.steps = omega arith in
-    finished cubes (statements c.args.sections.now) c.args.address_bytes c.args.token_bytes (endian_of c.args.state.now)
-    c.args.steps (byte_at c.args.state.now) c.steps.ran (byte_at c.steps.state) c.steps.counter all (c.steps.invariant.runs cubes stands clear counted)
+    finished c.args.chooser.now (statements c.args.sections.now) c.args.address_bytes c.args.token_bytes (endian_of c.args.state.now)
+    c.args.steps (byte_at c.args.state.now) c.steps.ran (byte_at c.steps.state) c.steps.counter all (c.steps.invariant.runs)

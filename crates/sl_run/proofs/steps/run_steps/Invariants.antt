@@ -3,8 +3,6 @@ use Rattle.sl_cube.specs.declared.Cube.{Cube}
 use Rattle.sl_word.specs.Bytes.{address_sizes, byte_at, endian_of}
 use Rattle.sl_sets.specs.Cubes.{has_cube}
 use Rattle.sl_description.specs.Views.{statements}
-use Rattle.sl_sets.specs.Scan.{StandsFor}
-use Rattle.sl_sets.specs.Sets.{HasNoConflict}
 use Rattle.sl_run.proofs.RunLemmas.{Continues}
 use Rattle.sl_run.proofs.steps.run_steps.Given as goal
 
@@ -13,6 +11,5 @@ invariant-steps l = record {
   sizes : address_sizes l.state ≡ address_sizes l.fn.state;
   endian : endian_of l.state ≡ endian_of l.fn.state;
   counter : l.counter < 2 ^ 64;
-  runs : (cubes : List Cube) → StandsFor l.chooser cubes → HasNoConflict has_cube cubes → length cubes ≡ length l.sections
-      → Continues cubes (statements l.sections) l.address_bytes l.token_bytes (endian_of l.fn.state) l.steps (byte_at l.fn.state) l.ran (byte_at l.state) l.counter;
+  runs : Continues l.chooser (statements l.sections) l.address_bytes l.token_bytes (endian_of l.fn.state) l.steps (byte_at l.fn.state) l.ran (byte_at l.state) l.counter;
 }
