@@ -1,5 +1,5 @@
 -- Some steps from any bytes and any counter come to something.
-use Rattle.std.proofs.Common.{◌≡◌, ◌≢◌, ℕ, zero, suc, ◌+◌, ◌-◌, ◌%◌, ◌^◌, ◌<◌, ◌≤◌, inl, inr, List, [], ◌∷◌, length, get_or, Some, Bool, true, false, refl, sym, ap, subst, ◌∙◌, arith}
+use Rattle.std.proofs.Common.{◌≡◌, ◌≢◌, ℕ, zero, suc, ◌+◌, ◌-◌, ◌%◌, ◌^◌, ◌<◌, inl, inr, List, [], ◌∷◌, length, get_or, Some, Bool, true, false, refl, ap, arith}
 use Rattle.std.specs.Prelude.{slice_get}
 use Rattle.std.proofs.lemmas.Bool.{cases_lt}
 use Rattle.std.proofs.lemmas.Bool.Decides.{eqb_tells}
@@ -31,21 +31,27 @@ put_at endian s number old space offset = elim (eqb_tells space s.space) [
     | inl low ↦ (old space offset, record { put = λ i below same at. absurd (omega (arith, low, at)); kept = λ same out. refl; others = λ apart. refl })
     | inr from ↦ elim (cases_lt offset (s.offset + s.size)) [
       | inr past ↦ (old space offset, record { put = λ i below same at. absurd (omega (arith, past, at, below)); kept = λ same out. refl; others = λ apart. refl })
-      | inl within ↦ (byte_of endian s.size number (offset - s.offset), record {
-        put = λ i below same at. let place : offset - s.offset ≡ i = omega (arith, at) in ap (λ (j : ℕ). byte_of endian s.size number j) place;
-        kept = λ same out. elim out [ inl low ↦ absurd (omega (arith, low, from)) | inr past ↦ absurd (omega (arith, past, within)) ];
-        others = λ apart. absurd (apart here.1);
-      })
+      | inl within ↦ (
+        byte_of endian s.size number (offset - s.offset),
+        record {
+          put = λ i below same at. let place : offset - s.offset ≡ i = omega (arith, at) in ap (λ (j : ℕ). byte_of endian s.size number j) place;
+          kept = λ same out. elim out [ inl low ↦ absurd (omega (arith, low, from)) | inr past ↦ absurd (omega (arith, past, within)) ];
+          others = λ apart. absurd (apart here.1);
+        },
+      )
     ]
   ]
 ]
 
 some_put : (endian : Endian) (s : Storage) (number : ℕ) (old : Bytes) → (new : Bytes) × IsPut endian s number old new
-some_put endian s number old = (λ space offset. (put_at endian s number old space offset).0, record {
-  put = λ i below. (put_at endian s number old s.space (s.offset + i)).1.put i below refl refl;
-  kept = λ offset out. (put_at endian s number old s.space offset).1.kept refl out;
-  others = λ space offset apart. (put_at endian s number old space offset).1.others apart;
-})
+some_put endian s number old = (
+  λ space offset. (put_at endian s number old space offset).0,
+  record {
+    put = λ i below. (put_at endian s number old s.space (s.offset + i)).1.put i below refl refl;
+    kept = λ offset out. (put_at endian s number old s.space offset).1.kept refl out;
+    others = λ space offset apart. (put_at endian s number old space offset).1.others apart;
+  },
+)
 
 pub some_section : (endian : Endian) (section : List Sum) (old : Bytes) → (new : Bytes) × RunsSection endian section old new
 some_section endian [] old = (old, λ space offset. refl)
