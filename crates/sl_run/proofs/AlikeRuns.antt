@@ -40,7 +40,7 @@ put_bytes endian s number a x put before = λ offset. elim (eqb_tells 0 s.space)
   | inr other ↦ subst (λ (b : ℕ). b < 256) (sym (put.others 0 offset other.1)) (before offset)
 ]
 
-pub section_bytes : (endian : Endian) (section : List Sum) (a x : Bytes) → RunsSection endian section a x → HoldsBytes a → HoldsBytes x
+section_bytes : (endian : Endian) (section : List Sum) (a x : Bytes) → RunsSection endian section a x → HoldsBytes a → HoldsBytes x
 section_bytes endian [] a x runs before = λ offset. subst (λ (b : ℕ). b < 256) (sym (runs 0 offset)) (before offset)
 section_bytes endian (s ∷ ss) a x runs before =
     section_bytes endian ss runs.0 x runs.2 (put_bytes endian s.target (sum_value endian a s) a runs.0 runs.1 before)
@@ -51,7 +51,7 @@ number_below f (suc k) bytes =
     let whole : 256 ^ suc k ≡ 256 * 256 ^ k = pow-succ' 256 k in
     omega (arith, number_below f k bytes, bytes k, whole)
 
-pub point_in_range : (address_bytes : ℕ) (a : Bytes) (counter : ℕ) → HoldsBytes a → InRange (point_from address_bytes a counter)
+point_in_range : (address_bytes : ℕ) (a : Bytes) (counter : ℕ) → HoldsBytes a → InRange (point_from address_bytes a counter)
 unfolding window
 point_in_range address_bytes a counter bytes =
     let below = number_below (λ i. a 0 ((counter + i) % 256 ^ address_bytes)) 16 (λ i. bytes ((counter + i) % 256 ^ address_bytes)) in

@@ -9,12 +9,11 @@ use Rattle.sl_word.specs.declared.word.Endian.{Endian}
 use Rattle.sl_word.specs.Layout.{byte_of}
 use Rattle.sl_description.specs.Registers.{Storage}
 use Rattle.sl_description.specs.Sections.{Sum}
-use Rattle.sl_sets.specs.Sets.{HasNoConflict, IsChoice, IsUnmatched}
+use Rattle.sl_sets.specs.Sets.{IsChoice, IsUnmatched}
 use Rattle.sl_sets.proofs.Surely.{Surely, surely, surely_then, surely_map}
-use Rattle.sl_sets.proofs.SomeSets.{some_choice}
+use Rattle.sl_sets.proofs.SomeSets.{HasChoice}
 use Rattle.sl_run.specs.Machine.{Bytes, IsAfter, IsOutside, IsPut, RunsSection, sum_value}
 use Rattle.sl_run.specs.Runs.{Runs, all_ran, stopped, step, point_from}
-use Rattle.sl_run.proofs.AlikeRuns.{HoldsBytes, section_bytes, point_in_range}
 
 -- ---- statements
 
@@ -91,15 +90,15 @@ module _ {X : Type 0} (has : X → Point → Type 0) (xs : List X) (sections : L
       let within : i < length sections = omega (arith, each, slice_get_within xs i choice.chosen choice.chosen_is) in
       (get_or sections i [], slice_get-get_or sections i [] within)
 
-  pub some_run : HasNoConflict has xs → length sections ≡ length xs → (n : ℕ) (bytes : Bytes) (counter : ℕ) → HoldsBytes bytes → Surely (SomeSteps n bytes counter)
-  some_run clear each zero bytes counter holds =
+  pub some_run : ((p : Point) → Surely (HasChoice has xs p)) → length sections ≡ length xs → (n : ℕ) (bytes : Bytes) (counter : ℕ)
+      → Surely (SomeSteps n bytes counter)
+  some_run choices each zero bytes counter =
       surely (record { ran = zero; after = bytes; last = counter; has_stopped = false; runs = all_ran (λ space offset. refl) })
-  some_run clear each (suc n) bytes counter holds =
-      surely_then (some_choice has xs (point_from address_bytes bytes counter) clear (point_in_range address_bytes bytes counter holds)) (λ found. elim found [
-        | inl none ↦ surely (stop n bytes counter none)
-        | inr choice ↦
-            let section = section_at each (point_from address_bytes bytes counter) choice.0 choice.1 in
-            let runs = some_section endian section.0 bytes in
-            surely_map (λ rest. go n choice.0 bytes runs.0 counter section.0 choice.1 section.1 runs.1 rest)
-            (some_run clear each n runs.0 ((counter + token_bytes) % 256 ^ address_bytes) (section_bytes endian section.0 bytes runs.0 runs.1 holds))
-      ])
+  some_run choices each (suc n) bytes counter = surely_then (choices (point_from address_bytes bytes counter)) (λ found. elim found [
+    | inl none ↦ surely (stop n bytes counter none)
+    | inr choice ↦
+        let section = section_at each (point_from address_bytes bytes counter) choice.0 choice.1 in
+        let runs = some_section endian section.0 bytes in
+        surely_map (λ rest. go n choice.0 bytes runs.0 counter section.0 choice.1 section.1 runs.1 rest)
+        (some_run choices each n runs.0 ((counter + token_bytes) % 256 ^ address_bytes))
+  ])

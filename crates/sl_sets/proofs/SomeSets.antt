@@ -1,5 +1,5 @@
 -- There is a first conflict or none, a report of each conflict, and a choice at each point that some set has.
-use Rattle.std.proofs.Common.{◌≡◌, ◌≢◌, ℕ, zero, suc, ◌<◌, ◌^◌, ◌⊎◌, List, length, Some, sym, ap, ◌∙◌, subst, inl, inr, arith}
+use Rattle.std.proofs.Common.{◌≡◌, ◌≢◌, ◌↔◌, ℕ, zero, suc, ◌<◌, ◌^◌, ◌⊎◌, List, length, Some, sym, ap, ◌∙◌, subst, inl, inr, arith}
 use Rattle.std.specs.Prelude.{slice_get}
 use Rattle.std.proofs.lemmas.Bool.{cases_lt}
 use Rattle.std.proofs.lemmas.Bool.Decides.{eqb_tells}
@@ -223,7 +223,11 @@ module _ {X : Type 0} (has : X → Point → Type 0) where
   some_below xs p zero clear range = surely (inl (λ j below y at inside. omega (arith, below)))
   some_below xs p (suc bound) clear range = surely_then (some_below xs p bound clear range) (some_next xs p bound clear range)
 
-  pub some_choice : (xs : List X) (p : Point) → HasNoConflict has xs → InRange p → Surely (IsUnmatched has xs p ⊎ ((i : ℕ) × IsChoice has xs p i))
+  -- No set of the list has the point, or one is the choice there.
+  abbrev pub HasChoice : List X → Point → Type 0
+  HasChoice xs p = IsUnmatched has xs p ⊎ ((i : ℕ) × IsChoice has xs p i)
+
+  pub some_choice : (xs : List X) (p : Point) → HasNoConflict has xs → InRange p → Surely (HasChoice xs p)
   some_choice xs p clear range = surely_map (λ chosen. elim chosen [
     | inl none ↦ inl (λ j y at inside. none j (slice_get_within xs j y at) y at inside)
     | inr choice ↦ inr (
@@ -236,3 +240,20 @@ module _ {X : Type 0} (has : X → Point → Type 0) where
       },
     )
   ]) (some_below xs p (length xs) clear range)
+
+  -- what is chosen at a point is chosen at another that is in the same sets
+  choice_at_other : (xs : List X) (p q : Point) → ((x : X) → has x p ↔ has x q) → HasChoice xs q → HasChoice xs p
+  choice_at_other xs p q same (inl none) = inl (λ j y at inside. none j y at ((same y).0 inside))
+  choice_at_other xs p q same (inr choice) = inr (
+    choice.0,
+    record {
+      chosen = choice.1.chosen;
+      chosen_is = choice.1.chosen_is;
+      has_point = (same choice.1.chosen).1 choice.1.has_point;
+      within = λ j y at inside other. choice.1.within j y at ((same y).0 inside) other;
+    },
+  )
+
+  -- the same at a point out of range, where one in range is in the same sets
+  pub some_choice_beyond : (xs : List X) (p q : Point) → ((x : X) → has x p ↔ has x q) → HasNoConflict has xs → InRange q → Surely (HasChoice xs p)
+  some_choice_beyond xs p q same clear range = surely_map (choice_at_other xs p q same) (some_choice xs q clear range)

@@ -25,7 +25,7 @@ window_bytes image at count h =
     All-take IsByte count (drop at image ++ replicate count 0)
     (All-append IsByte (drop at image) (replicate count 0) (All-drop IsByte at image h) (All-replicate IsByte count 0 (omega arith)))
 
-pub byte_of : (bytes : List ℕ) (i : ℕ) → All IsByte bytes → slice_index bytes i < 256
+byte_of : (bytes : List ℕ) (i : ℕ) → All IsByte bytes → slice_index bytes i < 256
 byte_of bytes i h = elim (cases_lt i (length bytes)) [
   | inl within ↦ All-get_or IsByte bytes i 0 within h
   | inr past ↦ omega (arith, get_or_past bytes i 0 past)
@@ -61,7 +61,7 @@ highest_below bytes top (suc k) h le =
     let sum : (higher + byte_worth rest b) + 256 ^ rest ≤ 256 ^ suc top = omega (arith, is, most, before, same) in
     sum
 
-pub point_in_range : (image : List ℕ) (at : ℕ) → All IsByte image → InRange (point_at image at)
+point_in_range : (image : List ℕ) (at : ℕ) → All IsByte image → InRange (point_at image at)
 point_in_range image at h =
     let bytes = bytes_at image at 16 in
     let below = highest_below bytes 15 15 (window_bytes image at 16 h) (omega arith) in

@@ -1,7 +1,6 @@
 -- An image runs to something.
 use Rattle.std.proofs.Common.{◌≡◌, ◌≢◌, ℕ, zero, suc, ◌+◌, ◌/◌, ◌^◌, ◌<◌, ◌≤◌, inl, inr, Bool, List, [], ◌++◌, Some, refl, sym, ap, ◌∙◌, arith}
 use Rattle.std.specs.Prelude.{slice_index}
-use Rattle.std.specs.List.{All}
 use Rattle.std.proofs.lemmas.Bool.{cases_lt}
 use Rattle.std.proofs.lemmas.Bool.Decides.{eqb_tells}
 use Rattle.sl_description.specs.Description.{Description}
@@ -11,12 +10,12 @@ use Rattle.sl_description.specs.Sections.{Resolution, resolution_of}
 use Rattle.sl_sets.specs.Sets.{HasNoConflict}
 use Rattle.sl_sets.proofs.Surely.{Surely, surely_map}
 use Rattle.sl_run.specs.Machine.{Bytes}
+use Rattle.sl_run.proofs.SomeChoice.{some_constructor}
 use Rattle.sl_run.proofs.SomeRun.{SomeSteps, some_run}
 use Rattle.sl_tool.specs.Endings.{ending_of}
 use Rattle.sl_tool.specs.RunLines.{TellsChanges, no_more, next, change_line, counter_line, fault_line, register_lines, steps_line}
 use Rattle.sl_tool.specs.Running.{HasImage, IsRun}
-use Rattle.sl_tool.proofs.ListedLemmas.{IsByte, byte_of}
-use Rattle.sl_tool.proofs.RunningLemmas.{image_bytes, sections_counted}
+use Rattle.sl_tool.proofs.RunningLemmas.{sections_counted}
 
 -- ---- the memory before the first step
 
@@ -116,14 +115,13 @@ module _ (d : Description) (meaning : Resolution) (image : List ℕ) (steps : �
         },
       )
 
-pub some_running : (d : Description) (image : List ℕ) (steps : ℕ) → IsSound d → HasNoConflict (Matches d) d.constructors → All IsByte image
+pub some_running : (d : Description) (image : List ℕ) (steps : ℕ) → IsSound d → HasNoConflict (Matches d) d.constructors
     → Surely ((has_stopped : Bool) × (text : List ℕ) × IsRun d image steps (ending_of has_stopped) text)
-some_running d image steps sound clear bytes =
+some_running d image steps sound clear =
     let meaning = sound.machine.resolution in
     let resolves = sound.machine.resolves in
     let start = some_start image in
-    let holds = image_bytes image start.0 start.1 (λ i. byte_of image i bytes) in
     surely_map (λ (s : Steps d meaning image steps start.0).
     let run = run_of d meaning image steps start.0 resolves start.1 s in (s.has_stopped, run.0, run.1))
-    (some_run (Matches d) d.constructors meaning.sections d.address_bytes (d.token_bits / 8) d.endian clear
-    (sections_counted d meaning resolves) steps start.0 0 holds)
+    (some_run (Matches d) d.constructors meaning.sections d.address_bytes (d.token_bits / 8) d.endian (some_constructor d clear)
+    (sections_counted d meaning resolves) steps start.0 0)
