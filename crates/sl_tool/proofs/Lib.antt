@@ -12,3 +12,6 @@ pub mod RunningLemmas
 pub mod OneVerdict
 pub mod RequestLemmas
 pub mod TextLemmas
+pub mod SomeListing
+pub mod SomeRunning
+pub mod SomeFault
