@@ -2,7 +2,7 @@ use Rattle.std.proofs.Common.{◌<◌, ◌^◌, arith}
 use Rattle.std.specs.Int.{w64, w128}
 use Rattle.sl_cube.proofs.HalfLemmas.{off_from_not}
 use Rattle.sl_cube.proofs.OutsideLemmas.{MasksFit, open_of, opens, splits, single}
-use Rattle.sl_cube.proofs.outside.split.Goals as goal
+use Rattle.sl_cube.proofs.halves.split.Goals as goal
 
 pub returns-in_err-bit : goal.returns-in_err-bit
 returns-in_err-bit c =
