@@ -7,7 +7,7 @@ use Rattle.sl_settle.specs.declared.CubeSet.{CubeSet}
 use Rattle.sl_settle.specs.declared.answers.Answer.{Answer}
 use Rattle.sl_settle.specs.declared.answers.Answers.{Answers}
 use Rattle.sl_settle.specs.Unions.{IsBelow}
-use Rattle.sl_settle.specs.Left.{AreRight, IsKept, KeepsOrAdds}
+use Rattle.sl_settle.specs.Kept.{AreRight, IsKept, KeepsOrAdds}
 use Rattle.sl_settle.proofs.WithinLemmas.{below_irrefl}
 
 pub kept_right : (sets : List CubeSet) (answers : Answers) (lower upper : ℕ) (below : Bool) → AreRight sets answers → IsKept answers lower upper (Some below)

@@ -1,13 +1,11 @@
 -- step: what is left of the sets in a region of points, and what the search for a point that isn't settled keeps.
-use Rattle.std.specs.Prelude.{◌≡◌, ◌↔◌, ◌≢◌, ℕ, ◌⊎◌, List, Some, None, Option, Bool, true, false, IsTrue, Contains}
+use Rattle.std.specs.Prelude.{◌≡◌, ◌↔◌, ◌≢◌, ℕ, ◌⊎◌, List, Some, None, Option, Bool, true, false}
 use Rattle.std.specs.List.{Any}
 use Rattle.sl_cube.specs.declared.Cube.{Cube}
 use Rattle.sl_cube.specs.declared.Point.{Point}
 use Rattle.sl_cube.specs.Points.{InRange, IsIn, IsInSome, NotAfter}
 use Rattle.sl_settle.specs.declared.CubeSet.{CubeSet}
 use Rattle.sl_settle.specs.declared.Candidate.{Candidate}
-use Rattle.sl_settle.specs.declared.answers.Answer.{Answer}
-use Rattle.sl_settle.specs.declared.answers.Answers.{Answers}
 use Rattle.sl_settle.specs.Unions.{IsBelow}
 use Rattle.sl_settle.specs.Settled.{IsSettled, IsUnsettled, IsBest, Matches}
 
@@ -97,17 +95,3 @@ pub record AreNested (sets : List CubeSet) (left : List Candidate) : Type 0 wher
   pub high : ℕ
   pub below : IsBelow sets low high
   pub only : (p : Point) (i : ℕ) → IsThere left p i → (i ≡ low) ⊎ (i ≡ high)
-
--- Each answer that is kept is right.
-abbrev pub AreRight : List CubeSet → Answers → Type 0
-AreRight sets answers = (a : Answer) → Contains answers.slots.items a → IsTrue a.below ↔ IsBelow sets a.lower a.upper
-
--- An answer is kept for the two sets, if any.
-abbrev pub IsKept : Answers → ℕ → ℕ → Option Bool → Type 0
-IsKept answers lower upper None = Unit {0}
-IsKept answers lower upper (Some below) =
-    (a : Answer) × Contains answers.slots.items a × (a.lower ≡ lower) × (a.upper ≡ upper) × (a.below ≡ below)
-
--- Each new answer is an old one or the given one.
-abbrev pub KeepsOrAdds : Answers → Answer → Answers → Type 0
-KeepsOrAdds old answer new = (a : Answer) → Contains new.slots.items a → Contains old.slots.items a ⊎ (answer ≡ a)

@@ -4,3 +4,4 @@ pub mod Unions
 pub mod Firsts
 pub mod Settled
 pub mod Left
+pub mod Kept

@@ -1,7 +1,7 @@
 //! What was found of how sets lie to one another, so that two of them are seldom compared twice.
 
 ghost use Rattle.std.specs.Prelude.{◌↔◌, IsTrue, IfOk};
-ghost use Rattle.sl_settle.specs.Left.{AreRight, IsKept, KeepsOrAdds};
+ghost use Rattle.sl_settle.specs.Kept.{AreRight, IsKept, KeepsOrAdds};
 ghost use Rattle.sl_settle.specs.Unions.{IsBelow};
 
 use super::CubeSet;
@@ -19,14 +19,15 @@ struct Answer {
     below: bool,
 }
 
-/// An answer's place follows from its two sets; a later one takes the place of an earlier.
+/// Answers that were found about the sets of one table. An answer's place follows from its two sets;
+/// a later one takes the place of an earlier.
 #[derive(Debug, Drop)]
 pub struct Answers {
     slots: Vec<Answer>,
 }
 
 impl Answers {
-    /// No set lies below itself: each slot says that of the first one.
+    /// No answers yet: each slot says that the first set doesn't lie below itself.
     pub fn new(alloc: Global, sets: &[CubeSet]) -> Result<Answers, AllocError>
         ensures { IfOk result (λ answers. AreRight sets.now answers) }
     {
@@ -75,6 +76,9 @@ impl Answers {
         ensures exact { IfOk result (λ answer. IsTrue answer ↔ IsBelow sets.now lower upper) }
         ensures right { IfOk result (λ answer. AreRight sets.now self.new) }
     {
+        if lower == upper {
+            return Ok(false);
+        }
         let index = slot(lower, upper, sets.len(), self.slots.len());
         let kept = self.kept(index, lower, upper);
         if let Some(answer) = kept {

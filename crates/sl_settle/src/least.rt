@@ -2,7 +2,8 @@
 
 ghost use Rattle.std.specs.Prelude.{IfOk, Some};
 ghost use Rattle.sl_settle.specs.Settled.{IsLeastLacking};
-ghost use Rattle.sl_settle.specs.Left.{IsAnswer, IsLeastIn, AreAllOf, AreRight};
+ghost use Rattle.sl_settle.specs.Left.{IsAnswer, IsLeastIn, AreAllOf};
+ghost use Rattle.sl_settle.specs.Kept.{AreRight};
 
 use super::answers::Answers;
 use super::search::{copied, kept, put, unsettled};

@@ -10,7 +10,8 @@ ghost use Rattle.sl_cube.specs.Points.{IsInSome};
 ghost use Rattle.sl_cube.specs.Search.{IsHalved};
 ghost use Rattle.sl_settle.specs.Left.{IsThere, IsNoneThere, KeepsAll, Adds, AddsUnless};
 ghost use Rattle.sl_settle.specs.Left.{IsWithoutAbove, Fills, IsFilledBy, Carries, IsAnswer, IsConstant, AreNested};
-ghost use Rattle.sl_settle.specs.Left.{StandsBeside, IsLowest, IsBestHere, HasBest, IsChosen, AreRight};
+ghost use Rattle.sl_settle.specs.Left.{StandsBeside, IsLowest, IsBestHere, HasBest, IsChosen};
+ghost use Rattle.sl_settle.specs.Kept.{AreRight};
 
 use super::answers::Answers;
 use super::within::is_below;

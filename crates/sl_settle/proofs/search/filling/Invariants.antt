@@ -1,4 +1,5 @@
-use Rattle.sl_settle.specs.Left.{IsFilledBy, AreRight}
+use Rattle.sl_settle.specs.Left.{IsFilledBy}
+use Rattle.sl_settle.specs.Kept.{AreRight}
 use Rattle.sl_settle.proofs.search.filling.Given as goal
 
 abbrev pub invariant-loop-candidate : goal.invariant-loop-candidate

@@ -1,4 +1,4 @@
-use Rattle.sl_settle.specs.Left.{AreRight}
+use Rattle.sl_settle.specs.Kept.{AreRight}
 use Rattle.sl_settle.proofs.LeftLemmas.{WithoutFirst}
 use Rattle.sl_settle.proofs.search.without_above.Given as goal
 
