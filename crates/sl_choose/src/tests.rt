@@ -28,6 +28,15 @@ fn wanted(byte: u8) -> Option<u32> {
     None
 }
 
+fn cube(mask: u128, value: u128) -> Cube {
+    Cube {
+        mask,
+        value: value & mask,
+        ctx_mask: 0,
+        ctx_value: 0,
+    }
+}
+
 fn point(byte: u8) -> Point {
     Point {
         bytes: u128::from(byte) << 120,
@@ -40,12 +49,7 @@ fn sets(alloc: Global) -> Result<Vec<CubeSet>, AllocError> {
     for (_, bytes) in TABLE {
         let mut cubes = Vec::new(alloc);
         for (mask, value) in *bytes {
-            cubes.push(Cube {
-                mask: point(*mask).bytes,
-                value: point(*value & *mask).bytes,
-                ctx_mask: 0,
-                ctx_value: 0,
-            })?;
+            cubes.push(cube(point(*mask).bytes, point(*value).bytes))?;
         }
         sets.push(CubeSet { cubes })?;
     }
@@ -59,6 +63,7 @@ fn picks(rt: HostRuntime) -> Result<(), Fail> {
     for (ctor, _) in TABLE {
         ctors.push(*ctor)?;
     }
+    assert!(rt; ctors.len() == sets.len());
     let chooser = Chooser::build(rt.alloc(), &ctors, &sets)?;
     assert_eq!(rt; chooser.cubes, 7);
     for byte in 0..=0x7fu8 {

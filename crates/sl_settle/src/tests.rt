@@ -59,6 +59,15 @@ static ROWS: &[Row] = &[
     },
 ];
 
+fn cube(mask: u128, value: u128) -> Cube {
+    Cube {
+        mask,
+        value: value & mask,
+        ctx_mask: 0,
+        ctx_value: 0,
+    }
+}
+
 fn point(byte: u8) -> Point {
     Point {
         bytes: u128::from(byte) << 120,
@@ -69,12 +78,7 @@ fn point(byte: u8) -> Point {
 fn union_of(alloc: Global, bytes: &[(u8, u8)]) -> Result<CubeSet, AllocError> {
     let mut cubes = Vec::new(alloc);
     for (mask, value) in bytes {
-        cubes.push(Cube {
-            mask: point(*mask).bytes,
-            value: point(*value & *mask).bytes,
-            ctx_mask: 0,
-            ctx_value: 0,
-        })?;
+        cubes.push(cube(point(*mask).bytes, point(*value).bytes))?;
     }
     Ok(CubeSet { cubes })
 }
