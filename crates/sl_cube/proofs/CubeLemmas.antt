@@ -1,12 +1,14 @@
 -- Sets of points, from sets of numbers: what holds of the bytes and of the context holds of the points.
-use Rattle.std.proofs.Common.{◌≡◌, ℕ, ◌<◌, ◌≤◌, ◌^◌, ◌⊎◌, bit_and, refl, inl, inr}
+use Rattle.std.proofs.Common.{◌≡◌, ℕ, ◌<◌, ◌≤◌, ◌^◌, ◌⊎◌, bit_and, bit_or, refl, inl, inr}
 use Rattle.std.specs.Int.{bit_at}
 use Rattle.std.proofs.Math.Nat.{eq-or-lt_of_le}
+use Rattle.std.proofs.lemmas.Bool.{cases_eq}
+use Rattle.std.proofs.lemmas.Nat.{or_lt}
 use Rattle.sl_cube.specs.Bits.{Agrees, IncludesBelow}
-use Rattle.sl_cube.specs.Points.{InRange, IsIn, Includes, AllHave, HasShared, IsHull, NotAfter}
+use Rattle.sl_cube.specs.Points.{InRange, IsIn, Includes, DoMeet, AllHave, HasShared, IsHull, NotAfter}
 use Rattle.sl_cube.specs.declared.Cube.{Cube}
 use Rattle.sl_cube.specs.declared.Point.{Point}
-use Rattle.sl_cube.proofs.BitLemmas.{agrees_from_and, and_from_agrees, hull_mask, hull_has, hull_agrees}
+use Rattle.sl_cube.proofs.BitLemmas.{agrees_joined, agrees_from_and, and_from_agrees, hull_mask, hull_has, hull_agrees}
 
 pub not_after : (p q : Point) → p.bytes ≤ q.bytes → p.context ≤ q.context → NotAfter p q
 not_after p q h k = elim (eq-or-lt_of_le h) [ inl e ↦ inr (e, k) | inr lt ↦ inl lt ]
@@ -106,3 +108,27 @@ hull_least a b h c hull in_a in_b = λ q range inside.
       λ i on. shared.0 i (bit_at c.value i) (λ p p_range either. (has p p_range either).0 i on),
       λ i on. shared.1 i (bit_at c.ctx_value i) (λ p p_range either. (has p p_range either).1 i on),
     )
+
+-- where the bits that both fix are the same, the point with the bits of both values is in both
+pub meet_from_masks : (a b : Cube) → a.value < 2 ^ 128 → b.value < 2 ^ 128 → a.ctx_value < 2 ^ 64 → b.ctx_value < 2 ^ 64
+    → bit_and a.value (bit_and a.mask b.mask) ≡ bit_and b.value (bit_and a.mask b.mask)
+    → bit_and a.ctx_value (bit_and a.ctx_mask b.ctx_mask) ≡ bit_and b.ctx_value (bit_and a.ctx_mask b.ctx_mask) → DoMeet a b
+meet_from_masks a b fits_a fits_b ctx_fits_a ctx_fits_b bytes context =
+    let p : Point = record { bytes = bit_or a.value b.value; context = bit_or a.ctx_value b.ctx_value } in
+    let of_bytes = (agrees_joined a.mask a.value b.mask b.value p.bytes a.within b.within bytes).0 (λ i on. refl) in
+    let of_context = (agrees_joined a.ctx_mask a.ctx_value b.ctx_mask b.ctx_value p.context a.ctx_within b.ctx_within context).0 (λ i on. refl) in (
+      p,
+      (or_lt 128 a.value b.value fits_a fits_b, or_lt 64 a.ctx_value b.ctx_value ctx_fits_a ctx_fits_b),
+      (of_bytes.0, of_context.0),
+      (of_bytes.1, of_context.1),
+    )
+
+-- a cube has a point or lacks it
+pub in_or_out : (p : Point) (c : Cube) → IsIn p c ⊎ (IsIn p c → ⊥)
+in_or_out p c = elim (cases_eq (bit_and p.bytes c.mask) c.value) [
+  | inr ne ↦ inr (λ inside. ne (masks_from_in p c inside).0)
+  | inl e ↦ elim (cases_eq (bit_and p.context c.ctx_mask) c.ctx_value) [
+    | inr ne ↦ inr (λ inside. ne (masks_from_in p c inside).1)
+    | inl f ↦ inl (in_from_masks p c e f)
+  ]
+]

@@ -1,18 +1,15 @@
 -- The steps of the search for a point outside: trimmed halves, cleared bits, and halves in order.
-use Rattle.std.proofs.Common.{◌≡◌, ◌↔◌, ℕ, ◌+◌, ◌<◌, ◌≤◌, ◌^◌, ◌⊎◌, List, length, get_or, [], ◌∷◌, ◌++◌, below_more, Option, Some, None, Result, Ok, Err, IfOk, Bool, true, false, IsTrue, MatchBool, bit_and, bit_or, arith, sym, ◌∙◌, ap, refl, inl, inr, subst}
+use Rattle.std.proofs.Common.{◌≡◌, ◌↔◌, ℕ, ◌+◌, ◌<◌, ◌≤◌, ◌^◌, ◌⊎◌, List, length, get_or, [], ◌∷◌, ◌++◌, below_more, Option, Some, None, Result, Ok, Err, IfOk, Bool, true, false, IsTrue, MatchBool, bit_or, arith, sym, ◌∙◌, ap, refl, inl, inr, subst}
 use Rattle.std.specs.Int.{bit_at, w64, w128, bit_not}
-use Rattle.std.specs.List.{All, AllWithin, HoldsAt}
-use Rattle.std.proofs.lemmas.Nat.{and_le_l, le_or_l}
-use Rattle.std.proofs.lemmas.List.Elements.{All-push, All-contains, Contains-append_left, Contains-get_or, at_read}
+use Rattle.std.specs.List.{All, AllWithin, HoldsAt, Contains}
+use Rattle.std.proofs.lemmas.Nat.{le_or_l}
+use Rattle.std.proofs.lemmas.List.Elements.{Contains-append_left, Contains-push, Contains-push_cases, Contains-get_or, at_read}
 use Rattle.std.proofs.lemmas.Bool.{false≢true}
-use Rattle.std.proofs.lemmas.List.Quantifiers.{Any-push}
-use Rattle.sl_cube.specs.Bits.{Agrees}
-use Rattle.sl_cube.specs.Points.{InRange, IsIn, Includes, AreApart, NotAfter, IsLeast, IsInSome, Covers, IsFound}
-use Rattle.sl_cube.specs.Search.{IsNoWider, Reduces, IsRest, Narrows, KeepsMeeting, Lacks, Has, IsNoBit, IsHighest, LeavesOpen, IsPart, IsNarrower, IsSplit, IsSingle, HasZerosOf}
+use Rattle.sl_cube.specs.Points.{InRange, IsIn, Includes, DoMeet, NotAfter, IsLeast, IsInSome, Covers, AreMeeting, IsOutside, IsLeastOutside}
+use Rattle.sl_cube.specs.Search.{IsNoWider, Reduces, IsRest, Narrows, KeepsMeeting, IsSomeFound, Lacks, Has, IsNoBit, IsHighest, LeavesOpen, IsPart, IsNarrower, IsSplit, IsSingle, IsHalved, FixesNoMore}
 use Rattle.sl_cube.specs.declared.Cube.{Cube}
 use Rattle.sl_cube.specs.declared.Point.{Point}
-use Rattle.sl_cube.proofs.CubeLemmas.{not_after}
-use Rattle.sl_cube.proofs.HalfLemmas.{side_of, none_agrees, open_at, open_none, grown, sides_in_order, same_under_full, cleared_agrees, cleared_from, widened_agrees}
+use Rattle.sl_cube.proofs.HalfLemmas.{side_of, none_agrees, open_at, open_none, grown, sides_in_order, same_under_full}
 
 -- ---- the order
 
@@ -39,19 +36,16 @@ in_some others k other p below is inside = (k, other, below, sym is, inside)
 pub narrows_self : (cube : Cube) (others : List Cube) → Narrows cube others cube
 narrows_self cube others = record {
   within = λ p inside. inside;
-  reaches = λ q range inside. inr (q, range, inside, same_order q, λ some. some);
+  leaves = λ p range inside. inr inside;
   no_wider = (omega arith, omega arith);
 }
 
 pub narrows_trans : (cube : Cube) (others : List Cube) (rest next : Cube) → Narrows cube others rest → Narrows rest others next → Narrows cube others next
 narrows_trans cube others rest next f g = record {
   within = λ p inside. f.within p (g.within p inside);
-  reaches = λ q range inside. elim (f.reaches q range inside) [
+  leaves = λ p range inside. elim (f.leaves p range inside) [
     | inl some ↦ inl some
-    | inr w ↦ elim (g.reaches w.0 w.1 w.2) [
-      | inl some ↦ inl (w.4 some)
-      | inr u ↦ inr (u.0, u.1, u.2, order_trans u.0 w.0 q u.3 w.3, λ some. w.4 (u.4 some))
-    ]
+    | inr there ↦ g.leaves p range there
   ];
   no_wider = no_wider_trans cube rest next f.no_wider g.no_wider;
 }
@@ -60,9 +54,9 @@ pub narrows_rest : (cube : Cube) (others : List Cube) (k : ℕ) (other rest : Cu
     → IsRest cube other rest → Narrows cube others rest
 narrows_rest cube others k other rest below is r = record {
   within = r.within;
-  reaches = λ q range inside. elim (r.leaves q range inside) [
-    | inl found ↦ inl (in_some others k other q below is found)
-    | inr left ↦ inr (q, range, left, same_order q, λ some. some)
+  leaves = λ p range inside. elim (r.leaves p range inside) [
+    | inl found ↦ inl (in_some others k other p below is found)
+    | inr left ↦ inr left
   ];
   no_wider = r.no_wider;
 }
@@ -72,73 +66,66 @@ pub covers_included : (cube : Cube) (others : List Cube) (k : ℕ) (other : Cube
 covers_included cube others k other below is h = λ p range inside. in_some others k other p below is (h p range inside)
 
 pub covers_back : (cube : Cube) (others : List Cube) (rest : Cube) → Narrows cube others rest → Covers others rest → Covers others cube
-covers_back cube others rest n h = λ q range inside. elim (n.reaches q range inside) [
+covers_back cube others rest n h = λ q range inside. elim (n.leaves q range inside) [
   | inl some ↦ some
-  | inr w ↦ w.4 (h w.0 w.1 w.2)
+  | inr there ↦ h q range there
 ]
 
-found_back : (cube : Cube) (others : List Cube) (rest : Cube) → Narrows cube others rest → (found : Option Point) → IsFound rest others found → IsFound cube others found
-found_back cube others rest n None h = covers_back cube others rest n h
-found_back cube others rest n (Some p) h = (
-  (h.0.0, n.within p h.0.1, h.0.2),
-  λ q out. elim (n.reaches q out.0 out.1) [
-    | inl some ↦ absurd (out.2 some)
-    | inr w ↦ order_trans p w.0 q (h.1 w.0 (w.1, w.2, λ some. out.2 (w.4 some))) w.3
-  ],
-)
-
-found_kept : (cube : Cube) (others kept : List Cube) → KeepsMeeting cube others kept → (found : Option Point) → IsFound cube kept found → IsFound cube others found
-found_kept cube others kept k None h = λ p range inside. (k p range inside).0 (h p range inside)
-found_kept cube others kept k (Some p) h = (
-  (h.0.0, h.0.1, λ some. h.0.2 ((k p h.0.0 h.0.1).1 some)),
-  λ q out. h.1 q (out.0, out.1, λ some. out.2 ((k q out.0 out.1).0 some)),
-)
-
-pub reduces : (cube : Cube) (others : List Cube) (rest : Cube) (kept : List Cube) (low : Cube) → Narrows cube others rest → KeepsMeeting rest others kept → Narrows rest kept low
-    → Reduces cube others low kept
-reduces cube others rest kept low n k m = record {
-  answers = λ found h. found_back cube others rest n found (found_kept rest others kept k found (found_back rest kept low m found h));
-  no_wider = no_wider_trans cube rest low n.no_wider m.no_wider;
+pub reduces : (cube : Cube) (others : List Cube) (rest : Cube) (kept : List Cube) → Narrows cube others rest → KeepsMeeting rest others kept
+    → Reduces cube others rest kept
+reduces cube others rest kept n k = record {
+  answers = λ found h. back found h;
+  no_wider = n.no_wider;
 }
+  where
+    back : (found : Option Point) → IsSomeFound rest kept found → IsSomeFound cube others found
+    back None h = covers_back cube others rest n (λ p range inside. (k p range inside).0 (h p range inside))
+    back (Some p) h = (h.0, n.within p h.1, λ some. h.2 ((k p h.0 h.1).1 some))
 
 -- ---- the cubes that meet a cube
 
--- The kept cubes are among the others, and have each point of the cube that one of the first n others has.
+-- The kept cubes are those of the first n others that meet the cube.
 pub record KeepsFirst (cube : Cube) (others kept : List Cube) (n : ℕ) : Type 0 where
-  pub among : All (λ c. (p : Point) → IsIn p c → IsInSome others p) kept
-  pub first : (k : ℕ) → k < n → HoldsAt (λ c. (p : Point) → InRange p → IsIn p cube → IsIn p c → IsInSome kept p) others k
+  pub among : (c : Cube) → Contains kept c → Contains others c × DoMeet cube c
+  pub first : (k : ℕ) → k < n → HoldsAt (λ c. DoMeet cube c → Contains kept c) others k
 
 pub keeps_none : (cube : Cube) (others : List Cube) → KeepsFirst cube others [] 0
-keeps_none cube others = record { among = λ k d below. absurd (omega arith); first = λ k below. absurd (omega arith) }
+keeps_none cube others = record { among = λ c h. absurd (omega (arith, h.1)); first = λ k below. absurd (omega arith) }
 
-still_in_some : (kept : List Cube) (other : Cube) (p : Point) → IsInSome kept p → IsInSome (kept ++ other ∷ []) p
-still_in_some kept other p some =
-    let there = Contains-append_left kept (other ∷ []) some.1 (some.0, some.2, some.3) in
-    (there.0, some.1, there.1, there.2, some.4)
-
-pub keeps_more : (cube : Cube) (others kept : List Cube) (n : ℕ) (other : Cube) → n < length others → other ≡ get_or others n other
+pub keeps_more : (cube : Cube) (others kept : List Cube) (n : ℕ) (other : Cube) → n < length others → other ≡ get_or others n other → DoMeet cube other
     → KeepsFirst cube others kept n → KeepsFirst cube others (kept ++ other ∷ []) (n + 1)
-keeps_more cube others kept n other below is h = record {
-  among = All-push (λ c. (p : Point) → IsIn p c → IsInSome others p) kept other h.among (λ p inside. in_some others n other p below is inside);
-  first = below_more (λ k. HoldsAt (λ c. (p : Point) → InRange p → IsIn p cube → IsIn p c → IsInSome (kept ++ other ∷ []) p) others k) n
-      (λ k lt d p range in_cube inside. still_in_some kept other p (h.first k lt d p range in_cube inside))
-      (at_read others (λ c. (p : Point) → InRange p → IsIn p cube → IsIn p c → IsInSome (kept ++ other ∷ []) p) n other below is
-      (λ p range in_cube inside. Any-push (λ c. IsIn p c) kept other inside));
+keeps_more cube others kept n other below is meet h = record {
+  among = λ c there. elim (Contains-push_cases kept other c there) [
+    | inl old ↦ h.among c old
+    | inr e ↦ subst (λ (x : Cube). Contains others x × DoMeet cube x) e ((n, below, sym is), meet)
+  ];
+  first = below_more (λ k. HoldsAt (λ c. DoMeet cube c → Contains (kept ++ other ∷ []) c) others k) n
+      (λ k lt d met. Contains-append_left kept (other ∷ []) (get_or others k d) (h.first k lt d met))
+      (at_read others (λ c. DoMeet cube c → Contains (kept ++ other ∷ []) c) n other below is (λ met. Contains-push kept other));
 }
 
-pub keeps_apart : (cube : Cube) (others kept : List Cube) (n : ℕ) (other : Cube) → n < length others → other ≡ get_or others n other → AreApart cube other
+pub keeps_apart : (cube : Cube) (others kept : List Cube) (n : ℕ) (other : Cube) → n < length others → other ≡ get_or others n other → (DoMeet cube other → ⊥)
     → KeepsFirst cube others kept n → KeepsFirst cube others kept (n + 1)
 keeps_apart cube others kept n other below is apart h = record {
   among = h.among;
-  first = below_more (λ k. HoldsAt (λ c. (p : Point) → InRange p → IsIn p cube → IsIn p c → IsInSome kept p) others k) n h.first
-      (at_read others (λ c. (p : Point) → InRange p → IsIn p cube → IsIn p c → IsInSome kept p) n other below is
-      (λ p range in_cube inside. absurd (apart p range in_cube inside)));
+  first = below_more (λ k. HoldsAt (λ c. DoMeet cube c → Contains kept c) others k) n h.first
+      (at_read others (λ c. DoMeet cube c → Contains kept c) n other below is (λ met. absurd (apart met)));
 }
 
-pub keeps_meeting : (cube : Cube) (others kept : List Cube) (n : ℕ) → length others ≤ n → KeepsFirst cube others kept n → KeepsMeeting cube others kept
-keeps_meeting cube others kept n all h = λ p range in_cube. (
-  λ some. All-contains (λ c. (p : Point) → IsIn p c → IsInSome others p) kept some.1 h.among (some.0, some.2, some.3) p some.4,
-  λ some. h.first some.0 (omega (arith, some.2)) some.1 p range in_cube (subst (λ c. IsIn p c) (sym some.3) some.4),
+pub are_meeting : (cube : Cube) (others kept : List Cube) (n : ℕ) → length others ≤ n → KeepsFirst cube others kept n → AreMeeting cube others kept
+are_meeting cube others kept n all h = λ c. (
+  h.among c,
+  λ there.
+      let lt : there.0.0 < n = omega (arith, there.0.1) in
+      subst (λ (x : Cube). DoMeet cube x → Contains kept x) there.0.2 (h.first there.0.0 lt c) there.1,
+)
+
+pub keeps_meeting : (cube : Cube) (others kept : List Cube) → AreMeeting cube others kept → KeepsMeeting cube others kept
+keeps_meeting cube others kept m = λ p range in_cube. (
+  λ some. let back = (m some.1).0 (some.0, some.2, some.3) in (back.0.0, some.1, back.0.1, back.0.2, some.4),
+  λ some.
+      let there = (m some.1).1 ((some.0, some.2, some.3), (p, range, in_cube, some.4)) in
+      (there.0, some.1, there.1, there.2, some.4),
 )
 
 -- ---- halves
@@ -150,7 +137,7 @@ opens cube bits bit off ctx_off h = elim h [
   | inr t ↦ (open_none cube.mask bit.bytes t.1, open_at cube.ctx_mask bits.context bit.context ctx_off t.2)
 ]
 
-sides : (bits bit p : Point) → IsHighest bits bit → Lacks bit p ⊎ Has bit p
+pub sides : (bits bit p : Point) → IsHighest bits bit → Lacks bit p ⊎ Has bit p
 sides bits bit p h = elim h [
   | inl t ↦ elim (side_of bits.bytes bit.bytes p.bytes t.0) [
     | inl lacks ↦ inl (lacks, none_agrees bit.context 0 p.context t.1)
@@ -162,7 +149,7 @@ sides bits bit p h = elim h [
   ]
 ]
 
-grows_to : (a b c : ℕ) → b ≡ bit_or a c → a ≤ b
+pub grows_to : (a b c : ℕ) → b ≡ bit_or a c → a ≤ b
 grows_to a b c e = subst (λ (x : ℕ). a ≤ x) (sym e) (le_or_l a c)
 
 part_no_wider : (cube : Cube) (bits : Point) (Side : Point → Type 0) (part : Cube) → IsPart cube bits Side part → IsNoWider cube part
@@ -250,83 +237,71 @@ single cube fits full = λ p q pr qr in_p in_q. same_point p q
     (same_under_full w128 cube.mask cube.value p.bytes q.bytes fits.mask pr.0 qr.0 full.0 in_p.0 in_q.0)
     (same_under_full w64 cube.ctx_mask cube.ctx_value p.context q.context fits.ctx_mask pr.1 qr.1 full.1 in_p.1 in_q.1)
 
--- ---- cleared bits
-
-some_cleared : (others : List Cube) (zeros p q : Point) → All (HasZerosOf zeros) others
-    → ((c : Cube) → HasZerosOf zeros c → IsIn p c → IsIn q c) → IsInSome others p → IsInSome others q
-some_cleared others zeros p q all step some =
-    (some.0, some.1, some.2, some.3, step some.1 (subst (HasZerosOf zeros) some.3 (all some.0 some.1 some.2)) some.4)
-
-pub narrows_lowered : (cube low : Cube) (others : List Cube) (zeros : Point) → zeros.bytes < 2 ^ 128 → zeros.context < 2 ^ 64 → All (HasZerosOf zeros) others
-    → low.mask ≡ bit_or cube.mask (bit_not w128 zeros.bytes) → low.value ≡ cube.value
-    → low.ctx_mask ≡ bit_or cube.ctx_mask (bit_not w64 zeros.context) → low.ctx_value ≡ cube.ctx_value
-    → Narrows cube others low
-narrows_lowered cube low others zeros fits ctx_fits all m v cm cv = record {
-  within = λ p inside. (
-    widened_agrees cube.mask (bit_not w128 zeros.bytes) cube.value p.bytes (subst (λ x. Agrees (bit_or cube.mask (bit_not w128 zeros.bytes)) x p.bytes) v (subst (λ x. Agrees x low.value p.bytes) m inside.0)),
-    widened_agrees cube.ctx_mask (bit_not w64 zeros.context) cube.ctx_value p.context (subst (λ x. Agrees (bit_or cube.ctx_mask (bit_not w64 zeros.context)) x p.context) cv (subst (λ x. Agrees x low.ctx_value p.context) cm inside.1)),
-  );
-  reaches = λ q range inside.
-      let p : Point = record { bytes = bit_and q.bytes (bit_or cube.mask zeros.bytes); context = bit_and q.context (bit_or cube.ctx_mask zeros.context) } in
-      let bytes_le : p.bytes ≤ q.bytes = and_le_l _ _ in
-      let context_le : p.context ≤ q.context = and_le_l _ _ in
-      let bytes_in : Agrees low.mask low.value p.bytes =
-      subst (λ x. Agrees x low.value p.bytes) (sym m) (subst (λ x. Agrees (bit_or cube.mask (bit_not w128 zeros.bytes)) x p.bytes) (sym v)
-      (cleared_agrees w128 cube.mask cube.value zeros.bytes q.bytes fits cube.within inside.0)) in
-      let context_in : Agrees low.ctx_mask low.ctx_value p.context =
-      subst (λ x. Agrees x low.ctx_value p.context) (sym cm) (subst (λ x. Agrees (bit_or cube.ctx_mask (bit_not w64 zeros.context)) x p.context) (sym cv)
-      (cleared_agrees w64 cube.ctx_mask cube.ctx_value zeros.context q.context ctx_fits cube.ctx_within inside.1)) in
-      inr (
-        p,
-        (omega arith, omega arith),
-        (bytes_in, context_in),
-        not_after p q bytes_le context_le,
-        some_cleared others zeros p q all (λ c z found. (
-          cleared_from cube.mask zeros.bytes q.bytes c.mask c.value z.0 found.0,
-          cleared_from cube.ctx_mask zeros.context q.context c.ctx_mask c.ctx_value z.1 found.1,
-        )),
-      );
-  no_wider = (
-    subst (λ (x : ℕ). cube.mask ≤ x) (sym m) (le_or_l _ _),
-    subst (λ (x : ℕ). cube.ctx_mask ≤ x) (sym cm) (le_or_l _ _),
-  );
-}
-
 -- ---- what the search returns
 
-pub found_least : (cube : Cube) (others : List Cube) (p : Point) → InRange p → IsLeast cube p → (IsInSome others p → ⊥) → IsFound cube others (Some p)
-found_least cube others p range least out = ((range, least.0, out), λ q q_out. least.1 q q_out.0 q_out.1)
-
-pub found_single : (cube : Cube) (others : List Cube) (p : Point) → InRange p → IsIn p cube → IsSingle cube → IsInSome others p → IsFound cube others None
-found_single cube others p range inside one some = λ q q_range q_inside. subst (IsInSome others) (one p q range q_range inside q_inside) some
-
-pub found_low : (cube : Cube) (others : List Cube) (low high : Cube) (p : Point) → IsSplit cube low high → IsFound low others (Some p) → IsFound cube others (Some p)
-found_low cube others low high p s h = (
-  (h.0.0, s.low_within p h.0.1, h.0.2),
-  λ q out. elim (s.whole q out.1) [
-    | inl in_low ↦ h.1 q (out.0, in_low, out.2)
-    | inr in_high ↦ s.ordered p q h.0.0 out.0 h.0.1 in_high
-  ],
-)
-
-pub found_high : (cube : Cube) (others : List Cube) (low high : Cube) (found : Option Point) → IsSplit cube low high → IsFound low others None → IsFound high others found
-    → IsFound cube others found
-found_high cube others low high None s none h = λ q range inside. elim (s.whole q inside) [
+pub some_high : (cube : Cube) (others : List Cube) (low high : Cube) (found : Option Point) → IsHalved cube low high → IsSomeFound low others None → IsSomeFound high others found
+    → IsSomeFound cube others found
+some_high cube others low high None s none h = λ q range inside. elim (s.whole q inside) [
   | inl in_low ↦ none q range in_low
   | inr in_high ↦ h q range in_high
 ]
-found_high cube others low high (Some p) s none h = (
-  (h.0.0, s.high_within p h.0.1, h.0.2),
+some_high cube others low high (Some p) s none h = (h.0, s.high_within p h.1, h.2)
+
+pub some_first : (cube : Cube) (others : List Cube) (low high : Cube) (found : Option Point) → IsHalved cube low high → IsSomeFound low others found → (found ≡ None → ⊥)
+    → IsSomeFound cube others found
+some_first cube others low high None s h some = absurd (some refl)
+some_first cube others low high (Some p) s h some = (h.0, s.low_within p h.1, h.2)
+
+pub some_same : (cube : Cube) (others : List Cube) (p : Point) → IsIn p cube → All (FixesNoMore cube) others → IsInSome others p → Covers others cube
+some_same cube others p in_p all some = λ q range in_q.
+    (some.0, some.1, some.2, some.3, (subst (FixesNoMore cube) some.3 (all some.0 some.1 some.2)).same p q in_p in_q some.4)
+
+-- ---- the least point, from any on
+
+pub least_alone : (cube : Cube) (others : List Cube) (p : Point) → length others ≡ 0 → InRange p → IsLeast cube p → IsLeastOutside p cube others
+least_alone cube others p none range least = (
+  (range, least.0, λ some. omega (arith, some.2)),
+  λ q out. least.1 q out.0 out.1,
+)
+
+pub least_single : (cube : Cube) (others : List Cube) (p : Point) → IsSingle cube → IsOutside p cube others → IsLeastOutside p cube others
+least_single cube others p one h = (h, λ q out. subst (λ (x : Point). NotAfter p x) (one p q h.0 out.0 h.1 out.1) (same_order p))
+
+-- what is outside in the whole is outside in a part that has it
+pub outside_part : (cube part : Cube) (others kept : List Cube) (p : Point) → KeepsMeeting part others kept → IsIn p part → IsOutside p cube others → IsOutside p part kept
+outside_part cube part others kept p k inside h = (h.0, inside, λ some. h.2 ((k p h.0 inside).0 some))
+
+outside_whole : (cube part : Cube) (others kept : List Cube) (p : Point) → KeepsMeeting part others kept → ((x : Point) → IsIn x part → IsIn x cube) → IsOutside p part kept
+    → IsOutside p cube others
+outside_whole cube part others kept p k within h = (h.0, within p h.1, λ some. h.2 ((k p h.0 h.1).1 some))
+
+pub least_low : (cube low high : Cube) (others in_low : List Cube) (p : Point) → IsSplit cube low high → KeepsMeeting low others in_low → IsLeastOutside p low in_low
+    → IsLeastOutside p cube others
+least_low cube low high others in_low p s k h = (
+  outside_whole cube low others in_low p k s.low_within h.0,
   λ q out. elim (s.whole q out.1) [
-    | inl in_low ↦ absurd (out.2 (none q out.0 in_low))
-    | inr in_high ↦ h.1 q (out.0, in_high, out.2)
+    | inl there ↦ h.1 q (outside_part cube low others in_low q k there out)
+    | inr there ↦ s.ordered p q h.0.0 out.0 h.0.1 there
   ],
 )
 
-pub found_first : (cube : Cube) (others : List Cube) (low high : Cube) (found : Option Point) → IsSplit cube low high → IsFound low others found → (found ≡ None → ⊥)
-    → IsFound cube others found
-found_first cube others low high None s h some = absurd (some refl)
-found_first cube others low high (Some p) s h some = found_low cube others low high p s h
+pub least_high : (cube low high : Cube) (others in_low in_high : List Cube) (p : Point) → IsSplit cube low high → KeepsMeeting low others in_low → KeepsMeeting high others in_high
+    → Covers in_low low → IsLeastOutside p high in_high → IsLeastOutside p cube others
+least_high cube low high others in_low in_high p s k l covers h = (
+  outside_whole cube high others in_high p l s.high_within h.0,
+  λ q out. elim (s.whole q out.1) [
+    | inl there ↦ absurd ((outside_part cube low others in_low q k there out).2 (covers q out.0 there))
+    | inr there ↦ h.1 q (outside_part cube high others in_high q l there out)
+  ],
+)
+
+-- a point outside the whole lies in the half that isn't covered
+pub in_the_other : (cube low high : Cube) (others in_low : List Cube) (p : Point) → IsSplit cube low high → KeepsMeeting low others in_low → Covers in_low low
+    → IsOutside p cube others → IsIn p high
+in_the_other cube low high others in_low p s k covers h = elim (s.whole p h.1) [
+  | inl there ↦ absurd ((outside_part cube low others in_low p k there h).2 (covers p h.0 there))
+  | inr there ↦ there
+]
 
 pub if_ok_more : {X E : Type 0} (P Q : X → Type 0) → ((x : X) → P x → Q x) → (r : Result X E) → IfOk r P → IfOk r Q
 if_ok_more P Q step (Ok x) h = step x h

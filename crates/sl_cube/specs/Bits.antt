@@ -1,3 +1,4 @@
+-- meaning: masks and values bit by bit.
 use Rattle.std.specs.Prelude.{◌≡◌, ℕ, ◌<◌, ◌^◌}
 use Rattle.std.specs.Int.{bit_at}
 

@@ -1,3 +1,4 @@
 pub mod Bits
 pub mod Points
 pub mod Search
+pub mod Tallies

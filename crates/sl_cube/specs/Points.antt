@@ -1,5 +1,5 @@
--- Cubes as sets of points.
-use Rattle.std.specs.Prelude.{◌≡◌, ◌↔◌, ℕ, ◌<◌, ◌≤◌, ◌^◌, ◌⊎◌, List, Option, Some, None, bit_or}
+-- meaning: points, and cubes as sets of points.
+use Rattle.std.specs.Prelude.{◌≡◌, ◌↔◌, ℕ, ◌<◌, ◌≤◌, ◌^◌, ◌⊎◌, List, Option, Some, None, Contains, bit_or}
 use Rattle.std.specs.Int.{bit_at}
 use Rattle.std.specs.List.{Any}
 use Rattle.sl_cube.specs.Bits.{Agrees}
@@ -17,6 +17,10 @@ IsIn p c = Agrees c.mask c.value p.bytes × Agrees c.ctx_mask c.ctx_value p.cont
 -- Each point of the inner cube is in the outer one.
 abbrev pub Includes : Cube → Cube → Type 0
 Includes outer inner = (p : Point) → InRange p → IsIn p inner → IsIn p outer
+
+-- Some point is in both cubes.
+abbrev pub DoMeet : Cube → Cube → Type 0
+DoMeet a b = (p : Point) × InRange p × IsIn p a × IsIn p b
 
 -- No point is in both cubes.
 abbrev pub AreApart : Cube → Cube → Type 0
@@ -54,6 +58,10 @@ IsHull a b h = (q : Point) → InRange q
 -- Some cube of the list has the point.
 abbrev pub IsInSome : List Cube → Point → Type 0
 IsInSome others p = Any (λ other. IsIn p other) others
+
+-- The kept cubes are those of the others that meet the cube.
+abbrev pub AreMeeting : Cube → List Cube → List Cube → Type 0
+AreMeeting cube others kept = (c : Cube) → Contains kept c ↔ (Contains others c × DoMeet cube c)
 
 -- Each point of the cube is in some cube of the list.
 abbrev pub Covers : List Cube → Cube → Type 0

@@ -1,8 +1,7 @@
--- What the steps of the search for a point outside a list of cubes keep.
-use Rattle.std.specs.Prelude.{◌≡◌, ◌↔◌, ℕ, ◌<◌, ◌≤◌, ◌⊎◌, List, Option, bit_and, bit_or}
-use Rattle.std.specs.Int.{bit_at}
+-- meaning: halves of cubes at bits; and, for private clauses, what the search for a point outside keeps.
+use Rattle.std.specs.Prelude.{◌≡◌, ◌↔◌, ◌<◌, ◌≤◌, ◌⊎◌, List, Option, Some, None, bit_and, bit_or}
 use Rattle.sl_cube.specs.Bits.{Agrees, IsTopBit}
-use Rattle.sl_cube.specs.Points.{InRange, IsIn, NotAfter, IsInSome, IsFound}
+use Rattle.sl_cube.specs.Points.{InRange, IsIn, NotAfter, IsInSome, Covers, IsOutside}
 use Rattle.sl_cube.specs.declared.Cube.{Cube}
 use Rattle.sl_cube.specs.declared.Point.{Point}
 
@@ -10,9 +9,14 @@ use Rattle.sl_cube.specs.declared.Point.{Point}
 abbrev pub IsNoWider : Cube → Cube → Type 0
 IsNoWider cube rest = (cube.mask ≤ rest.mask) × (cube.ctx_mask ≤ rest.ctx_mask)
 
--- What is found in the rest outside the kept ones is what is found in the cube outside the others.
+-- A point of the cube outside the list, or none where the list covers the cube.
+abbrev pub IsSomeFound : Cube → List Cube → Option Point → Type 0
+IsSomeFound cube others None = Covers others cube
+IsSomeFound cube others (Some p) = IsOutside p cube others
+
+-- What is found in the rest outside the kept ones is found in the cube outside the others.
 pub record Reduces (cube : Cube) (others : List Cube) (rest : Cube) (kept : List Cube) : Type 0 where
-  pub answers : (found : Option Point) → IsFound rest kept found → IsFound cube others found
+  pub answers : (found : Option Point) → IsSomeFound rest kept found → IsSomeFound cube others found
   pub no_wider : IsNoWider cube rest
 
 -- The rest of a cube has each of its points that isn't in the other cube.
@@ -21,12 +25,10 @@ pub record IsRest (cube other rest : Cube) : Type 0 where
   pub leaves : (p : Point) → InRange p → IsIn p cube → IsIn p other ⊎ IsIn p rest
   pub no_wider : IsNoWider cube rest
 
--- Each point of the cube is in some cube of the list, or has a point not after it in the rest, which
--- is in some cube of the list only if it is.
+-- Each point of the cube is in some cube of the list or in the rest.
 pub record Narrows (cube : Cube) (others : List Cube) (rest : Cube) : Type 0 where
   pub within : (p : Point) → IsIn p rest → IsIn p cube
-  pub reaches : (q : Point) → InRange q → IsIn q cube → IsInSome others q
-      ⊎ ((p : Point) × InRange p × IsIn p rest × NotAfter p q × (IsInSome others p → IsInSome others q))
+  pub leaves : (p : Point) → InRange p → IsIn p cube → IsInSome others p ⊎ IsIn p rest
   pub no_wider : IsNoWider cube rest
 
 -- Within the cube, the kept ones have the points that the others have.
@@ -78,8 +80,14 @@ pub record IsSplit (cube low high : Cube) : Type 0 where
 abbrev pub IsSingle : Cube → Type 0
 IsSingle cube = (p q : Point) → InRange p → InRange q → IsIn p cube → IsIn q cube → p ≡ q
 
--- Each bit that the cube fixes to 0 is among the bits.
-abbrev pub HasZerosOf : Point → Cube → Type 0
-HasZerosOf bits c =
-    ((i : ℕ) → bit_at c.mask i ≡ 1 → bit_at c.value i ≡ 0 → bit_at bits.bytes i ≡ 1)
-    × ((i : ℕ) → bit_at c.ctx_mask i ≡ 1 → bit_at c.ctx_value i ≡ 0 → bit_at bits.context i ≡ 1)
+-- Two cubes that make up another.
+pub record IsHalved (cube low high : Cube) : Type 0 where
+  pub low_within : (p : Point) → IsIn p low → IsIn p cube
+  pub high_within : (p : Point) → IsIn p high → IsIn p cube
+  pub whole : (p : Point) → IsIn p cube → IsIn p low ⊎ IsIn p high
+  pub low_narrower : IsNarrower cube low
+  pub high_narrower : IsNarrower cube high
+
+-- The cube fixes no bit that the region leaves open.
+pub record FixesNoMore (region cube : Cube) : Type 0 where
+  pub same : (p q : Point) → IsIn p region → IsIn q region → IsIn p cube → IsIn q cube

@@ -3,10 +3,14 @@
 
 ghost use Rattle.std.specs.Prelude.{◌≡◌, ◌↔◌, IsTrue, MatchOption, IfSome, bit_and};
 
+mod halves;
 mod masks;
 mod outside;
+mod tally;
 
-pub use outside::point_outside;
+pub use halves::{highest, parts, split};
+pub use outside::{is_covered, is_in_some, meeting, point_outside};
+pub use tally::Tally;
 
 /// What an instruction is decoded from: sixteen bytes of input, the first byte the highest of the
 /// number, and the 64 bits of the context register.
@@ -29,7 +33,7 @@ pub struct Cube {
 }
 
 impl Cube {
-    ghost use Rattle.sl_cube.specs.Points.{IsIn, Includes, AreApart, IsMeet, FixesBoth, IsHull, IsLeast};
+    ghost use Rattle.sl_cube.specs.Points.{IsIn, Includes, DoMeet, AreApart, IsMeet, FixesBoth, IsHull, IsLeast};
 
     /// Whether the point is in the cube.
     pub fn has(&self, point: &Point) -> bool
@@ -42,6 +46,18 @@ impl Cube {
             point.context.into(),
         );
         bytes && context
+    }
+
+    /// Whether some point is in both cubes.
+    pub fn meets(&self, other: &Cube) -> bool
+        ensures { IsTrue result ↔ DoMeet self.now other.now }
+    {
+        let shared = self.mask & other.mask;
+        if self.value & shared != other.value & shared {
+            return false;
+        }
+        let ctx_shared = self.ctx_mask & other.ctx_mask;
+        self.ctx_value & ctx_shared == other.ctx_value & ctx_shared
     }
 
     /// The set of the points that are in both cubes, which is a cube where there is one.

@@ -1,14 +1,92 @@
 //! The least point of a cube that is in none of a list of cubes.
 //!
-//! A cube is cut down as far as the others force it, and only then split, on the highest bit that it
-//! leaves open, which some other that meets it fixes.
+//! First any such point is sought: a cube is cut down as far as the others force it, and only then
+//! split, at an open bit that many of the shortest others fix. From a point that is outside the least
+//! one is reached bit by bit, from the highest bit down.
 
 ghost use Rattle.std.specs.Prelude.{◌↔◌, ◌≢◌, ◌⊎◌, IsTrue, MatchOption, IfOk, All};
-ghost use Rattle.sl_cube.specs.Points.{Includes, Covers, IsFound, IsInSome};
-ghost use Rattle.sl_cube.specs.Search.{Reduces, IsRest, Narrows, KeepsMeeting, Lacks, Has, IsNoBit, IsHighest, LeavesOpen, IsPart, IsSplit, IsSingle, HasZerosOf};
+ghost use Rattle.sl_cube.specs.Points.{Includes, Covers, IsFound, IsInSome, IsOutside};
+ghost use Rattle.sl_cube.specs.Points.{IsLeastOutside, AreMeeting};
+ghost use Rattle.sl_cube.specs.Search.{Reduces, IsRest, Narrows, IsSomeFound, FixesNoMore, IsHalved};
 
-use super::{Cube, Point, masks};
+use super::halves::{highest, parts, split};
+use super::tally::Tally;
+use super::{Cube, Point};
 use std::alloc::{AllocError, Global};
+
+/// Some point of the cube that is in none of the others, or `None` exactly where the others cover
+/// the cube.
+fn some_outside(alloc: Global, cube: &Cube, others: &[Cube]) -> Result<Option<Point>, AllocError>
+    ensures { IfOk result (IsSomeFound cube.now others.now) }
+{
+    let Some((rest, kept)) = reduced(alloc, cube, others)? else {
+        return Ok(None);
+    };
+    if fixes_more(&rest, cube) {
+        return some_outside(alloc, &rest, &kept);
+    }
+    let Some((low, high)) = favoured_halves(&rest, &kept) else {
+        return Ok(least_outside(&rest, &kept));
+    };
+    match some_outside(alloc, &low, &kept)? {
+        None => some_outside(alloc, &high, &kept),
+        found => Ok(found),
+    }
+}
+
+/// The cube's least point, where none of the others has it. None of them fixes a bit that the cube
+/// leaves open.
+fn least_outside(cube: &Cube, others: &[Cube]) -> Option<Point>
+    requires { All (FixesNoMore cube.now) others.now }
+    ensures { IsSomeFound cube.now others.now result }
+{
+    let least = cube.least();
+    if is_in_some(&least, others) {
+        return None;
+    }
+    Some(least)
+}
+
+/// The halves of the cube at a bit that it leaves open and the shortest of the others fix.
+fn favoured_halves(cube: &Cube, others: &[Cube]) -> Option<(Cube, Cube)>
+    ensures { MatchOption result (All (FixesNoMore cube.now) others.now)
+        (λ halves. IsHalved cube.now halves.0 halves.1) }
+{
+    let mut tally = Tally::new();
+    tally.weigh_all(cube, others);
+    tally.halves(cube)
+}
+
+/// The least point of the cube that is in none of the others, from any such point on.
+fn least_from(
+    alloc: Global,
+    cube: &Cube,
+    others: &[Cube],
+    witness: &Point,
+) -> Result<Point, AllocError>
+    ensures { IfOk result (λ least. IsOutside witness.now cube.now others.now
+        → IsLeastOutside least cube.now others.now) }
+{
+    if others.is_empty() {
+        return Ok(cube.least());
+    }
+    let Some((low, high)) = split(cube) else {
+        return Ok(*witness);
+    };
+    let in_low = meeting(alloc, &low, others)?;
+    if low.has(witness) {
+        let least = least_from(alloc, &low, &in_low, witness)?;
+        return Ok(least);
+    }
+    let found = some_outside(alloc, &low, &in_low)?;
+    let Some(lower) = found else {
+        let in_high = meeting(alloc, &high, others)?;
+        let least = least_from(alloc, &high, &in_high, witness)?;
+        return Ok(least);
+    };
+    let least = least_from(alloc, &low, &in_low, &lower)?;
+    Ok(least)
+}
 
 /// The least point of the cube that is in none of the others, or `None` exactly where the others
 /// cover the cube. The only error is want of memory.
@@ -19,23 +97,20 @@ pub fn point_outside(
 ) -> Result<Option<Point>, AllocError>
     ensures { IfOk result (IsFound cube.now others.now) }
 {
-    let Some((rest, kept)) = reduced(alloc, cube, others)? else {
+    let found = some_outside(alloc, cube, others)?;
+    let Some(witness) = found else {
         return Ok(None);
     };
-    let least = rest.least();
-    if !is_in_some(&least, &kept) {
-        return Ok(Some(least));
-    }
-    if fixes_more(&rest, cube) {
-        return point_outside(alloc, &rest, &kept);
-    }
-    let Some((low, high)) = split(&rest) else {
-        return Ok(None);
-    };
-    match point_outside(alloc, &low, &kept)? {
-        None => point_outside(alloc, &high, &kept),
-        found => Ok(found),
-    }
+    let least = least_from(alloc, cube, others, &witness)?;
+    Ok(Some(least))
+}
+
+/// Whether each point of the cube is in some of the others. The only error is want of memory.
+pub fn is_covered(alloc: Global, cube: &Cube, others: &[Cube]) -> Result<bool, AllocError>
+    ensures { IfOk result (λ answer. IsTrue answer ↔ Covers others.now cube.now) }
+{
+    let found = some_outside(alloc, cube, others)?;
+    Ok(found.is_none())
 }
 
 /// Whether the masks of the two cubes differ.
@@ -46,14 +121,14 @@ fn fixes_more(rest: &Cube, cube: &Cube) -> bool
 }
 
 /// Whether some of the cubes has the point.
-fn is_in_some(point: &Point, cubes: &[Cube]) -> bool
+pub fn is_in_some(point: &Point, cubes: &[Cube]) -> bool
     ensures { IsTrue result ↔ IsInSome cubes.now point.now }
 {
     cubes.iter().any(|cube| cube.has(point))
 }
 
-/// A smaller cube and a shorter list with the same least point outside, or `None` where the others
-/// cover the cube.
+/// A smaller cube and a shorter list between which lie only points of the cube outside the others,
+/// or `None` where the others cover the cube.
 fn reduced(
     alloc: Global,
     cube: &Cube,
@@ -66,17 +141,16 @@ fn reduced(
         return Ok(None);
     };
     let kept = meeting(alloc, &rest, others)?;
-    let lowered = lowered(&rest, &kept);
-    Ok(Some((lowered, kept)))
+    Ok(Some((rest, kept)))
 }
 
-/// The others that meet the cube.
-fn meeting(alloc: Global, cube: &Cube, others: &[Cube]) -> Result<Vec<Cube>, AllocError>
-    ensures { IfOk result (λ kept. KeepsMeeting cube.now others.now kept.items) }
+/// The others that meet the cube, in order. The only error is want of memory.
+pub fn meeting(alloc: Global, cube: &Cube, others: &[Cube]) -> Result<Vec<Cube>, AllocError>
+    ensures { IfOk result (λ kept. AreMeeting cube.now others.now kept.items) }
 {
     let mut kept = Vec::new(alloc);
     for other in others {
-        if cube.meet(other).is_some() {
+        if cube.meets(other) {
             kept.push(*other)?;
         }
     }
@@ -116,84 +190,4 @@ fn trimmed(cube: &Cube, other: &Cube) -> Option<Cube>
     } else {
         Some(*cube)
     }
-}
-
-/// The cube with each open bit cleared that none of the others fixes to 0.
-fn lowered(cube: &Cube, others: &[Cube]) -> Cube
-    ensures { Narrows cube.now others.now result }
-{
-    let zeros = zeros(others);
-    Cube {
-        mask: cube.mask | !zeros.bytes,
-        value: cube.value,
-        ctx_mask: cube.ctx_mask | !zeros.context,
-        ctx_value: cube.ctx_value,
-    }
-}
-
-/// The bits that some of the cubes fix to 0.
-fn zeros(cubes: &[Cube]) -> Point
-    ensures { All (HasZerosOf result) cubes.now }
-{
-    let mut zeros = Point {
-        bytes: 0,
-        context: 0,
-    };
-    for cube in cubes {
-        zeros.bytes |= cube.mask ^ cube.value;
-        zeros.context |= cube.ctx_mask ^ cube.ctx_value;
-    }
-    zeros
-}
-
-/// The halves of the cube at the highest bit that it leaves open, where it leaves one.
-fn split(cube: &Cube) -> Option<(Cube, Cube)>
-    ensures { MatchOption result (IsSingle cube.now) (λ halves. IsSplit cube.now halves.0 halves.1) }
-{
-    let open = Point {
-        bytes: !cube.mask,
-        context: !cube.ctx_mask,
-    };
-    let bit = highest(&open)?;
-    Some(parts(cube, &bit))
-}
-
-/// The points of the cube that lack the bits, and those that have them.
-fn parts(cube: &Cube, bits: &Point) -> (Cube, Cube)
-    requires { LeavesOpen cube.now bits.now }
-    ensures low { IsPart cube.now bits.now (Lacks bits.now) result.0 }
-    ensures high { IsPart cube.now bits.now (Has bits.now) result.1 }
-{
-    let clear = Cube {
-        mask: bits.bytes,
-        value: 0,
-        ctx_mask: bits.context,
-        ctx_value: 0,
-    };
-    let set = Cube {
-        mask: bits.bytes,
-        value: bits.bytes,
-        ctx_mask: bits.context,
-        ctx_value: bits.context,
-    };
-    (cube.joined(&clear), cube.joined(&set))
-}
-
-/// The highest of the bits, where there is one.
-fn highest(bits: &Point) -> Option<Point>
-    ensures { MatchOption result (IsNoBit bits.now) (IsHighest bits.now) }
-{
-    if bits.bytes != 0 {
-        return Some(Point {
-            bytes: masks::top_bit(bits.bytes),
-            context: 0,
-        });
-    }
-    if bits.context != 0 {
-        return Some(Point {
-            bytes: 0,
-            context: masks::top_bit(bits.context.into()) as u64,
-        });
-    }
-    None
 }

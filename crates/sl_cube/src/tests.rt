@@ -78,6 +78,10 @@ fn rows(rt: HostRuntime) -> Result<(), Fail> {
     for (index, (within, others, want)) in rows.iter().enumerate() {
         let found = point_outside(rt.alloc(), within, others)?;
         assert_eq!(rt; found, *want, "row {index}");
+        let covered = is_covered(rt.alloc(), within, others)?;
+        assert_eq!(rt; covered, want.is_none(), "row {index}");
+        let met = meeting(rt.alloc(), within, others)?;
+        assert!(rt; met.iter().all(|other| within.meets(other)), "row {index}");
     }
     Ok(())
 }

@@ -1,0 +1,5 @@
+pub mod OrderLemmas
+pub mod SideLemmas
+pub mod TreeLemmas
+pub mod ChooserLemmas
+pub mod EntryLemmas

@@ -1,0 +1,8 @@
+use Rattle.std.proofs.Common.{ℕ, ◌<◌}
+use Rattle.std.specs.List.{HoldsAt}
+use Rattle.sl_cube.specs.Points.{IsIn}
+use Rattle.sl_choose.specs.declared.Entry.{Entry}
+use Rattle.sl_choose.proofs.entries.first_of.Given as goal
+
+abbrev pub invariant-loop-entry : goal.invariant-loop-entry
+invariant-loop-entry l = (k : ℕ) → k < l.entry-index → HoldsAt (λ (e : Entry). IsIn l.point e.cube → ⊥) l.leaf k

@@ -1,0 +1,19 @@
+use Rattle.std.proofs.Common.{◌≡◌, ◌*◌, ◌%◌, ◌<◌, ◌^◌, ℕ, arith, sym, ◌∙◌, subst, below_more}
+use Rattle.std.proofs.lemmas.Bool.{false≢true}
+use Rattle.std.proofs.lemmas.Nat.{one_shl}
+use Rattle.sl_cube.specs.declared.Point.{Point}
+use Rattle.sl_choose.specs.Sides.{IsForced}
+use Rattle.sl_choose.proofs.sides.forced_context.Goals as goal
+
+abbrev bits_of : ℕ → Point
+bits_of x = record { bytes = 0; context = x }
+
+pub loop-place-preserved : goal.loop-place-preserved
+loop-place-preserved c =
+    let below : c.loop-place.place < 64 = c.loop-place-test.true in
+    let value : 1 * 2 ^ c.loop-place.place % 2 ^ 64 ≡ 2 ^ c.loop-place.place = one_shl c.loop-place.place 64 below in
+    below_more _ _ c.loop-place.invariant (λ forced.
+    false≢true (sym c.if-is_forced.false ∙ c.is_forced.ensures.1 (subst (λ (x : ℕ). IsForced c.args.entries.now (bits_of x)) (sym value) forced)))
+
+pub returns : goal.returns
+returns c = λ k lt. c.loop-place.invariant k (omega (arith, lt, c.loop-place-test.false))

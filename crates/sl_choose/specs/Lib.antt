@@ -1,0 +1,5 @@
+pub mod Order
+pub mod Sides
+pub mod Trees
+pub mod Choosers
+pub mod Added

@@ -1,0 +1,177 @@
+//! Entries at the two sides of bits.
+
+ghost use Rattle.std.specs.Prelude.{◌↔◌, ◌≤◌, IsTrue, IfOk, MatchOption, length};
+ghost use Rattle.sl_cube.specs.Search.{Lacks};
+ghost use Rattle.sl_choose.specs.Sides.{SetsNone, Covers, IsPut, IsSides, IsForced, HasNoForced, HasNoForcedByte, HasNoForcedContext, IsDivided, AllCover, SomeClear, SomeSet};
+
+use super::{Entry, Halves};
+use sl_cube::{Cube, Point};
+use std::alloc::{AllocError, Global};
+
+/// Whether the cube fixes none of the bits to 1.
+fn sets_none(cube: &Cube, bits: &Point) -> bool
+    ensures { IsTrue result ↔ SetsNone cube.now bits.now }
+{
+    cube.value & bits.bytes == 0 && cube.ctx_value & bits.context == 0
+}
+
+/// Whether the cube fixes all of the bits.
+fn covers(cube: &Cube, bits: &Point) -> bool
+    ensures { IsTrue result ↔ Covers cube.now bits.now }
+{
+    cube.mask & bits.bytes == bits.bytes && cube.ctx_mask & bits.context == bits.context
+}
+
+/// Whether the point has none of the bits.
+pub fn lacks(bits: &Point, point: &Point) -> bool
+    ensures { IsTrue result ↔ Lacks bits.now point.now }
+{
+    let bytes = point.bytes & bits.bytes == 0;
+    let context = point.context & bits.context == 0;
+    bytes && context
+}
+
+/// Puts the entry on the sides where its cube has points.
+fn put(
+    entry: &Entry,
+    bits: &Point,
+    low: &mut Vec<Entry>,
+    high: &mut Vec<Entry>,
+) -> Result<(), AllocError>
+    ensures { IfOk result (λ done. IsPut entry.now bits.now low.old.items high.old.items low.new.items high.new.items) }
+{
+    if !sets_none(&entry.cube, bits) {
+        high.push(*entry)?;
+        return Ok(());
+    }
+    low.push(*entry)?;
+    if covers(&entry.cube, bits) {
+        return Ok(());
+    }
+    high.push(*entry)?;
+    Ok(())
+}
+
+/// The entries that a point without the bits, and one with some of them, may be in.
+fn sides(alloc: Global, entries: &[Entry], bits: &Point) -> Result<Halves, AllocError>
+    ensures { IfOk result (λ sides. IsSides entries.now bits.now sides.low.items sides.high.items) }
+{
+    let mut low = Vec::new(alloc);
+    let mut high = Vec::new(alloc);
+    for entry in entries {
+        put(entry, bits, &mut low, &mut high)?;
+    }
+    Ok(Halves { low, high })
+}
+
+/// Whether each cube fixes all of the bits.
+fn all_cover(entries: &[Entry], bits: &Point) -> bool
+    ensures { IsTrue result ↔ AllCover entries.now bits.now }
+{
+    for entry in entries {
+        if !covers(&entry.cube, bits) {
+            return false;
+        }
+    }
+    true
+}
+
+/// Whether some cube fixes none of the bits to 1.
+fn some_clear(entries: &[Entry], bits: &Point) -> bool
+    ensures { IsTrue result ↔ SomeClear entries.now bits.now }
+{
+    for entry in entries {
+        if sets_none(&entry.cube, bits) {
+            return true;
+        }
+    }
+    false
+}
+
+/// Whether some cube fixes one of the bits to 1.
+fn some_set(entries: &[Entry], bits: &Point) -> bool
+    ensures { IsTrue result ↔ SomeSet entries.now bits.now }
+{
+    for entry in entries {
+        if !sets_none(&entry.cube, bits) {
+            return true;
+        }
+    }
+    false
+}
+
+/// Whether all cubes fix the bits, and two of them differ in them.
+fn is_forced(entries: &[Entry], bits: &Point) -> bool
+    ensures { IsTrue result ↔ IsForced entries.now bits.now }
+{
+    let cover = all_cover(entries, bits);
+    let clear = some_clear(entries, bits);
+    let set = some_set(entries, bits);
+    cover && clear && set
+}
+
+/// The least bit of the bytes that all cubes fix and in which two differ.
+fn forced_byte(entries: &[Entry]) -> Option<Point>
+    ensures { MatchOption result (HasNoForcedByte entries.now 128) (IsForced entries.now) }
+{
+    for place in 0..128u32 {
+        let bits = Point {
+            bytes: 1 << place,
+            context: 0,
+        };
+        if is_forced(entries, &bits) {
+            return Some(bits);
+        }
+    }
+    None
+}
+
+/// The least bit of the context that all cubes fix and in which two differ.
+fn forced_context(entries: &[Entry]) -> Option<Point>
+    ensures { MatchOption result (HasNoForcedContext entries.now 64) (IsForced entries.now) }
+{
+    for place in 0..64u32 {
+        let bits = Point {
+            bytes: 0,
+            context: 1 << place,
+        };
+        if is_forced(entries, &bits) {
+            return Some(bits);
+        }
+    }
+    None
+}
+
+/// A bit that all cubes fix and in which two differ, where there is one.
+pub fn forced(entries: &[Entry]) -> Option<Point>
+    ensures { MatchOption result (HasNoForced entries.now) (IsForced entries.now) }
+{
+    let byte = forced_byte(entries);
+    let Some(bits) = byte else {
+        return forced_context(entries);
+    };
+    Some(bits)
+}
+
+/// Both sides, where each has fewer entries and there is room for both.
+pub fn divided(
+    alloc: Global,
+    entries: &[Entry],
+    bits: &Point,
+    room: usize,
+) -> Result<Option<Halves>, AllocError>
+    requires { length entries.now ≤ room }
+    ensures { IfOk result (IsDivided entries.now bits.now room) }
+{
+    let both = sides(alloc, entries, bits)?;
+    if both.low.len() >= entries.len() {
+        return Ok(None);
+    }
+    if both.high.len() >= entries.len() {
+        return Ok(None);
+    }
+    if both.high.len() > room - both.low.len() {
+        return Ok(None);
+    }
+    Ok(Some(both))
+}

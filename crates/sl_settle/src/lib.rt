@@ -1,0 +1,34 @@
+//! Sets of points as unions of cubes: how they lie to one another, their hull, and whether at each
+//! point that some of them has, one of them is the most specific.
+#![tactic(auto)]
+
+mod answers;
+mod hull;
+mod least;
+mod pair;
+mod points;
+mod report;
+mod search;
+mod within;
+
+pub use answers::Answers;
+pub use hull::hull_of;
+pub use report::{Apart, Report, first_unsettled};
+use sl_cube::Cube;
+pub use within::{is_below, is_within};
+
+/// A set of points: all those of its cubes. A set without cubes has no point.
+#[derive(Debug, Drop)]
+pub struct CubeSet {
+    pub cubes: Vec<Cube>,
+}
+
+/// What is left in a region of points of the set at an index of a table.
+#[derive(Debug, Drop)]
+struct Candidate {
+    set: usize,
+    cubes: Vec<Cube>,
+}
+
+#[cfg(test)]
+mod tests;
