@@ -1,0 +1,4 @@
+pub mod Demands
+pub mod Gathered
+pub mod Laws
+pub mod Names

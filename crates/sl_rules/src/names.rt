@@ -1,0 +1,64 @@
+//! Sets of names.
+
+ghost use Rattle.std.specs.Prelude.{◌≡◌, ◌∷◌, [], ◌++◌, OnOk, OnErr, IfOk, false, map};
+ghost use Rattle.sl_rules.specs.Names.{are_distinct, is_among};
+
+use indexmap::IndexSet;
+use std::alloc::{AllocError, Global};
+use std::marker::Model;
+
+/// Names, each once, in the order in which they were added. Contracts see the list of them.
+#[derive(Debug, Drop)]
+pub struct NameSet<'a> {
+    names: IndexSet<&'a [u8]>,
+}
+
+impl<'a> Model for NameSet<'a> {
+    ghost use Rattle.std.specs.Prelude.{List, ℕ, map};
+
+    ghost Value = { List (List ℕ) };
+
+    ghost view = { λ s. map (λ name. name.now) s.names.keys };
+}
+
+impl<'a> NameSet<'a> {
+    pub fn new(alloc: Global) -> Self
+        ensures { result ≡ [] }
+    {
+        NameSet {
+            names: IndexSet::new(alloc),
+        }
+    }
+
+    /// Whether the name is there.
+    pub fn has(&self, name: &[u8]) -> bool
+        ensures { result ≡ is_among self.now name.now }
+    {
+        self.names.contains(name)
+    }
+
+    /// Adds a name that isn't there yet.
+    pub fn add(&mut self, name: &'a [u8]) -> Result<(), AllocError>
+        requires { is_among self.old name.now ≡ false }
+        ensures added { OnOk result (self.new ≡ self.old ++ name.now ∷ []) }
+        ensures kept { OnErr result (self.new ≡ self.old) }
+    {
+        self.names.insert(name)?;
+        Ok(())
+    }
+}
+
+/// Whether no two of the names are the same.
+pub fn are_distinct(alloc: Global, names: &[&[u8]]) -> Result<bool, AllocError>
+    ensures { IfOk result (λ distinct. distinct ≡ are_distinct (map (λ name. name.now) names.now)) }
+{
+    let mut seen = NameSet::new(alloc);
+    'names: for index in 0..names.len() {
+        let name = names[index];
+        if seen.has(name) {
+            return Ok(false);
+        }
+        seen.add(name)?;
+    }
+    Ok(true)
+}

@@ -1,0 +1,5 @@
+pub mod FieldLemmas
+pub mod KeyedLemmas
+pub mod SeenLemmas
+pub mod TokenLemmas
+pub mod WalkLemmas

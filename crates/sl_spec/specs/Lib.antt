@@ -1,0 +1,7 @@
+pub mod Attachments
+pub mod FieldValues
+pub mod Named
+pub mod Tables
+pub mod Views
+pub mod Unfolded
+pub mod Walks

@@ -1,0 +1,111 @@
+//! Lists of things that have names, each name once.
+
+ghost use Rattle.std.specs.Prelude.{◌≡◌, ◌<◌, ◌∷◌, [], ◌++◌, List, ℕ, false, Some};
+ghost use Rattle.std.specs.Prelude.{OnOk, OnErr, option_copied, slice_get, length};
+ghost use Rattle.std.specs.List.{list_any};
+ghost use Rattle.std.specs.Str.{bytes_eq};
+ghost use Rattle.std.specs.Map.Iter.{ShowsInOrder, deref};
+ghost use Rattle.sl_spec.specs.Named.{has_name, named, index_named};
+
+use indexmap::IndexMap;
+use indexmap::map::Values;
+use std::alloc::{AllocError, Global};
+use std::marker::Model;
+
+/// What has a name.
+pub trait Entry {
+    ghost name_of: { Self → List ℕ };
+}
+
+/// A list of things with names, each name once, in the order in which they were added. Contracts
+/// see the list.
+#[derive(Drop)]
+pub struct Named<'a, T: Entry + Drop> {
+    by_name: IndexMap<&'a [u8], T>,
+}
+
+impl<'a, T: Entry + Drop> Model for Named<'a, T> {
+    ghost use Rattle.std.specs.Prelude.{List, map, ◌≡◌};
+    ghost use Rattle.std.specs.List.{AllByRecursion};
+
+    ghost Value = { List T };
+
+    ghost view = { λ t. map (λ e. e.1) t.by_name.entries };
+
+    ghost invariant = { λ t. AllByRecursion (λ e. e.0.now ≡ T.name_of e.1) t.by_name.entries };
+}
+
+impl<'a, T: Entry + Drop> Named<'a, T> {
+    pub fn new(alloc: Global) -> Self
+        ensures { result ≡ [] }
+    {
+        Named {
+            by_name: IndexMap::new(alloc),
+        }
+    }
+
+    /// Whether something of this name is there.
+    pub fn has(&self, name: &[u8]) -> bool
+        ensures { result ≡ has_name T.name_of name.now self.now }
+    {
+        self.by_name.contains_key(name)
+    }
+
+    /// What has this name.
+    pub fn get(&self, name: &[u8]) -> Option<&T>
+        ensures { option_copied result ≡ named T.name_of name.now self.now }
+    {
+        self.by_name.get(name)
+    }
+
+    /// The index of what has this name.
+    pub fn index_of(&self, name: &[u8]) -> Option<usize>
+        ensures { result ≡ index_named T.name_of name.now self.now }
+    {
+        self.by_name.get_index_of(name)
+    }
+
+    /// The thing at an index.
+    pub fn at(&self, index: usize) -> Option<&T>
+        ensures { option_copied result ≡ slice_get self.now index }
+    {
+        match self.by_name.get_index(index) {
+            Some((_, thing)) => Some(thing),
+            None => None,
+        }
+    }
+
+    /// The thing at an index at which there is one.
+    pub fn member(&self, index: usize) -> &T
+        requires { index < length self.now }
+        ensures { slice_get self.now index ≡ Some result.now }
+    {
+        self.at(index).unwrap()
+    }
+
+    /// The things in order.
+    pub fn iter(&self) -> Values<'_, &'a [u8], T>
+        ensures rest { result ≡ self.now }
+        ensures runs { ShowsInOrder (deref {X = T}) }
+    {
+        self.by_name.values()
+    }
+
+    /// How many things there are.
+    pub fn len(&self) -> usize
+        ensures { result ≡ length self.now }
+    {
+        self.by_name.len()
+    }
+
+    /// Adds something whose name isn't there yet.
+    pub fn add(&mut self, name: &'a [u8], added: T) -> Result<(), AllocError>
+        requires named { T.name_of added ≡ name.now }
+        requires fresh { has_name T.name_of name.now self.old ≡ false }
+        ensures added { OnOk result (self.new ≡ self.old ++ added ∷ []) }
+        ensures kept { OnErr result (self.new ≡ self.old) }
+    {
+        self.by_name.insert(name, added)?;
+        Ok(())
+    }
+}
