@@ -21,7 +21,7 @@ module _ (sizes : List ℕ) where
   used_in_range op v formed (inr reads) = All-contains (IsInRange sizes) op.inputs.items v formed.inputs reads
 
   pub all_in_range : (ops : List Op) (op : Op) (v : Varnode) → IsWellFormed sizes ops → Contains ops op → Uses op v → IsInRange sizes v
-  all_in_range ops op v formed among = used_in_range op v (All-contains (IsWellFormedOp sizes) ops op formed among)
+  all_in_range ops op v formed among = used_in_range op v (All-contains (IsWellFormedOp sizes) ops op formed.each among)
 
   pub space_defined : (v : Varnode) (space : SpaceId) → IsInRange sizes v → v.place ≡ In space → space.0 < length sizes
   space_defined v space in_range lies =

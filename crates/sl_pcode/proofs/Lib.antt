@@ -1,2 +1,5 @@
 mod ByteCounts
 pub mod InRange
+mod ListLemmas
+pub mod Operands
+pub mod RunLaws

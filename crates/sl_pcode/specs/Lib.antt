@@ -1,2 +1,7 @@
+pub mod Codes
+pub mod Effects
+pub mod Machine
 pub mod Operations
+pub mod Targets
+pub mod Text
 pub mod WellFormed

@@ -1,12 +1,18 @@
-//! P-code: varnodes, operations, and lists of operations that are well formed.
+//! P-code: varnodes, operations, their text, and lists of operations that are well formed.
 #![tactic(auto)]
 
+mod code;
+mod effect;
 mod list;
 mod operation;
+mod print;
 #[cfg(test)]
 mod tests;
 mod varnode;
 
+pub use code::{Code, Kind};
+pub use effect::Effect;
 pub use list::OpList;
-pub use operation::{Code, Op};
+pub use operation::Op;
+pub use print::{Names, print_op};
 pub use varnode::{Place2, Varnode};

@@ -1,22 +1,13 @@
 //! One operation.
 
-ghost use Rattle.std.specs.Prelude.{◌≡◌, ◌≤◌, ◌↔◌, length, IsTrue};
+ghost use Rattle.std.specs.Prelude.{◌≡◌, ◌≤◌, ◌↔◌, length, IsTrue, IfOk};
 ghost use Rattle.sl_word.specs.Sizes.{byte_counts};
-ghost use Rattle.sl_pcode.specs.WellFormed.{AreOfOneSize, IsWellFormedOp, TakesOperands, WritesInRange, ReadsInRange};
+ghost use Rattle.sl_pcode.specs.WellFormed.{IsWellFormedOp, ReadsInRange, StaysInside, WritesInRange};
 
-use crate::{Place2, Varnode};
+use crate::{Code, Place2, Varnode};
 use sl_word::AddressSize;
 use smallvec::SmallVec;
-use std::alloc::Global;
-
-/// What an operation does, by the names of the P-Code Reference Manual.
-#[derive(Clone, Copy, Debug, PartialEq, Eq)]
-pub enum Code {
-    /// COPY: the input.
-    Copy,
-    /// INT_ADD: the sum, modulo 256^size.
-    IntAdd,
-}
+use std::alloc::{AllocError, Global};
 
 /// One operation: what it does, the varnode that its value goes to, and those that it reads, in order.
 ///
@@ -40,29 +31,38 @@ impl Op {
         Op { code, out, inputs }
     }
 
+    /// An operation with any number of inputs.
+    pub fn make_long(
+        alloc: Global,
+        code: Code,
+        out: Option<Varnode>,
+        inputs: &[Varnode],
+    ) -> Result<Op, AllocError>
+        ensures code { IfOk result (λ op. op.code ≡ code) }
+        ensures out { IfOk result (λ op. op.out ≡ out) }
+        ensures inputs { IfOk result (λ op. op.inputs.items ≡ inputs.now) }
+    {
+        let inputs = SmallVec::from_slice(alloc, inputs)?;
+        Ok(Op { code, out, inputs })
+    }
+
     pub(crate) fn is_well_formed(&self, sizes: &[AddressSize]) -> bool
         ensures { IsTrue result ↔ IsWellFormedOp (byte_counts sizes.now) self.now }
     {
-        self.takes_operands() && self.writes_in_range(sizes) && self.reads_in_range(sizes)
-    }
-
-    fn takes_operands(&self) -> bool
-        ensures { IsTrue result ↔ TakesOperands self.now.code self.now.out self.now.inputs.items }
-    {
-        match self.code {
-            Code::Copy => self.is_of_one_size(1),
-            Code::IntAdd => self.is_of_one_size(2),
-        }
-    }
-
-    // Whether there are so many inputs, and an output, all of one size.
-    fn is_of_one_size(&self, count: usize) -> bool
-        ensures { IsTrue result ↔ AreOfOneSize count self.now.out self.now.inputs.items }
-    {
-        let Some(out) = self.out else {
+        let Some(effect) = self.effect() else {
             return false;
         };
-        self.inputs.len() == count && self.inputs.iter().all(|input| input.size == out.size)
+        effect.is_formed(sizes) && self.writes_in_range(sizes) && self.reads_in_range(sizes)
+    }
+
+    // Whether a jump to a place of the list, from the place `at` of `count` operations, stays inside.
+    pub(crate) fn stays_inside(&self, at: usize, count: usize) -> bool
+        ensures { IsTrue result ↔ StaysInside at count self.now }
+    {
+        match self.effect() {
+            Some(effect) => effect.stays_within(at, count),
+            None => true,
+        }
     }
 
     fn writes_in_range(&self, sizes: &[AddressSize]) -> bool

@@ -1,6 +1,6 @@
 -- A section's operations do what its statements say.
 use Rattle.std.proofs.Common.{◌≡◌, ℕ, zero, suc, ◌+◌, ◌*◌, ◌%◌, ◌^◌, ◌<◌, ◌≤◌, inl, inr, List, [], ◌∷◌, ◌++◌, Option, Some, length, length-append, get_or, drop, refl, sym, ◌∙◌, ap, subst, add-one, arith}
-use Rattle.std.specs.Prelude.{slice_get, slice_index}
+use Rattle.std.specs.Prelude.{slice_get, slice_index, IsSomeAnd}
 use Rattle.std.specs.List.{All, AllByRecursion}
 use Rattle.std.proofs.Math.ListN.{get_or-append}
 use Rattle.std.proofs.Math.Seq.{get_or-append_seam}
@@ -17,9 +17,11 @@ use Rattle.sl_word.specs.declared.state.State.{State}
 use Rattle.sl_word.specs.Bytes.{PutsBytes, KeepsOthers, address_sizes, byte_at}
 use Rattle.sl_word.specs.Layout.{byte_of, number_of, little_endian, big_endian}
 use Rattle.sl_word.proofs.Powers.{bytes-bits, bytes_mono, bytes_pos}
-use Rattle.sl_pcode.specs.WellFormed.{AreOfOneSize, IsInRange, IsWellFormed, IsWellFormedOp, TakesOperands}
-use Rattle.sl_pcode.specs.declared.operation.Code.{Code}
-use Rattle.sl_pcode.specs.declared.operation.Code.TheVariants.{Copy}
+use Rattle.sl_pcode.specs.Codes.{kind_of}
+use Rattle.sl_pcode.specs.Effects.{effect_by}
+use Rattle.sl_pcode.specs.WellFormed.{IsFormed, IsInRange, IsWellFormed, IsWellFormedOp, StaysInside}
+use Rattle.sl_pcode.specs.declared.code.Code.{Code}
+use Rattle.sl_pcode.specs.declared.code.Code.TheVariants.{IntAdd}
 use Rattle.sl_pcode.specs.declared.operation.Op.{Op}
 use Rattle.sl_pcode.specs.declared.varnode.Varnode.{Varnode}
 use Rattle.sl_description.specs.Views.{storage, sum as seen, sums, term}
@@ -28,7 +30,7 @@ use Rattle.sl_description.specs.declared.sections.Sum.{Sum}
 use Rattle.sl_description.specs.declared.sections.Term.{Term}
 use Rattle.sl_description.specs.declared.sections.Term.TheVariants.{Held, Constant}
 use Rattle.sl_run.specs.Machine.{Bytes, Fits, IsAfter, IsPut, IsSoundSum, IsSoundTerm, RunsSection, sum_value, term_value, value}
-use Rattle.sl_run.specs.Translated.{AreOpsOf, IsOpOf, term_varnode, varnode_of, varnode_value}
+use Rattle.sl_run.specs.Translated.{AreOfOneSize, AreOpsOf, IsOpOf, term_varnode, varnode_of, varnode_value}
 
 -- the low bytes of a number of 64 bits
 pub low_wide : (number bytes : ℕ) → number < 2 ^ 64 → 8 ≤ bytes → number ≡ number % 256 ^ bytes
@@ -121,13 +123,20 @@ put_at endian s number space offset count old new here there e fits puts keeps =
     (subst (λ (p : SpaceId). KeepsOthers old new p.0) here keeps)
 
 -- the sizes and the values of an operation's inputs
-pub copy_size : (code : Code) (o : Option Varnode) (out v : Varnode) (xs : List Varnode) → code ≡ Copy → o ≡ Some out → TakesOperands code o xs
-    → v ≡ get_or xs 0 v → v.size.bytes ≡ out.size.bytes
-copy_size code o out v xs e eo taken is =
-    let same : AreOfOneSize 1 (Some out) xs =
-    subst (λ (k : Code). TakesOperands k (Some out) xs) e (subst (λ (k : Option Varnode). TakesOperands code k xs) eo taken) in
-    ap (λ (w : Varnode). w.size.bytes) is
-    ∙ All-get_or (λ (input : Varnode). input.size.bytes ≡ out.size.bytes) xs 0 v (omega (arith, same.0)) same.1
+all_two : (P : Varnode → Type 0) (v w : Varnode) → P v → P w → All P (v ∷ (w ∷ []))
+all_two P v w here there zero d h = here
+all_two P v w here there (suc zero) d h = there
+all_two P v w here there (suc (suc k)) d h = absurd (omega arith)
+
+pub sum_sizes : (sizes : List ℕ) (code : Code) (o : Option Varnode) (xs : List Varnode) → code ≡ IntAdd → IsSomeAnd (effect_by (kind_of code) o xs) (IsFormed sizes)
+    → AreOfOneSize 2 o xs
+sum_sizes sizes code o xs e formed =
+    go o xs (subst (λ (k : Code). IsSomeAnd (effect_by (kind_of k) o xs) (IsFormed sizes)) e formed)
+  where
+    go : (o : Option Varnode) (xs : List Varnode) → IsSomeAnd (effect_by (kind_of IntAdd) o xs) (IsFormed sizes) → AreOfOneSize 2 o xs
+    go (Some r) (a ∷ b ∷ []) formed =
+        (refl, all_two (λ (v : Varnode). v.size.bytes ≡ r.size.bytes) a b (sym formed.0.1) (formed.0.0 ∙ sym formed.0.1))
+    go _ _ formed = absurd formed
 
 pub sum_read : (sizes : List ℕ) (endian : Endian) (bytes : Bytes) (sum : Sum) (op : Op) (v w : Varnode) (a b size : ℕ)
     → IsOpOf sum op → IsSoundSum sizes (seen sum) → v ≡ get_or op.inputs.items 0 v → w ≡ get_or op.inputs.items 1 w
@@ -173,22 +182,27 @@ term_size : (sizes : List ℕ) (size : Size) (t : Term) → IsSoundTerm sizes si
 term_size sizes size (Held s) sound = sound.0
 term_size sizes size (Constant n) sound = refl
 
-all_two : (P : Varnode → Type 0) (v w : Varnode) → P v → P w → All P (v ∷ (w ∷ []))
-all_two P v w here there zero d h = here
-all_two P v w here there (suc zero) d h = there
-all_two P v w here there (suc (suc k)) d h = absurd (omega arith)
-
 op_formed : (sizes : List ℕ) (sum : Sum) (op : Op) → IsSoundSum sizes (seen sum) → IsOpOf sum op → IsWellFormedOp sizes op
 op_formed sizes sum op sound is = record {
-  operands = rw (is.code, is.out, is.inputs) (refl, all_two (λ (v : Varnode). v.size.bytes ≡ sum.target.size.bytes) _ _ sound.first_size (term_size sizes sum.target.size sum.second sound.second));
+  operands = rw (is.code, is.out, is.inputs) ((term_size sizes sum.target.size sum.second sound.second ∙ sym sound.first_size, sym sound.first_size), tt);
   output = rw is.out ((λ e. cc), in_range sizes sum.target sound.target);
   inputs = rw is.inputs (all_two (IsInRange sizes) _ _ (in_range sizes sum.first sound.first) (term_in_range sizes sum.target.size sum.second sound.second));
 }
 
+op_stays : (sum : Sum) (op : Op) (at count : ℕ) → IsOpOf sum op → StaysInside at count op
+op_stays sum op at count is = rw (is.code, is.out, is.inputs) tt
+
 pub all_formed : (sizes : List ℕ) (section : List Sum) (ops : List Op) → AreOpsOf section ops → AllByRecursion (IsSoundSum sizes) (sums section) → IsWellFormed sizes ops
-all_formed sizes section ops are sound = λ k d below.
-    elim ((slice_get_cases section k).1) [
-      | inl w ↦ op_formed sizes w.0 (get_or ops k d) (sound_at sizes section k w.0 w.2 sound)
-          (are.each k w.0 (get_or ops k d) w.2 (slice_get-get_or ops k d below))
-      | inr w ↦ absurd (omega (arith, w.0, are.count))
-    ]
+all_formed sizes section ops are sound = record {
+  each = λ k d below.
+      elim ((slice_get_cases section k).1) [
+        | inl w ↦ op_formed sizes w.0 (get_or ops k d) (sound_at sizes section k w.0 w.2 sound)
+            (are.each k w.0 (get_or ops k d) w.2 (slice_get-get_or ops k d below))
+        | inr w ↦ absurd (omega (arith, w.0, are.count))
+      ];
+  jumps = λ k op below is.
+      elim ((slice_get_cases section k).1) [
+        | inl w ↦ op_stays w.0 op k (length ops) (are.each k w.0 op w.2 is)
+        | inr w ↦ absurd (omega (arith, w.0, are.count))
+      ];
+}

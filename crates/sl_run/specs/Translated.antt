@@ -1,9 +1,10 @@
 -- The operations that stand for the statements of a section.
-use Rattle.std.specs.Prelude.{◌≡◌, ℕ, ◌+◌, ◌%◌, ◌^◌, List, [], ◌∷◌, Some, length, slice_get, slice_index}
+use Rattle.std.specs.Prelude.{◌≡◌, ℕ, ◌+◌, ◌%◌, ◌^◌, List, [], ◌∷◌, Option, Some, IsSomeAnd, length, slice_get, slice_index}
+use Rattle.std.specs.List.{All}
 use Rattle.sl_word.specs.declared.word.Endian.{Endian}
 use Rattle.sl_word.specs.declared.word.Size.{Size}
 use Rattle.sl_word.specs.Layout.{number_of}
-use Rattle.sl_pcode.specs.declared.operation.Code.TheVariants.{IntAdd}
+use Rattle.sl_pcode.specs.declared.code.Code.TheVariants.{IntAdd}
 use Rattle.sl_pcode.specs.declared.operation.Op.{Op}
 use Rattle.sl_pcode.specs.declared.varnode.Place2.{Place2}
 use Rattle.sl_pcode.specs.declared.varnode.Place2.TheVariants.{Const, Unique, In}
@@ -33,6 +34,11 @@ pub record IsOpOf (sum : Sum) (op : Op) : Type 0 where
 pub record AreOpsOf (section : List Sum) (ops : List Op) : Type 0 where
   pub count : length ops ≡ length section
   pub each : (i : ℕ) (sum : Sum) (op : Op) → slice_get section i ≡ Some sum → slice_get ops i ≡ Some op → IsOpOf sum op
+
+-- There are so many inputs, and an output, all of one size.
+abbrev pub AreOfOneSize : ℕ → Option Varnode → List Varnode → Type 0
+AreOfOneSize count out inputs =
+    IsSomeAnd out (λ result. (length inputs ≡ count) × All (λ input. input.size.bytes ≡ result.size.bytes) inputs)
 
 -- The number that so many bytes at a place make, round the end of a space. Temporary bytes are 0: no translated statement
 -- has any.

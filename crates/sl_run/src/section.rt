@@ -7,7 +7,7 @@ ghost use Rattle.sl_word.specs.Sizes.{byte_counts};
 ghost use Rattle.sl_pcode.specs.WellFormed.{IsInRange, IsWellFormed, IsWellFormedOp};
 ghost use Rattle.sl_pcode.specs.Operations.{operations};
 ghost use Rattle.sl_run.specs.Machine.{Fits, IsAfter, IsPut, IsSoundSum, RunsSection, sum_value};
-ghost use Rattle.sl_run.specs.Translated.{AreOpsOf, IsOpOf, term_varnode, varnode_of, varnode_value};
+ghost use Rattle.sl_run.specs.Translated.{AreOfOneSize, AreOpsOf, IsOpOf, term_varnode, varnode_of, varnode_value};
 ghost use Rattle.sl_description.specs.Views.{storage as storage_view, sum as sum_view, sums};
 ghost use Rattle.sl_description.specs.declared.registers.Storage.{Storage};
 ghost use Rattle.sl_description.specs.declared.sections.Sum.{Sum};
@@ -128,13 +128,23 @@ fn value(op: &Op, out: Varnode, state: &State) -> Word
         → result.bits ≡ sum_value (endian_of state.now) (byte_at state.now) (sum_view sum) }
 {
     match op.code {
-        Code::Copy => read(state, op.inputs[0]),
-        Code::IntAdd => {
-            let a = read(state, op.inputs[0]);
-            let b = read(state, op.inputs[1]);
-            apply2(Op2::IntAdd, a, b, out.size).unwrap()
-        }
+        Code::IntAdd => added_up(op, out, state),
+        _ => Word::new(0, out.size).unwrap(),
     }
+}
+
+/// The sum of an operation's inputs.
+fn added_up(op: &Op, out: Varnode, state: &State) -> Word
+    requires op { IsWellFormedOp (address_sizes state.now) op.now }
+    requires out { op.now.out ≡ Some out }
+    requires one_size { AreOfOneSize 2 op.now.out op.now.inputs.items }
+    ensures size { result.size.bytes ≡ out.size.bytes }
+    ensures value { (sum : Sum) → IsOpOf sum op.now → IsSoundSum (address_sizes state.now) (sum_view sum)
+        → result.bits ≡ sum_value (endian_of state.now) (byte_at state.now) (sum_view sum) }
+{
+    let a = read(state, op.inputs[0]);
+    let b = read(state, op.inputs[1]);
+    apply2(Op2::IntAdd, a, b, out.size).unwrap()
 }
 
 /// The word that a varnode has.

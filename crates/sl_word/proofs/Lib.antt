@@ -5,3 +5,4 @@ pub mod Memory
 pub mod Powers
 pub mod SpaceList
 pub mod TwosComplement
+pub mod Written

@@ -2,6 +2,7 @@ pub mod Bytes
 pub mod Changes
 pub mod Differences
 pub mod Layout
+pub mod Memories
 pub mod Numbers
 pub mod Operations
 pub mod Pages

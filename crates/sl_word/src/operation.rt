@@ -2,6 +2,7 @@
 
 ghost use Rattle.std.specs.Prelude.{◌≡◌, ◌^◌, ◌<◌, ◌↔◌, IsTrue, IsErr, IfOk};
 ghost use Rattle.sl_word.specs.Operations.{value1, value2, TakesSizes1, TakesSizes2, IsDivision};
+ghost use Rattle.sl_word.specs.Operations.{EqualSizes, TestSizes, ByteSizes};
 
 use crate::arithmetic::{
     bits_and, bits_or, bits_xor, complement, difference, is_carry, leading_zero_bits, one_bits,
@@ -100,7 +101,44 @@ pub enum Op2 {
 #[derive(Clone, Copy, Debug, PartialEq, Eq)]
 pub struct DivideByZero;
 
+impl Op1 {
+    /// Whether the operation takes an operand of this size and gives a result of the size `out`.
+    pub fn takes_sizes(self, a: Size, out: Size) -> bool
+        ensures { IsTrue result ↔ TakesSizes1 self a.bytes out.bytes }
+    {
+        match self {
+            Op1::Copy | Op1::IntNegate | Op1::Int2Comp => out.bytes == a.bytes,
+            Op1::BoolNegate => a.bytes == 1 && out.bytes == 1,
+            Op1::IntZext | Op1::IntSext => a.bytes <= out.bytes,
+            Op1::PopCount | Op1::LzCount => true,
+        }
+    }
+}
+
 impl Op2 {
+    /// Whether the operation takes operands of these sizes, the second of which is the number `b_bits`,
+    /// and gives a result of the size `out`. The number counts for `Subpiece` alone.
+    pub fn takes_sizes(self, a: Size, b: Size, b_bits: u64, out: Size) -> bool
+        ensures { IsTrue result ↔ TakesSizes2 self a.bytes b.bytes out.bytes b_bits }
+    {
+        match self {
+            Op2::IntAdd | Op2::IntSub | Op2::IntMult | Op2::IntDiv | Op2::IntRem => {
+                are_equal(a, b, out)
+            }
+            Op2::IntSdiv | Op2::IntSrem | Op2::IntAnd | Op2::IntOr | Op2::IntXor => {
+                are_equal(a, b, out)
+            }
+            Op2::IntLeft | Op2::IntRight | Op2::IntSright => out.bytes == a.bytes,
+            Op2::IntEqual | Op2::IntNotEqual | Op2::IntLess | Op2::IntLessEqual => {
+                are_of_a_test(a, b, out)
+            }
+            Op2::IntSless | Op2::IntSlessEqual => are_of_a_test(a, b, out),
+            Op2::IntCarry | Op2::IntScarry | Op2::IntSborrow => are_of_a_test(a, b, out),
+            Op2::BoolAnd | Op2::BoolOr | Op2::BoolXor => are_bytes(a, b, out),
+            Op2::Subpiece => u64::from(out.bytes) <= u64::from(a.bytes).saturating_sub(b_bits),
+        }
+    }
+
     fn is_division(self) -> bool
         ensures { IsTrue result ↔ IsDivision self }
     {
@@ -109,6 +147,24 @@ impl Op2 {
             Op2::IntDiv | Op2::IntRem | Op2::IntSdiv | Op2::IntSrem
         )
     }
+}
+
+fn are_equal(a: Size, b: Size, out: Size) -> bool
+    ensures { IsTrue result ↔ EqualSizes a.bytes b.bytes out.bytes }
+{
+    b.bytes == a.bytes && out.bytes == a.bytes
+}
+
+fn are_of_a_test(a: Size, b: Size, out: Size) -> bool
+    ensures { IsTrue result ↔ TestSizes a.bytes b.bytes out.bytes }
+{
+    b.bytes == a.bytes && out.bytes == 1
+}
+
+fn are_bytes(a: Size, b: Size, out: Size) -> bool
+    ensures { IsTrue result ↔ ByteSizes a.bytes b.bytes out.bytes }
+{
+    a.bytes == 1 && b.bytes == 1 && out.bytes == 1
 }
 
 /// The result of an operation on one word, of the size `out`.

@@ -47,6 +47,13 @@ impl State {
         Ok(State { endian, spaces })
     }
 
+    /// The order of bytes in memory.
+    pub fn endian(&self) -> Endian
+        ensures { result ≡ endian_of self.now }
+    {
+        self.endian
+    }
+
     /// The number that the bytes from an offset on make.
     pub fn read(&self, space: SpaceId, offset: u64, size: Size) -> Word
         requires { space.0 < length (address_sizes self.now) }

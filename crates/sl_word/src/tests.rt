@@ -1,6 +1,3 @@
-ghost use Rattle.std.specs.Prelude.{◌≡◌, ◌+◌, ◌<◌, ◌≤◌, IsTrue};
-ghost use Rattle.sl_word.specs.Operations.{TakesSizes1, TakesSizes2};
-
 use crate::{
     AddressSize, Change, DivideByZero, Endian, Op1, Op2, Size, SpaceId, State, Word, apply1, apply2,
 };
@@ -16,33 +13,6 @@ fn address_size(n: u8) -> Result<AddressSize, Fail> {
 
 fn word(bits: u128, n: u8) -> Result<Word, Fail> {
     Ok(Word::new(bits, size(n)?).ok_or("a word")?)
-}
-
-fn takes_sizes1(op: Op1, a: Size, out: Size) -> bool
-    ensures { IsTrue result → TakesSizes1 op a.bytes out.bytes }
-{
-    match op {
-        Op1::Copy | Op1::IntNegate | Op1::Int2Comp => out.bytes == a.bytes,
-        Op1::BoolNegate => a.bytes == 1 && out.bytes == 1,
-        Op1::IntZext | Op1::IntSext => a.bytes <= out.bytes,
-        Op1::PopCount | Op1::LzCount => true,
-    }
-}
-
-fn takes_sizes2(op: Op2, a: Word, b: Word, out: Size) -> bool
-    ensures { IsTrue result → TakesSizes2 op a.size.bytes b.size.bytes out.bytes b.bits }
-{
-    let (a, b, amount, out) = (a.size.bytes, b.size.bytes, b.bits, out.bytes);
-    match op {
-        Op2::IntAdd | Op2::IntSub | Op2::IntMult | Op2::IntDiv | Op2::IntRem => b == a && out == a,
-        Op2::IntSdiv | Op2::IntSrem | Op2::IntAnd | Op2::IntOr | Op2::IntXor => b == a && out == a,
-        Op2::IntLeft | Op2::IntRight | Op2::IntSright => out == a,
-        Op2::IntEqual | Op2::IntNotEqual | Op2::IntLess | Op2::IntLessEqual => b == a && out == 1,
-        Op2::IntSless | Op2::IntSlessEqual => b == a && out == 1,
-        Op2::IntCarry | Op2::IntScarry | Op2::IntSborrow => b == a && out == 1,
-        Op2::BoolAnd | Op2::BoolOr | Op2::BoolXor => a == 1 && b == 1 && out == 1,
-        Op2::Subpiece => amount < 16 && u128::from(out) + amount <= u128::from(a),
-    }
 }
 
 #[test]
@@ -62,7 +32,7 @@ fn operations_on_one_word(rt: HostRuntime) -> Result<(), Fail> {
     ];
     for (op, a, n, out, value) in table {
         let (a, out) = (word(a, n)?, size(out)?);
-        assert!(rt; takes_sizes1(op, a.size, out), "{op:?}");
+        assert!(rt; op.takes_sizes(a.size, out), "{op:?}");
         assert_eq!(rt; apply1(op, a, out).bits, value, "{op:?}");
     }
     Ok(())
@@ -103,7 +73,8 @@ fn operations_on_two_words(rt: HostRuntime) -> Result<(), Fail> {
     ];
     for (op, a, n, b, m, out, value) in table {
         let (a, b, out) = (word(a, n)?, word(b, m)?, size(out)?);
-        assert!(rt; takes_sizes2(op, a, b, out), "{op:?}");
+        let amount = u64::try_from(b.bits).unwrap_or(u64::MAX);
+        assert!(rt; op.takes_sizes(a.size, b.size, amount, out), "{op:?}");
         let bits = apply2(op, a, b, out).map(|word| word.bits);
         assert!(rt; bits == value, "{op:?}");
     }
