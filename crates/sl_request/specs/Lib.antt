@@ -1,0 +1,5 @@
+pub mod Images
+pub mod Numbers
+pub mod Requests
+pub mod Views
+pub mod Words
