@@ -1,6 +1,7 @@
 -- meaning: the numbers of a command line, as words spell them
 use Rattle.std.specs.Prelude.{ℕ, ◌^◌, ℤ, pos, neg_ℤ, List, length, drop, Option, Some, None}
-use Rattle.std.specs.Prelude.{Bool, false, [], ◌∷◌, ◌==◌, ◌&&◌, nat_eq, nat_lt, nat_le, codes, if◌then◌else◌}
+use Rattle.std.specs.Prelude.{Bool, false, [], ◌∷◌, ◌==◌, ◌&&◌, nat_eq, nat_lt, nat_le, codes}
+use Rattle.std.specs.Prelude.{if◌then◌else◌}
 use Rattle.std.specs.Char.{digit_value}
 use Rattle.std.specs.List.{list_all, starts_with}
 use Rattle.std.specs.Option.{option_map, option_and_then}

@@ -5,8 +5,8 @@ use Rattle.std.specs.List.{list_any, before_first, after_first}
 use Rattle.std.specs.Option.{option_map, option_and_then}
 use Rattle.std.specs.Str.{bytes_eq}
 use Rattle.sl_request.specs.Numbers.{number_of, value_of}
-use Rattle.sl_request.specs.Words.{Text, OptionRule, Part, are_once, given_value, is_equals, is_given}
-use Rattle.sl_request.specs.Words.{parts_from, positionals}
+use Rattle.sl_request.specs.Words.{Text, OptionRule, Part, are_once, given_value, is_equals}
+use Rattle.sl_request.specs.Words.{is_given, parts_from, positionals}
 
 -- ---- requests
 
@@ -164,5 +164,6 @@ asked_by name given = option_and_then (λ c. c.asked given) (command_named name)
 -- What the words ask for, the program's name first.
 abbrev pub asked_of : List Text → Option Asked
 asked_of (program ∷ name ∷ rest) =
-    option_and_then (λ c. option_and_then c.asked (arguments_by c.options rest)) (command_named name)
+    option_and_then (λ c. option_and_then c.asked (arguments_by c.options rest))
+    (command_named name)
 asked_of _ = None

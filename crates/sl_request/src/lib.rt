@@ -3,11 +3,13 @@
 #![tactic(auto)]
 
 mod image;
+mod laws;
 mod numbers;
 mod reading;
 mod request;
 
 pub use image::decode_hex;
+pub use laws::parts_of_words;
 pub use reading::asked_by;
 pub use request::{Arguments, FieldValue, Request, Target};
 

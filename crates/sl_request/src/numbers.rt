@@ -1,7 +1,8 @@
 //! Numbers as words of a command line.
 
 ghost use Rattle.std.specs.Prelude.{◌≡◌, ◌≤◌};
-ghost use Rattle.sl_request.specs.Numbers.{begins_with_plus, negative, number_of, numeral, value_of};
+ghost use Rattle.sl_request.specs.Numbers.{begins_with_plus, negative, number_of, numeral};
+ghost use Rattle.sl_request.specs.Numbers.{value_of};
 
 /// Whether a plus stands first, which `from_str_radix` takes and no number has.
 fn begins_with_plus(digits: &str) -> bool

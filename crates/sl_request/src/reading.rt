@@ -2,7 +2,8 @@
 
 ghost use Rattle.std.specs.Prelude.{◌≡◌, IfOk, map, option_map, string_bytes};
 ghost use Rattle.sl_request.specs.Requests.{asked_by, check_asked, field_of, fields_of, gen_asked};
-ghost use Rattle.sl_request.specs.Requests.{list_asked, number_or, only_word, pcode_asked, run_asked, size_of, target_of};
+ghost use Rattle.sl_request.specs.Requests.{list_asked, number_or, only_word, pcode_asked};
+ghost use Rattle.sl_request.specs.Requests.{run_asked, size_of, target_of};
 ghost use Rattle.sl_request.specs.Views.{field, request, arguments, target};
 
 use crate::numbers::{number_of, value_of};

@@ -4,7 +4,7 @@ use Rattle.std.specs.List.{list_all}
 use Rattle.std.specs.Str.{bytes_eq}
 use Rattle.std.proofs.Math.Bool.{or-false}
 use Rattle.clap.specs.Simple.{filled, with_index}
-use Rattle.clap.specs.Walk.{Rule, Text, arg_by_id, arg_by_index, arg_by_long, arg_by_short, has_long, has_short}
+use Rattle.clap.specs.Walk.{Rule, Text, arg_by_id, arg_by_long, arg_by_short, has_long, has_short}
 use Rattle.clap.specs.declared.builder.action.ArgAction.TheVariants.{Set, SetTrue}
 use Rattle.sl_request.specs.Words.{OptionRule, rule_named}
 use Rattle.sl_words.specs.Layout.{long_rule, words_rule}
@@ -79,9 +79,6 @@ by_short_here (o ∷ os) x =
 
 pub by_short : (os : List OptionRule) (x : ℕ) → arg_by_short (rules os) x ≡ None
 by_short os x = by_short_here os x
-
-pub by_first : (os : List OptionRule) → arg_by_index (rules os) 1 ≡ Some word_rule
-by_first os = refl
 
 -- ---- no option is named as the positional words
 

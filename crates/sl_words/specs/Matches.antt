@@ -12,7 +12,8 @@ words_in rows = unwrap_or (all_of (codes "WORDS") rows) []
 
 -- Whether the image is hexadecimal text.
 abbrev pub is_hex_in : List Row → Bool
-is_hex_in rows = option_map_or (λ text. bytes_eq text (codes "true")) (first_of (codes "hex") rows) false
+is_hex_in rows =
+    option_map_or (λ text. bytes_eq text (codes "true")) (first_of (codes "hex") rows) false
 
 -- What the rows of a command's matches say.
 abbrev pub arguments_in : List Row → Arguments

@@ -12,7 +12,8 @@ use std::alloc::{AllocError, Global};
 
 /// The positional words.
 fn words_of<'a>(alloc: Global, matches: &ArgMatches<'a>) -> Result<Vec<&'a str>, AllocError>
-    ensures { IfOk result (λ v. map (λ w. w.now) v.items ≡ words_in (rows_of (found_of matches.now))) }
+    ensures { IfOk result (λ v. map (λ w. w.now) v.items
+        ≡ words_in (rows_of (found_of matches.now))) }
 {
     match matches.get_raw("WORDS") {
         Some(words) => {

@@ -40,7 +40,8 @@ fn refused<'a>(error: &Error) -> Result<Option<Request<'a>>, AllocError>
 
 /// What the words ask for, the program's name first; none where they have no meaning.
 pub fn request_of<'a>(alloc: Global, words: &'a [String]) -> Result<Option<Request<'a>>, AllocError>
-    ensures { IfOk result (λ r. option_map request r ≡ asked_of (map string_bytes words.entry.now)) }
+    ensures { IfOk result (λ r. option_map request r
+        ≡ asked_of (map string_bytes words.entry.now)) }
 {
     let command = sleigh(alloc)?;
     match command.try_get_matches_from(words) {
