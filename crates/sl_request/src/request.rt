@@ -1,0 +1,48 @@
+//! Requests.
+
+/// A field of the context register, by its name, and the value that it is given: -2^63 to 2^64 - 1.
+#[derive(Clone, Copy, Debug)]
+pub struct FieldValue<'a> {
+    pub field: &'a str,
+    pub value: i128,
+}
+
+/// What is listed or run.
+#[derive(Debug, Drop)]
+pub struct Target<'a> {
+    /// The file of the specification.
+    pub spec: &'a str,
+    /// The file of the image.
+    pub image: &'a str,
+    /// The address of the image's first byte, in the default space.
+    pub base: u64,
+    /// Whether the image is hexadecimal text.
+    pub is_hex: bool,
+    /// The values of context fields, in the order of the words.
+    pub context: Vec<FieldValue<'a>>,
+}
+
+/// What is asked for.
+#[derive(Debug, Drop)]
+pub enum Request<'a> {
+    /// The specification of this file is checked.
+    Check(&'a str),
+    /// The image is listed.
+    List(Target<'a>),
+    /// The image is listed with the p-code of its instructions.
+    Pcode(Target<'a>),
+    /// The image is run for at most this many steps.
+    Run(Target<'a>, u64),
+    /// A specification of this size is generated, 1 to 30,000, and compiled, listed and run.
+    Gen(u64),
+}
+
+/// What a command is given, before any value is read: its positional words, and the values of its
+/// options.
+#[derive(Debug, Drop)]
+pub struct Arguments<'a> {
+    pub words: Vec<&'a str>,
+    pub base: Option<&'a str>,
+    pub steps: Option<&'a str>,
+    pub is_hex: bool,
+}
