@@ -1,12 +1,13 @@
 -- Bytes in pages, and numbers laid out in bytes.
-use Rattle.std.proofs.Common.{◌≡◌, ◌≢◌, ℕ, suc, ◌+◌, ◌*◌, ◌%◌, ◌^◌, ◌<◌, get_or, refl, sym, ◌∙◌, ap, inl, inr, eqb, cond, add-one, arith}
-use Rattle.std.specs.Prelude.{replicate}
+use Rattle.std.proofs.Common.{◌≡◌, ◌≢◌, ◌⊎◌, ◌≤◌, ℕ, suc, ◌+◌, ◌-◌, ◌*◌, ◌%◌, ◌^◌, ◌<◌, get_or, refl, sym, ◌∙◌, ap, inl, inr, eqb, cond, add-one, arith}
+use Rattle.std.specs.Prelude.{if◌then◌else◌, ◌&&◌, nat_le, nat_lt, replicate}
 use Rattle.std.proofs.lemmas.List.{get_or-replicate, get_or_past, length-replicate}
 use Rattle.std.proofs.lemmas.Bool.{cases_lt}
 use Rattle.std.proofs.lemmas.Nat.{mul-add-lt}
 use Rattle.std.proofs.lemmas.Bool.Decides.{nat_tests}
 use Rattle.std.proofs.Math.Nat.{mod-lt, mod-add-mod, mod-eq_of_lt, pow-suc}
 use Rattle.sl_word.specs.Layout.{Puts, little_endian, big_endian}
+use Rattle.sl_word.specs.Pages.{with_run}
 use Rattle.sl_word.proofs.Powers.{bytes-bits, bytes_mono, bytes_pos}
 use Rattle.sl_word.proofs.TwosComplement.{sum-cut}
 
@@ -54,6 +55,46 @@ Puts-more m base i a v byte old mid new h at is before e =
       kept = λ offset away.
           write_other a v offset mid new e (λ same. away i (omega arith) (same ∙ at))
           ∙ before.kept offset (λ k less. away k (omega arith));
+    }
+
+in_run : (place from count k x y : ℕ) → place ≤ k → k < place + count → (if nat_le place k && nat_lt k (place + count) then x else y) ≡ x
+in_run place from count k x y at_least below = grind (arith, nat_tests)
+
+out_of_run : (place from count k x y : ℕ) → (k < place) ⊎ (place + count ≤ k) → (if nat_le place k && nat_lt k (place + count) then x else y) ≡ y
+out_of_run place from count k x y (inl before) = grind (arith, nat_tests)
+out_of_run place from count k x y (inr behind) = grind (arith, nat_tests)
+
+-- a run of bytes more is put, before the end
+pub Puts-run : (m base i n : ℕ) (byte old mid new : ℕ → ℕ) → base + i + n ≤ m → Puts m base i byte old mid → ((o : ℕ) → new o ≡ with_run (base + i) i n byte mid o) → Puts m base (i + n) byte old new
+Puts-run m base i n byte old mid new room before e =
+    record {
+      put = λ k below.
+          let at : (base + k) % m ≡ base + k = mod-eq_of_lt (omega arith) in
+          elim (cases_lt k i) [
+            | inl less ↦
+                e ((base + k) % m)
+                ∙ out_of_run (base + i) i n ((base + k) % m) _ _ (inl (omega (arith, at)))
+                ∙ before.put k less
+            | inr more ↦
+                let index : i + ((base + k) % m - (base + i)) ≡ k = omega (arith, at) in
+                e ((base + k) % m)
+                ∙ in_run (base + i) i n ((base + k) % m) _ _ (omega (arith, at)) (omega (arith, at))
+                ∙ ap byte index
+          ];
+      kept = λ o away.
+          let outside : (o < base + i) ⊎ (base + i + n ≤ o) =
+          elim (cases_lt o (base + i)) [
+            | inl less ↦ inl less
+            | inr more ↦
+                elim (cases_lt o (base + i + n)) [
+                  | inl within ↦
+                      let at : (base + (o - base)) % m ≡ base + (o - base) = mod-eq_of_lt (omega arith) in
+                      absurd (away (o - base) (omega arith) (omega (arith, at)))
+                  | inr past ↦ inr past
+                ]
+          ]
+          in
+          e o ∙ out_of_run (base + i) i n o _ _ outside ∙ before.kept o (λ k less. away k (omega arith));
     }
 
 -- what a byte is worth at a place

@@ -1,4 +1,4 @@
-use Rattle.std.specs.Prelude.{ℕ, ◌+◌, ◌/◌, ◌%◌, ◌^◌, ◌<◌, slice_index, IsSome}
+use Rattle.std.specs.Prelude.{if◌then◌else◌, ◌&&◌, ◌-◌, nat_le, nat_lt, ℕ, ◌+◌, ◌/◌, ◌%◌, ◌^◌, ◌<◌, slice_index, IsSome}
 use Rattle.std.specs.Option.{option_map_or}
 use Rattle.std.specs.BTreeMap.{get}
 use Rattle.std.specs.Ordering.{nat_cmp}
@@ -8,6 +8,11 @@ use Rattle.sl_word.specs.declared.space.Space.{Space}
 abbrev pub byte_in : Space → ℕ → ℕ
 byte_in space offset =
     option_map_or (λ page. slice_index page.bytes.items (offset % 4096)) (get nat_cmp space.pages (offset / 4096)) 0
+
+-- Bytes with `count` others from a place on, the first of which is that at `from`.
+abbrev pub with_run : ℕ → ℕ → ℕ → (ℕ → ℕ) → (ℕ → ℕ) → ℕ → ℕ
+with_run place from count byte bytes k =
+    if nat_le place k && nat_lt k (place + count) then byte (from + (k - place)) else bytes k
 
 -- There is a page of this number.
 abbrev pub HasPage : Space → ℕ → Type 0
@@ -20,3 +25,7 @@ byte_after space base i = byte_in space ((base + i) % 256 ^ space.size.bytes)
 -- Each of so many bytes after a base lies in a page that is there.
 abbrev pub HasPages : Space → ℕ → ℕ → Type 0
 HasPages space base count = (i : ℕ) → i < count → HasPage space ((base + i) % 256 ^ space.size.bytes / 4096)
+
+-- The same of bytes that end at or before the end of the space.
+abbrev pub HasPagesOf : Space → ℕ → ℕ → Type 0
+HasPagesOf space base count = (i : ℕ) → i < count → HasPage space ((base + i) / 4096)

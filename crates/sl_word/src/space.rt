@@ -18,11 +18,25 @@ pub(crate) struct Page {
 }
 
 impl Page {
+    ghost use Rattle.sl_word.specs.Pages.{with_run};
+
     fn zeros(alloc: Global) -> Result<Page, AllocError>
         ensures { IfOk result (λ page. (place : ℕ) → slice_index page.bytes.items place ≡ 0) }
     {
         let bytes = vec![in alloc; 0; PAGE_LENGTH as usize]?;
         Ok(Page { bytes })
+    }
+
+    // Puts `count` bytes, from the one at `from` on, at a place.
+    fn put(&mut self, place: usize, bytes: &[u8], from: usize, count: usize)
+        requires inside { place + count ≤ 4096 }
+        requires there { from + count ≤ length bytes.now }
+        ensures { (k : ℕ) → slice_index self.new.bytes.items k
+            ≡ with_run place from count (slice_index bytes.now) (slice_index self.old.bytes.items) k }
+    {
+        for i in 0..count {
+            self.bytes[place + i] = bytes[from + i];
+        }
     }
 }
 
@@ -35,7 +49,7 @@ pub(crate) struct Space {
 }
 
 impl Space {
-    ghost use Rattle.sl_word.specs.Pages.{byte_in, byte_after, HasPage, HasPages};
+    ghost use Rattle.sl_word.specs.Pages.{byte_in, byte_after, HasPage, HasPages, HasPagesOf, with_run};
     ghost use Rattle.sl_word.specs.Differences.{IsFirstDifference, IsFirstPage};
 
     pub(crate) fn new(alloc: Global, size: AddressSize) -> Space
@@ -98,6 +112,23 @@ impl Space {
         }
     }
 
+    // Puts `count` bytes, from the one at `from` on, at an offset of one page.
+    fn set_run(&mut self, offset: u64, bytes: &[u8], from: usize, count: usize)
+        requires page { HasPage self.old (offset / 4096) }
+        requires inside { offset % 4096 + count ≤ 4096 }
+        requires there { from + count ≤ length bytes.now }
+        ensures size { self.new.size ≡ self.old.size }
+        ensures bytes { (other : ℕ) → byte_in self.new other
+            ≡ with_run offset from count (slice_index bytes.now) (byte_in self.old) other }
+        ensures stay { (other : ℕ) → HasPage self.old other → HasPage self.new other }
+    {
+        let number = offset / PAGE_LENGTH;
+        let place = (offset % PAGE_LENGTH) as usize;
+        if let Some(page) = self.pages.get_mut(&number) {
+            page.put(place, bytes, from, count);
+        }
+    }
+
     fn add_pages(&mut self, base: u64, count: u64) -> Result<(), AllocError>
         ensures size { self.new.size ≡ self.old.size }
         ensures same { (offset : ℕ) → byte_in self.new offset ≡ byte_in self.old offset }
@@ -121,15 +152,38 @@ impl Space {
         }
     }
 
+    // Adds the pages of `count` bytes from a base on.
+    fn add_pages_of(&mut self, base: u64, count: u64) -> Result<(), AllocError>
+        requires { base + count ≤ 2 ^ 64 }
+        ensures size { self.new.size ≡ self.old.size }
+        ensures same { (offset : ℕ) → byte_in self.new offset ≡ byte_in self.old offset }
+        ensures there { OnOk result (HasPagesOf self.new base count) }
+    {
+        if count == 0 {
+            return Ok(());
+        }
+        let first = base / PAGE_LENGTH;
+        let last = (base + (count - 1)) / PAGE_LENGTH;
+        for after in 0..last - first + 1 {
+            self.add_page(first + after)?;
+        }
+        Ok(())
+    }
+
+    // Puts bytes, page by page. They end at or before the end of the space.
     fn set_bytes(&mut self, base: u64, bytes: &[u8])
-        requires pages { HasPages self.old base (length bytes.now) }
-        requires short { length bytes.now ≤ 256 ^ self.old.size.bytes }
+        requires pages { HasPagesOf self.old base (length bytes.now) }
+        requires room { base + length bytes.now ≤ 256 ^ self.old.size.bytes }
         ensures size { self.new.size ≡ self.old.size }
         ensures put { Puts (256 ^ self.old.size.bytes) base (length bytes.now) (slice_index bytes.now) (byte_in self.old) (byte_in self.new) }
     {
-        for place in 0..bytes.len() {
-            let offset = self.address(base, place as u64);
-            self.set_byte(offset, bytes[place]);
+        let mut done = 0;
+        'runs: while done < bytes.len() {
+            let offset = base + done as u64;
+            let in_page = (PAGE_LENGTH - offset % PAGE_LENGTH) as usize;
+            let count = in_page.min(bytes.len() - done);
+            self.set_run(offset, bytes, done, count);
+            done += count;
         }
     }
 
@@ -194,12 +248,12 @@ impl Space {
 
     // Puts the bytes. A refusal changes no byte.
     pub(crate) fn load(&mut self, base: u64, bytes: &[u8]) -> Result<(), AllocError>
-        requires { length bytes.now ≤ 256 ^ self.old.size.bytes }
+        requires { base + length bytes.now ≤ 256 ^ self.old.size.bytes }
         ensures size { self.new.size ≡ self.old.size }
         ensures put { OnOk result (Puts (256 ^ self.old.size.bytes) base (length bytes.now) (slice_index bytes.now) (byte_in self.old) (byte_in self.new)) }
         ensures unchanged { OnErr result ((offset : ℕ) → byte_in self.new offset ≡ byte_in self.old offset) }
     {
-        self.add_pages(base, bytes.len() as u64)?;
+        self.add_pages_of(base, bytes.len() as u64)?;
         self.set_bytes(base, bytes);
         Ok(())
     }

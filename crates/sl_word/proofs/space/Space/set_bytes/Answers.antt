@@ -1,19 +1,20 @@
-use Rattle.std.proofs.Common.{◌≡◌, ◌+◌, ◌%◌, ◌^◌, ◌<◌, ◌∙◌, ap, refl, get_or, arith}
+use Rattle.std.proofs.Common.{◌≡◌, ◌+◌, ◌%◌, ◌^◌, ◌<◌, ◌≤◌, ◌∙◌, length, get_or, arith}
 use Rattle.sl_word.specs.Pages.{byte_in}
-use Rattle.sl_word.specs.declared.word.AddressSize.{AddressSize}
-use Rattle.sl_word.proofs.Memory.{Puts-more}
+use Rattle.sl_word.proofs.Memory.{Puts-none, Puts-run}
+use Rattle.sl_word.proofs.Powers.{bytes_mono}
 use Rattle.sl_word.proofs.space.Space.set_bytes.Goals as goal
 
-pub loop-place-preserved : goal.loop-place-preserved
-loop-place-preserved c =
-    let inside : c.loop-place.place < 256 ^ c.args.self.now.size.bytes = omega (arith, c.requires.short) in
-    let at : c.address-offset.result ≡ (c.args.base + c.loop-place.place) % 256 ^ c.args.self.now.size.bytes =
-    c.address-offset.ensures ∙ ap (λ (n : AddressSize). (c.args.base + c.loop-place.place) % 256 ^ n.bytes) c.loop-place.invariant.size
-    in
+pub overflow_add-offset : goal.overflow_add-offset
+overflow_add-offset c =
+    omega (arith, c.requires.room, bytes_mono c.args.self.now.size.bytes 8 c.args.self.now.size.at_most_8)
+
+pub runs-preserved : goal.runs-preserved
+runs-preserved c =
     record {
-      size = c.set_byte.ensures.size ∙ c.loop-place.invariant.size;
-      there = λ i h. rw c.set_byte.ensures.size (c.set_byte.ensures.stay _ (c.loop-place.invariant.there i h));
-      put = Puts-more (256 ^ c.args.self.now.size.bytes) c.args.base c.loop-place.place c.address-offset.result (get_or c.args.bytes.now c.loop-place.place 0) (λ k. get_or c.args.bytes.now k 0)
-          (byte_in c.args.self.now) (byte_in c.loop-place.self) (byte_in c.set_byte.new.self)
-          inside at refl c.loop-place.invariant.put c.set_byte.ensures.bytes;
+      size = c.set_run.ensures.size ∙ c.runs.invariant.size;
+      inside = omega (arith, c.runs.invariant.inside);
+      there = λ i h. c.set_run.ensures.stay _ (c.runs.invariant.there i h);
+      put = Puts-run (256 ^ c.args.self.now.size.bytes) c.args.base c.runs.done c.min-count.result (λ k. get_or c.args.bytes.now k 0)
+          (byte_in c.args.self.now) (byte_in c.runs.self) (byte_in c.set_run.new.self)
+          (omega (arith, c.requires.room)) c.runs.invariant.put c.set_run.ensures.bytes;
     }

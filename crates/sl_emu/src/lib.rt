@@ -1,0 +1,12 @@
+//! The emulator: runs lists of p-code operations over the state of a machine.
+#![tactic(auto)]
+
+mod emu;
+mod run;
+mod step;
+mod temporaries;
+#[cfg(test)]
+mod tests;
+
+pub use emu::{Emu, Runner};
+pub use run::{EmuError, JUMP_LIMIT, Left, run_ops};
