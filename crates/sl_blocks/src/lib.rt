@@ -6,6 +6,9 @@ ghost use Rattle.std.specs.Prelude.{◌≡◌, ◌↔◌, ◌+◌, ◌*◌, ◌�
 ghost use Rattle.sl_blocks.specs.Blocks.{Satisfies, IsFull, IsEmpty, AllSatisfy, NoneSatisfy};
 ghost use Rattle.sl_blocks.specs.Blocks.{block, AddsShortest, IsShortest};
 
+mod compare;
+
+pub use compare::{Relation, codes_of};
 use std::alloc::{AllocError, Global};
 
 /// The codes from `low` to `high`, both included, or all others.

@@ -38,3 +38,31 @@ fn rows(rt: HostRuntime) -> Result<(), Fail> {
     }
     Ok(())
 }
+
+/// A relation, whether the field of four bits is signed, the number, and which codes stand in it.
+static RELATIONS: &[(Relation, bool, i64, u16)] = &[
+    (Relation::Equal, false, 3, 0b1000),
+    (Relation::Equal, true, -1, 0x8000),
+    (Relation::Equal, false, 16, 0),
+    (Relation::NotEqual, false, -1, 0xffff),
+    (Relation::NotEqual, true, -8, 0xfeff),
+    (Relation::Less, false, 4, 0x000f),
+    (Relation::Less, true, 2, 0xff03),
+    (Relation::LessEqual, true, -7, 0x0300),
+    (Relation::Greater, true, -3, 0xc0ff),
+    (Relation::GreaterEqual, false, 12, 0xf000),
+    (Relation::GreaterEqual, true, -20, 0xffff),
+];
+
+#[test]
+fn relations(rt: HostRuntime) -> Result<(), Fail> {
+    for (index, (relation, is_signed, number, want)) in RELATIONS.iter().enumerate() {
+        let codes = codes_of(*relation, *is_signed, 4, *number);
+        for code in 0..16u64 {
+            let between = codes.low <= code && code <= codes.high;
+            let stands = (*want >> code) & 1 == 1;
+            assert_eq!(rt; between == codes.inside, stands, "row {index}, code {code}");
+        }
+    }
+    Ok(())
+}

@@ -36,6 +36,19 @@ fn heavier(entries: &[Entry], best: (usize, Point), bit: Point) -> (usize, Point
     if found > best.0 { (found, bit) } else { best }
 }
 
+/// The bits that some cube fixes.
+fn fixed_by_some(entries: &[Entry]) -> Point {
+    let mut fixed = Point {
+        bytes: 0,
+        context: 0,
+    };
+    for entry in entries {
+        fixed.bytes |= entry.cube.mask;
+        fixed.context |= entry.cube.ctx_mask;
+    }
+    fixed
+}
+
 /// A bit by which the entries may be told apart, if no bit has to be taken: the one with the
 /// greatest weight.
 fn wished(entries: &[Entry]) -> Option<Point> {
@@ -43,20 +56,25 @@ fn wished(entries: &[Entry]) -> Option<Point> {
         bytes: 0,
         context: 0,
     };
+    let fixed = fixed_by_some(entries);
     let mut best = (0, none);
     for place in 0..128u32 {
         let bit = Point {
             bytes: 1 << place,
             context: 0,
         };
-        best = heavier(entries, best, bit);
+        if fixed.bytes & bit.bytes != 0 {
+            best = heavier(entries, best, bit);
+        }
     }
     for place in 0..64u32 {
         let bit = Point {
             bytes: 0,
             context: 1 << place,
         };
-        best = heavier(entries, best, bit);
+        if fixed.context & bit.context != 0 {
+            best = heavier(entries, best, bit);
+        }
     }
     if best.0 == 0 {
         return None;

@@ -1,8 +1,8 @@
 use Rattle.sl_blocks.proofs.+put.Goals as goal
-use Rattle.std.proofs.Common.{◌≡◌, ◌<◌, ◌^◌, sym, ◌∙◌, arith}
+use Rattle.std.proofs.Common.{◌<◌, ◌^◌, sym, ◌∙◌, arith}
 use Rattle.std.proofs.lemmas.Bool.{false≢true}
-use Rattle.sl_blocks.specs.Blocks.{Satisfies, AllSatisfy, block}
-use Rattle.sl_blocks.proofs.BlockLemmas.{adds_one, adds_none, adds_halves, none_single, half_fits, index_fits}
+use Rattle.sl_blocks.specs.Blocks.{Satisfies, block}
+use Rattle.sl_blocks.proofs.BlockLemmas.{adds_one, adds_none, adds_halves, none_single, half_fits}
 
 pub returns-then-all_in : goal.returns-then-all_in
 returns-then-all_in t c =

@@ -1,4 +1,4 @@
-use Rattle.std.proofs.Common.{◌≡◌, ◌+◌, ◌-◌, ◌*◌, ◌<◌, ◌≤◌, ◌^◌, ℕ, arith, sym, ◌∙◌, ap, refl, subst, true, false}
+use Rattle.std.proofs.Common.{◌≡◌, ◌*◌, ◌^◌, ℕ, arith, ap, refl}
 use Rattle.std.proofs.lemmas.Bool.{false≢true}
 use Rattle.sl_blocks.proofs.BlockLemmas.{empty_below, empty_above, empty_turned, meets_from}
 use Rattle.sl_blocks.proofs.is_empty.Goals as goal
