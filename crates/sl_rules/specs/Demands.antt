@@ -1,5 +1,6 @@
 -- meaning: rules with their numbers, the first broken one, and steps up to the first refusal.
-use Rattle.std.specs.Prelude.{◌≡◌, ℕ, Bool, cond, List, [], ◌∷◌, Option, Some, None, Result, Ok, Err}
+use Rattle.std.specs.Prelude.{◌≡◌, ℕ, Bool, cond, List, [], ◌∷◌}
+use Rattle.std.specs.Prelude.{Option, Some, None, Result, Ok, Err}
 use Rattle.sl_rules.specs.declared.fault.Fault.{Fault}
 use Rattle.sl_rules.specs.declared.fault.Fault.TheVariants.{Rule, NoMemory}
 

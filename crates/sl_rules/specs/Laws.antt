@@ -1,5 +1,6 @@
 -- meaning: what the first broken rule and steps up to the first refusal come to.
-use Rattle.std.specs.Prelude.{◌≡◌, ℕ, Bool, true, false, List, ◌∷◌, ◌++◌, Option, Some, None, Result, Ok, Err}
+use Rattle.std.specs.Prelude.{◌≡◌, ℕ, Bool, true, false, List, ◌∷◌, ◌++◌}
+use Rattle.std.specs.Prelude.{Option, Some, None, Result, Ok, Err}
 use Rattle.std.specs.List.{list_all}
 use Rattle.sl_rules.specs.Demands.{◌>>=◌, Demand, first_broken, run}
 
@@ -21,7 +22,8 @@ abbrev pub NamesFirstBroken : Type 0
 NamesFirstBroken = (ds : List Demand) → Names ds (first_broken ds)
 
 -- All steps over a front are taken, and the next one is refused.
-pub record IsRefusedAt {S X : Type 0} (step : S → X → Result S ℕ) (s : S) (xs : List X) (e : ℕ) : Type 0 where
+pub record IsRefusedAt {S X : Type 0} (step : S → X → Result S ℕ)
+    (s : S) (xs : List X) (e : ℕ) : Type 0 where
   pub front : List X
   pub next : X
   pub rest : List X
@@ -31,7 +33,8 @@ pub record IsRefusedAt {S X : Type 0} (step : S → X → Result S ℕ) (s : S) 
   pub refused : step there next ≡ Err e
 
 abbrev pub EndsAtFirstRefusal : Type 0 → Type 0 → Type 0
-EndsAtFirstRefusal S X = (step : S → X → Result S ℕ) (s : S) (xs : List X) (e : ℕ) → run step s xs ≡ Err e → IsRefusedAt step s xs e
+EndsAtFirstRefusal S X = (step : S → X → Result S ℕ) (s : S) (xs : List X) (e : ℕ)
+    → run step s xs ≡ Err e → IsRefusedAt step s xs e
 
 abbrev pub TakesInParts : Type 0 → Type 0 → Type 0
 TakesInParts S X = (step : S → X → Result S ℕ) (s : S) (xs ys : List X)

@@ -13,7 +13,8 @@ is_among names name = list_any (λ n. bytes_eq name n) names
 -- whether each name differs from these and from those before it
 abbrev pub differ_behind : List Name → List Name → Bool
 differ_behind before [] = true
-differ_behind before (name ∷ names) = not (is_among before name) && differ_behind (before ++ name ∷ []) names
+differ_behind before (name ∷ names) =
+    not (is_among before name) && differ_behind (before ++ name ∷ []) names
 
 -- whether no two names are the same
 abbrev pub are_distinct : List Name → Bool

@@ -2,8 +2,8 @@
 
 ghost use Rattle.sl_rules.specs.Laws.{EndsAtFirstRefusal, NamesFirstBroken, TakesInParts};
 
-/// The number of the first broken rule is that of a broken rule before which all rules hold; there is none
-/// exactly where all hold.
+/// The number of the first broken rule is that of a broken rule before which all rules hold; there
+/// is none exactly where all hold.
 pub fn first_broken_is_first()
     ensures { NamesFirstBroken }
 {}
