@@ -10,6 +10,7 @@ pub mod QuoteLemmas
 pub mod FaultLemmas
 pub mod StepLemmas
 pub mod ReadingLemmas
+pub mod SomeReading
 pub mod OneLexeme
 pub mod OneFault
 pub mod OneReading

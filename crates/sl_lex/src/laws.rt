@@ -1,6 +1,12 @@
 //! Laws of the definitions.
 
-ghost use Rattle.sl_lex.specs.Laws.{HasOneReading, TokensAreSlices, TokensAreLexemes};
+ghost use Rattle.sl_lex.specs.Laws.{EachTextReads, HasOneReading};
+ghost use Rattle.sl_lex.specs.Laws.{TokensAreLexemes, TokensAreSlices};
+
+/// Each text has a list of tokens up to its end, or one up to a first bad place.
+pub fn each_text_reads()
+    ensures { EachTextReads }
+{}
 
 /// A text has one list of tokens up to its end, or one up to one first bad place, and never both.
 pub fn one_reading()
