@@ -9,7 +9,7 @@ use Rattle.sl_lex.specs.Bytes.{is_quote, is_hash, is_blank, is_digit, is_hex_dig
 use Rattle.sl_lex.specs.Faults.{Fault, IsFault, is_at_line_end}
 use Rattle.sl_lex.specs.Faults.Fault.{NoLexeme, OpenQuote, TooWide}
 use Rattle.sl_lex.specs.Found.{Finds, class_of, word_len, IsLongestWord, IsLongestMark, IsLongestSpelled, IsLongestInteger}
-use Rattle.sl_lex.specs.Laws.{EachTextReads}
+use Rattle.sl_lex.specs.Laws.{HasReading, EachTextReads}
 use Rattle.sl_lex.specs.Lexemes.{BeginsWith, HasNoLexeme}
 use Rattle.sl_lex.specs.Marks.{marks_of}
 use Rattle.sl_lex.specs.Reading.{Piece, IsPieceAt, Reads, mode_after, tokens_of}
@@ -215,7 +215,13 @@ reads_on (suc n) mode from (b ∷ bs) h =
       | inr (bad, ahead, is, e) ↦ ([], Some bad, (ahead, is, e))
     ]
 
+has_reading : (text : List ℕ) (pieces : List Piece) (end : Option (Fault × ℕ)) → Reads Top 0 text pieces end → HasReading text
+has_reading text pieces None h = inl (tokens_of pieces, (pieces, h, refl))
+has_reading text pieces (Some (fault, place)) h = inr (fault, place, (tokens_of pieces, (pieces, h, refl)))
+
 pub each_text_reads : EachTextReads
-each_text_reads = λ text.
-    let r = reads_on (length text) Top 0 text (omega arith) in
-    (tokens_of r.0, r.1, (r.0, r.2, refl))
+each_text_reads = λ text. let r = reads_on (length text) Top 0 text (omega arith) in has_reading text r.0 r.1 r.2
+
+-- the same, doubly negated
+pub some_reading : (text : List ℕ) → (HasReading text → ⊥) → ⊥
+some_reading text = λ none. none (each_text_reads text)

@@ -1,15 +1,19 @@
 -- meaning: laws of the definitions.
 use Rattle.std.specs.Prelude.{◌≡◌, ℕ, ◌+◌, ◌<◌, ◌≤◌, List, [], ◌∷◌, length, take, drop, All}
-use Rattle.std.specs.Prelude.{Option, Some}
+use Rattle.std.specs.Prelude.{◌⊎◌, Option, Some}
 use Rattle.sl_lex.specs.Faults.{Fault}
 use Rattle.sl_lex.specs.Lexemes.{IsLongest}
-use Rattle.sl_lex.specs.Reading.{Token, ReadsTo, Fits}
+use Rattle.sl_lex.specs.Reading.{Token, ReadsTo, ReadsAs, HasBadPlace, Fits}
 use Rattle.sl_lex.specs.declared.mode.Mode.{Mode}
 
--- Each text reads as some tokens, to its end or up to its first bad place.
+-- The text reads as some tokens, or has a first bad place.
+abbrev pub HasReading : List ℕ → Type 0
+HasReading text = ((tokens : List Token) × ReadsAs text tokens)
+    ⊎ ((fault : Fault) × (place : ℕ) × HasBadPlace text fault place)
+
+-- Each text reads to its end or to its first bad place.
 abbrev pub EachTextReads : Type 0
-EachTextReads = (text : List ℕ)
-    → (tokens : List Token) × (end : Option (Fault × ℕ)) × ReadsTo text tokens end
+EachTextReads = (text : List ℕ) → HasReading text
 
 -- A text reads in one way alone: it has one list of tokens, and one end.
 abbrev pub HasOneReading : Type 0

@@ -3,7 +3,7 @@
 ghost use Rattle.sl_lex.specs.Laws.{EachTextReads, HasOneReading};
 ghost use Rattle.sl_lex.specs.Laws.{TokensAreLexemes, TokensAreSlices};
 
-/// Each text has a list of tokens up to its end, or one up to a first bad place.
+/// Each text reads as tokens to its end, or has a first bad place.
 pub fn each_text_reads()
     ensures { EachTextReads }
 {}
