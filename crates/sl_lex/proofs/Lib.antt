@@ -10,9 +10,9 @@ pub mod QuoteLemmas
 pub mod FaultLemmas
 pub mod StepLemmas
 pub mod ReadingLemmas
+pub mod SomeReading
 pub mod OneLexeme
 pub mod OneFault
 pub mod OneReading
 pub mod SliceLemmas
 pub mod KindLemmas
-pub mod SomeReading

@@ -1,212 +1,227 @@
--- It can't be that a text neither reads as tokens nor has a bad place.
-use Rattle.std.proofs.Common.{◌≡◌, ℕ, zero, suc, ◌+◌, ◌<◌, ◌≤◌, ◌^◌, ◌⊎◌, inl, inr, List, [], ◌∷◌, ◌++◌, drop, length, get_or, Option, None, Some, arith, refl, sym, ◌∙◌, subst, length-append, ap}
-use Rattle.std.specs.List.{prefix_len}
-use Rattle.std.proofs.lemmas.Bool.{cases_Bool, cases_eq, cases_lt}
-use Rattle.sl_lex.specs.Bytes.{is_text_byte}
+-- Each text reads to its end or to a bad place.
+use Rattle.std.proofs.Common.{◌≡◌, ℕ, zero, suc, ◌+◌, ◌<◌, ◌≤◌, ◌^◌, ◌⊎◌, inl, inr, Bool, true, false, List, [], ◌∷◌, ◌++◌, take, drop, length, Option, None, Some}
+use Rattle.std.proofs.Common.{arith, refl, sym, ap, subst, ◌∙◌, append-nil, append_assoc, length-append, nat_eq, codes}
+use Rattle.std.specs.Prelude.{nat_lt}
+use Rattle.std.specs.List.{starts_with, prefix_len}
+use Rattle.std.proofs.lemmas.Bool.Decides.{Decides-eqb, nat_tests}
+use Rattle.std.proofs.lemmas.Slice.Eq.{starts_is}
+use Rattle.sl_lex.specs.Bytes.{is_quote, is_hash, is_blank, is_digit, is_hex_digit, is_binary_digit, begins_word, is_caret, is_char, is_word_byte, is_comment_byte, is_text_byte, number}
 use Rattle.sl_lex.specs.Faults.{Fault, IsFault, is_at_line_end}
 use Rattle.sl_lex.specs.Faults.Fault.{NoLexeme, OpenQuote, TooWide}
-use Rattle.sl_lex.specs.Laws.{HasReading}
-use Rattle.sl_lex.specs.Lexemes.{IsLexeme, IsLongest, HasNoLexeme}
-use Rattle.sl_lex.specs.Reading.{Piece, IsPieceAt, Reads, Fits, tokens_of, mode_after}
-use Rattle.sl_lex.specs.declared.TokKind.{TokKind}
+use Rattle.sl_lex.specs.Found.{Finds, class_of, word_len, IsLongestWord, IsLongestMark, IsLongestSpelled, IsLongestInteger}
+use Rattle.sl_lex.specs.Laws.{HasReading, EachTextReads}
+use Rattle.sl_lex.specs.Lexemes.{BeginsWith, HasNoLexeme}
+use Rattle.sl_lex.specs.Marks.{marks_of}
+use Rattle.sl_lex.specs.Reading.{Piece, IsPieceAt, Reads, mode_after, tokens_of}
 use Rattle.sl_lex.specs.declared.TokKind.TheVariants.{Word, Integer, Text, Mark, Blank, Caret, Char}
+use Rattle.sl_lex.specs.declared.lexemes.Found.{Found}
+use Rattle.sl_lex.specs.declared.lexemes.Found.TheVariants.{Gap, Token, TooWide as Wide, Nothing}
 use Rattle.sl_lex.specs.declared.mode.Mode.{Mode}
-use Rattle.sl_lex.specs.declared.mode.Mode.TheVariants.{Top}
+use Rattle.sl_lex.specs.declared.mode.Mode.TheVariants.{Top, Head, Plain, Body, Display, Pattern}
+use Rattle.sl_lex.proofs.RunLemmas.{not_false, first_passes}
+use Rattle.sl_lex.proofs.SpelledLemmas.{behind_mark, hex_integer, binary_integer, decimal_integer}
+use Rattle.sl_lex.proofs.MarkLemmas.{no_marks, one_mark_more}
+use Rattle.sl_lex.proofs.WordLemmas.{longest_word}
+use Rattle.sl_lex.proofs.CodeLemmas.{blanks_at, comment_at}
+use Rattle.sl_lex.proofs.StandLemmas.{integer_at, wide_at, mark_at, word_at_front, nothing_at}
+use Rattle.sl_lex.proofs.DisplayLemmas.{blank_token_at, display_word_at, caret_at, char_at, nothing_in_display}
+use Rattle.sl_lex.proofs.QuoteLemmas.{text_at, no_text_at}
 use Rattle.sl_lex.proofs.FaultLemmas.{blames_first, blames_quote, blames_inside}
+use Rattle.sl_lex.proofs.StepLemmas.{piece_here}
 use Rattle.sl_lex.proofs.ReadingLemmas.{lexeme_some}
 
--- It can't be that this isn't so.
-abbrev pub Surely : Type 0 → Type 0
-Surely P = (P → ⊥) → ⊥
+less_by : (m n : ℕ) (less : Bool) → nat_lt m n ≡ less → (m < n) ⊎ (n ≤ m)
+less_by m n true h = let lt : m < n = grind (arith, nat_tests) in inl lt
+less_by m n false h = let ge : n ≤ m = grind (arith, nat_tests) in inr ge
 
-surely : {P : Type 0} → P → Surely P
-surely p = λ none. none p
+less_or_not : (m n : ℕ) → (m < n) ⊎ (n ≤ m)
+less_or_not m n = less_by m n (nat_lt m n) refl
 
-surely_then : {A B : Type 0} → Surely A → (A → Surely B) → Surely B
-surely_then a f = λ none. a (λ x. f x none)
+-- ---- the longest word, mark and integer
 
-surely_map : {A B : Type 0} → (A → B) → Surely A → Surely B
-surely_map f a = λ none. a (λ x. none (f x))
+longest_mark : (before marks : List (List ℕ)) (text : List ℕ) (n : ℕ) → IsLongestMark before text n → (m : ℕ) × IsLongestMark (before ++ marks) text m
+longest_mark before [] text n h = (n, subst (λ (ms : List (List ℕ)). IsLongestMark ms text n) (sym (append-nil before)) h)
+longest_mark before (m ∷ ms) text n h =
+    let one = longest_mark (before ++ m ∷ []) ms text _ (one_mark_more before m text n (starts_with nat_eq text m) refl h) in
+    (one.0, subst (λ (l : List (List ℕ)). IsLongestMark l text one.0) (append_assoc before (m ∷ []) ms) one.1)
 
-surely_either : (P : Type 0) → Surely (P ⊎ (P → ⊥))
-surely_either P = λ none. none (inr (λ p. none (inl p)))
+mark_by_mode : (mode : Mode) (text : List ℕ) → (m : ℕ) × IsLongestMark (marks_of mode) text m
+mark_by_mode mode text = longest_mark [] (marks_of mode) text 0 (no_marks text)
 
--- ---- the greatest number below a bound
-
-abbrev HoldsForNoneBelow : (ℕ → Type 0) → ℕ → Type 0
-HoldsForNoneBelow P bound = (k : ℕ) → k < bound → P k → ⊥
-
--- The greatest number below the bound for which it holds.
-record IsGreatestBelow (P : ℕ → Type 0) (bound m : ℕ) : Type 0 where
-  here : P m
-  most : (k : ℕ) → k < bound → P k → k ≤ m
-
-abbrev NoneOrGreatest : (ℕ → Type 0) → ℕ → Type 0
-NoneOrGreatest P bound = HoldsForNoneBelow P bound ⊎ ((m : ℕ) × IsGreatestBelow P bound m)
-
-below_next : (k bound : ℕ) → k < suc bound → (k < bound) ⊎ (bound ≡ k)
-below_next k bound below = elim (cases_lt k bound) [
-  | inl less ↦ inl less
-  | inr most ↦ inr (omega (arith, below, most))
-]
-
-bound_fails : (P : ℕ → Type 0) (bound : ℕ) → (P bound → ⊥) → NoneOrGreatest P bound → NoneOrGreatest P (suc bound)
-bound_fails P bound fails (inl none) = inl (λ k below p. elim (below_next k bound below) [
-  | inl less ↦ none k less p
-  | inr same ↦ fails (subst P (sym same) p)
-])
-bound_fails P bound fails (inr (m, greatest)) = inr (
-  m,
+word_by : (b : ℕ) (bs : List ℕ) (begins : Bool) → begins_word b ≡ begins → (n : ℕ) × IsLongestWord (b ∷ bs) n
+word_by b bs true h = (word_len (b ∷ bs), longest_word b (word_len (b ∷ bs)) bs h refl)
+word_by b bs false h = (
+  0,
   record {
-    here = greatest.here;
-    most = λ k below p. elim (below_next k bound below) [
-      | inl less ↦ greatest.most k less p
-      | inr same ↦ absurd (fails (subst P (sym same) p))
-    ];
+    within = omega arith;
+    found = λ some. absurd (omega arith);
+    longest = λ front rest word dots e. absurd (not_false (begins_word b) (first_passes begins_word b bs front rest e word.0) h);
   },
 )
 
-none_or_greatest : (P : ℕ → Type 0) (bound : ℕ) → Surely (NoneOrGreatest P bound)
-none_or_greatest P zero = surely (inl (λ k below p. omega (arith, below)))
-none_or_greatest P (suc bound) = surely_then (surely_either (P bound)) (λ last. elim last [
-  | inl p ↦ surely (inr (bound, record { here = p; most = λ k below q. omega (arith, below) }))
-  | inr fails ↦ surely_map (bound_fails P bound fails) (none_or_greatest P bound)
-])
+spelled_by : (mark : List ℕ) (test : ℕ → Bool) (text : List ℕ) (starts : Bool) → starts_with nat_eq text mark ≡ starts → (n : ℕ) × IsLongestSpelled mark test text n
+spelled_by mark test text true h =
+    (prefix_len test (drop (length mark) text), behind_mark mark test text (drop (length mark) text) _ ((starts_is Decides-eqb text mark _ refl).0 h) refl)
+spelled_by mark test text false h = (
+  0,
+  record {
+    found = λ some. absurd (omega arith);
+    longest = λ digits rest all e.
+        absurd (not_false (starts_with nat_eq text mark) ((starts_is Decides-eqb text mark _ refl).1 (digits ++ rest) (e ∙ append_assoc mark digits rest)) h);
+  },
+)
 
--- ---- the front of a text
+record SomeInteger (text : List ℕ) : Type 0 where
+  base : ℕ
+  mark : ℕ
+  count : ℕ
+  longest : IsLongestInteger text base mark count
 
--- A lexeme of so many bytes stands at the front.
-record HasLexemeOf (mode : Mode) (text : List ℕ) (n : ℕ) : Type 0 where
-  kind : Option TokKind
-  front : List ℕ
-  rest : List ℕ
-  split : text ≡ front ++ rest
-  lexeme : IsLexeme mode kind front rest
-  counted : length front ≡ n
+integer_by : (text : List ℕ) (hex binary : ℕ) → BeginsWith is_digit text → IsLongestSpelled (codes "0x") is_hex_digit text hex
+    → IsLongestSpelled (codes "0b") is_binary_digit text binary → SomeInteger text
+integer_by text zero zero begins x b =
+    record { base = 10; mark = 0; count = prefix_len is_digit text; longest = decimal_integer text (prefix_len is_digit text) begins refl x b }
+integer_by text zero (suc n) begins x b = record { base = 2; mark = 2; count = suc n; longest = binary_integer text (suc n) (omega arith) x b }
+integer_by text (suc n) binary begins x b = record { base = 16; mark = 2; count = suc n; longest = hex_integer text (suc n) (omega arith) x }
 
--- The longest lexeme stands at the front.
-record HasLongest (mode : Mode) (text : List ℕ) : Type 0 where
-  kind : Option TokKind
-  front : List ℕ
-  rest : List ℕ
-  split : text ≡ front ++ rest
-  longest : IsLongest mode kind front rest
+some_integer : (text : List ℕ) → BeginsWith is_digit text → SomeInteger text
+some_integer text begins =
+    let x = spelled_by (codes "0x") is_hex_digit text (starts_with nat_eq text (codes "0x")) refl in
+    let b = spelled_by (codes "0b") is_binary_digit text (starts_with nat_eq text (codes "0b")) refl in
+    integer_by text x.0 b.0 begins x.1 b.1
 
-front_within : (text front rest : List ℕ) → text ≡ front ++ rest → length front < suc (length text)
-front_within text front rest e = omega (arith, ap length e, length-append front rest)
+-- ---- what stands at the front
 
-greatest_is_longest : (mode : Mode) (text : List ℕ) (n : ℕ) → IsGreatestBelow (HasLexemeOf mode text) (suc (length text)) n → HasLongest mode text
-greatest_is_longest mode text n greatest =
-    let here : HasLexemeOf mode text n = greatest.here in
-    record {
-      kind = here.kind;
-      front = here.front;
-      rest = here.rest;
-      split = here.split;
-      longest = record {
-        lexeme = here.lexeme;
-        longest = λ other front after e l.
-            let split : text ≡ front ++ after = here.split ∙ e in
-            let stands : HasLexemeOf mode text (length front) = record { kind = other; front = front; rest = after; split = split; lexeme = l; counted = refl } in
-            omega (arith, greatest.most (length front) (front_within text front after split) stands, here.counted);
-      };
-    }
+abbrev SomeFound : Mode → List ℕ → Type 0
+SomeFound mode text = (f : Found) × Finds mode text f
 
-no_lexeme : (mode : Mode) (text : List ℕ) → HoldsForNoneBelow (HasLexemeOf mode text) (suc (length text)) → HasNoLexeme mode text
-no_lexeme mode text none = λ kind front rest e l.
-    none (length front) (front_within text front rest e) (record { kind = kind; front = front; rest = rest; split = e; lexeme = l; counted = refl })
+integer_found : (mode : Mode) (text : List ℕ) → (mode ≡ Display → ⊥) → BeginsWith is_digit text → SomeFound mode text
+integer_found mode text outside begins =
+    let i = some_integer text begins in
+    let value : ℕ = number i.base (take i.count (drop i.mark text)) in
+    elim (less_or_not value (2 ^ 64)) [
+      | inl fits ↦ (Token (Integer value) (i.mark + i.count), (integer_at mode text i.base i.mark i.count value outside begins i.longest refl, fits))
+      | inr wide ↦ (Wide, wide_at mode text i.base i.mark i.count value outside begins i.longest refl wide)
+    ]
 
-none_or_longest : (mode : Mode) (text : List ℕ) → Surely (HasNoLexeme mode text ⊎ HasLongest mode text)
-none_or_longest mode text = surely_map (λ found. elim found [
-  | inl none ↦ inl (no_lexeme mode text none)
-  | inr greatest ↦ inr (greatest_is_longest mode text greatest.0 greatest.1)
-]) (none_or_greatest (HasLexemeOf mode text) (suc (length text)))
+quoted_by : (mode : Mode) (text : List ℕ) (closed : Bool) → BeginsWith is_quote text
+    → starts_with nat_eq (drop (prefix_len is_text_byte (drop 1 text)) (drop 1 text)) (codes "\"") ≡ closed → SomeFound mode text
+quoted_by mode text true begins h =
+    let n : ℕ = prefix_len is_text_byte (drop 1 text) in
+    (Token Text (n + 2), (text_at mode text (drop 1 text) (drop n (drop 1 text)) n begins refl refl refl h, tt))
+quoted_by mode text false begins h =
+    let n : ℕ = prefix_len is_text_byte (drop 1 text) in
+    (Nothing, no_text_at mode text (drop 1 text) (drop n (drop 1 text)) n begins refl refl refl h)
 
--- The text can't go on at its front.
-abbrev HasFault : Mode → List ℕ → Type 0
-HasFault mode text = (fault : Fault) × (ahead : ℕ) × IsFault mode fault ahead text
+quoted_found : (mode : Mode) (text : List ℕ) → BeginsWith is_quote text → SomeFound mode text
+quoted_found mode text begins = quoted_by mode text _ begins refl
 
--- Where no lexeme stands, a byte is bad or a quote is open.
-fault_here : (mode : Mode) (text : List ℕ) → 0 < length text → HasNoLexeme mode text → HasFault mode text
-fault_here mode text some none = elim (cases_eq (get_or text 0 0) 34) [
-  | inr other ↦ let bad = blames_first mode 0 text some other none in (NoLexeme, bad.0, bad.1)
-  | inl quote ↦
-      let inside : List ℕ = drop 1 text in
-      let n : ℕ = prefix_len is_text_byte inside in
-      elim (cases_Bool (is_at_line_end (drop n inside))) [
-        | inl ends ↦ let bad = blames_quote mode 0 text inside (drop n inside) n some quote refl refl refl ends none in (OpenQuote, bad.0, bad.1)
-        | inr goes_on ↦ let bad = blames_inside mode 0 text inside (drop n inside) n some quote refl refl refl goes_on none in (NoLexeme, bad.0, bad.1)
-      ]
-]
+other_by : (mode : Mode) (b : ℕ) (bs : List ℕ) (w m : ℕ) → (mode ≡ Display → ⊥) → class_of b ≡ 0 → IsLongestWord (b ∷ bs) w → IsLongestMark (marks_of mode) (b ∷ bs) m
+    → (w < m) ⊎ (m ≤ w) → SomeFound mode (b ∷ bs)
+other_by mode b bs w m outside c word mark (inl less) = (Token Mark m, (mark_at mode (b ∷ bs) w m outside (omega arith) c word mark less, tt))
+other_by mode b bs zero m outside c word mark (inr more) = (Nothing, nothing_at mode (b ∷ bs) 0 m outside (omega arith) c word mark more (omega arith))
+other_by mode b bs (suc w) m outside c word mark (inr more) =
+    (Token Word (suc w), (word_at_front mode (b ∷ bs) (suc w) m outside (omega arith) c word mark more (omega arith), tt))
 
-fits_or_wide : (kind : Option TokKind) → Fits kind ⊎ ((value : ℕ) × (kind ≡ Some (Integer value)) × (2 ^ 64 ≤ value))
-fits_or_wide (Some (Integer value)) = elim (cases_lt value (2 ^ 64)) [
-  | inl less ↦ inl less
-  | inr wide ↦ inr (value, refl, wide)
-]
-fits_or_wide (Some Word) = inl tt
-fits_or_wide (Some Text) = inl tt
-fits_or_wide (Some Mark) = inl tt
-fits_or_wide (Some Blank) = inl tt
-fits_or_wide (Some Caret) = inl tt
-fits_or_wide (Some Char) = inl tt
-fits_or_wide None = inl tt
+other_found : (mode : Mode) (b : ℕ) (bs : List ℕ) → (mode ≡ Display → ⊥) → class_of b ≡ 0 → SomeFound mode (b ∷ bs)
+other_found mode b bs outside c =
+    let w = word_by b bs (begins_word b) refl in
+    let m = mark_by_mode mode (b ∷ bs) in
+    other_by mode b bs w.0 m.0 outside c w.1 m.1 (less_or_not w.0 m.0)
 
--- A piece stands at the front.
-abbrev HasPiece : Mode → ℕ → List ℕ → Type 0
-HasPiece mode from text = (p : Piece) × (rest : List ℕ) × IsPieceAt mode from text p rest
+code_by : (mode : Mode) (b : ℕ) (bs : List ℕ) (q h s d : Bool) → (mode ≡ Display → ⊥) → is_quote b ≡ q → is_hash b ≡ h → is_blank b ≡ s → is_digit b ≡ d
+    → SomeFound mode (b ∷ bs)
+code_by mode b bs true h s d outside e f g i = quoted_found mode (b ∷ bs) e
+code_by mode b bs false true s d outside e f g i =
+    let n : ℕ = prefix_len is_comment_byte (b ∷ bs) in
+    (Gap n, comment_at mode (b ∷ bs) n outside (omega arith) f refl)
+code_by mode b bs false false true d outside e f g i =
+    let n : ℕ = prefix_len is_blank (b ∷ bs) in
+    (Gap n, blanks_at mode (b ∷ bs) n outside (omega arith) g refl)
+code_by mode b bs false false false true outside e f g i = integer_found mode (b ∷ bs) outside i
+code_by mode b bs false false false false outside e f g i = other_found mode b bs outside (rw (e, f, g, i) refl)
 
-longest_goes_on : (mode : Mode) (from : ℕ) (text : List ℕ) → HasLongest mode text → HasPiece mode from text ⊎ HasFault mode text
-longest_goes_on mode from text h = elim (fits_or_wide h.kind) [
-  | inl fits ↦ inl (
-    record { kind = h.kind; text = h.front; from = from },
-    h.rest,
-    record { split = h.split; longest = h.longest; fits = fits; place = refl },
-  )
-  | inr (value, is, wide) ↦
-      let longest : IsLongest mode (Some (Integer value)) h.front h.rest = subst (λ (k : Option TokKind). IsLongest mode k h.front h.rest) is h.longest in
-      inr (TooWide, 0, ((value, h.front, h.rest, h.split, longest, wide), refl))
-]
+code_found : (mode : Mode) (b : ℕ) (bs : List ℕ) → (mode ≡ Display → ⊥) → SomeFound mode (b ∷ bs)
+code_found mode b bs outside = code_by mode b bs (is_quote b) (is_hash b) (is_blank b) (is_digit b) outside refl refl refl refl
 
-piece_or_fault : (mode : Mode) (from : ℕ) (text : List ℕ) → 0 < length text → Surely (HasPiece mode from text ⊎ HasFault mode text)
-piece_or_fault mode from text some = surely_map (λ found. elim found [
-  | inl none ↦ inr (fault_here mode text some none)
-  | inr longest ↦ longest_goes_on mode from text longest
-]) (none_or_longest mode text)
+display_by : (b : ℕ) (bs : List ℕ) (q s w c h : Bool) → is_quote b ≡ q → is_blank b ≡ s → begins_word b ≡ w → is_caret b ≡ c → is_char b ≡ h
+    → SomeFound Display (b ∷ bs)
+display_by b bs true s w c h e f g i j = quoted_found Display (b ∷ bs) e
+display_by b bs false true w c h e f g i j =
+    let n : ℕ = prefix_len is_blank (b ∷ bs) in (Token Blank n, (blank_token_at (b ∷ bs) n (omega arith) f refl, tt))
+display_by b bs false false true c h e f g i j =
+    let n : ℕ = prefix_len is_word_byte (b ∷ bs) in (Token Word n, (display_word_at (b ∷ bs) n (omega arith) g refl, tt))
+display_by b bs false false false true h e f g i j = (Token Caret 1, (caret_at (b ∷ bs) (omega arith) i, tt))
+display_by b bs false false false false true e f g i j = (Token Char 1, (char_at (b ∷ bs) (omega arith) j, tt))
+display_by b bs false false false false false e f g i j = (Nothing, nothing_in_display (b ∷ bs) (omega arith) e f g i j)
+
+found : (mode : Mode) (b : ℕ) (bs : List ℕ) → SomeFound mode (b ∷ bs)
+found Display b bs = display_by b bs (is_quote b) (is_blank b) (begins_word b) (is_caret b) (is_char b) refl refl refl refl refl
+found Top b bs = code_found Top b bs (λ e. absurd (cc))
+found Head b bs = code_found Head b bs (λ e. absurd (cc))
+found Plain b bs = code_found Plain b bs (λ e. absurd (cc))
+found Body b bs = code_found Body b bs (λ e. absurd (cc))
+found Pattern b bs = code_found Pattern b bs (λ e. absurd (cc))
+
+-- ---- a piece, or a fault
+
+-- a piece at the front, or a bad place
+abbrev GoesOrEnds : Mode → ℕ → List ℕ → Type 0
+GoesOrEnds mode from text =
+    ((p : Piece) × (rest : List ℕ) × IsPieceAt mode from text p rest)
+    ⊎ ((bad : Fault × ℕ) × (ahead : ℕ) × IsFault mode bad.0 ahead text × (bad.1 ≡ from + ahead))
+
+open_by : (mode : Mode) (from b : ℕ) (bs : List ℕ) (ends : Bool) → b ≡ 34 → is_at_line_end (drop (prefix_len is_text_byte bs) bs) ≡ ends → HasNoLexeme mode (b ∷ bs)
+    → GoesOrEnds mode from (b ∷ bs)
+open_by mode from b bs true quote e none =
+    let n : ℕ = prefix_len is_text_byte bs in
+    let h = blames_quote mode from (b ∷ bs) bs (drop n bs) n (omega arith) quote refl refl refl e none in
+    inr ((OpenQuote, from), h.0, h.1, h.2)
+open_by mode from b bs false quote e none =
+    let n : ℕ = prefix_len is_text_byte bs in
+    let h = blames_inside mode from (b ∷ bs) bs (drop n bs) n (omega arith) quote refl refl refl e none in
+    inr ((NoLexeme, from + 1 + n), h.0, h.1, h.2)
+
+fault_by : (mode : Mode) (from b : ℕ) (bs : List ℕ) (quote : Bool) → is_quote b ≡ quote → HasNoLexeme mode (b ∷ bs) → GoesOrEnds mode from (b ∷ bs)
+fault_by mode from b bs true h none = open_by mode from b bs _ (let e : b ≡ 34 = grind (arith, nat_tests) in e) refl none
+fault_by mode from b bs false h none =
+    let first = blames_first mode from (b ∷ bs) (omega arith) (λ e. not_false (is_quote b) (let q : is_quote b ≡ true = grind (arith, nat_tests) in q) h) none in
+    inr ((NoLexeme, from), first.0, first.1, first.2)
+
+goes_by : (mode : Mode) (from b : ℕ) (bs : List ℕ) (f : Found) → Finds mode (b ∷ bs) f → GoesOrEnds mode from (b ∷ bs)
+goes_by mode from b bs (Gap count) h =
+    inl (record { kind = None; text = take count (b ∷ bs); from = from }, drop count (b ∷ bs), piece_here mode from None count (b ∷ bs) _ _ h tt refl refl)
+goes_by mode from b bs (Token kind count) h =
+    inl (record { kind = Some kind; text = take count (b ∷ bs); from = from }, drop count (b ∷ bs), piece_here mode from (Some kind) count (b ∷ bs) _ _ h.0 h.1 refl refl)
+goes_by mode from b bs Wide h = inr ((TooWide, from), 0, (h, refl), omega arith)
+goes_by mode from b bs Nothing h = fault_by mode from b bs (is_quote b) refl h
 
 -- ---- the whole text
 
--- The text, from this place on and in this mode, is some pieces up to some end.
-abbrev ReadsSomehow : Mode → ℕ → List ℕ → Type 0
-ReadsSomehow mode from text = (pieces : List Piece) × (end : Option (Fault × ℕ)) × Reads mode from text pieces end
+abbrev SomeReading : Mode → ℕ → List ℕ → Type 0
+SomeReading mode from text = (pieces : List Piece) × (end : Option (Fault × ℕ)) × Reads mode from text pieces end
 
-ends_at_fault : (mode : Mode) (from : ℕ) (text : List ℕ) → HasFault mode text → ReadsSomehow mode from text
-ends_at_fault mode from text (fault, ahead, is) = ([], Some (fault, from + ahead), (ahead, is, refl))
-
-piece_first : (mode : Mode) (from : ℕ) (text : List ℕ) (p : Piece) (rest : List ℕ) → IsPieceAt mode from text p rest
-    → ReadsSomehow (mode_after mode p.kind p.text) (from + length p.text) rest → ReadsSomehow mode from text
-piece_first mode from text p rest here (pieces, end, later) = (p ∷ pieces, end, (rest, here, later))
-
-leaves_less : (mode : Mode) (from : ℕ) (text : List ℕ) (p : Piece) (rest : List ℕ) → IsPieceAt mode from text p rest → length rest < length text
-leaves_less mode from text p rest here =
-    omega (arith, ap length here.split, length-append p.text rest, lexeme_some mode p.kind p.text rest here.longest.lexeme)
-
--- The count is above the bytes that are left.
-reads_from : (count : ℕ) (mode : Mode) (from : ℕ) (text : List ℕ) → length text < count → Surely (ReadsSomehow mode from text)
-reads_from zero mode from text h = absurd (omega arith)
-reads_from (suc count) mode from [] h = surely ([], None, refl)
-reads_from (suc count) mode from (b ∷ bs) h = surely_then (piece_or_fault mode from (b ∷ bs) (omega arith)) (λ ahead. elim ahead [
-  | inr fault ↦ surely (ends_at_fault mode from (b ∷ bs) fault)
-  | inl (p, rest, here) ↦
-      let less : length rest < length (b ∷ bs) = leaves_less mode from (b ∷ bs) p rest here in
-      surely_map (piece_first mode from (b ∷ bs) p rest here)
-      (reads_from count (mode_after mode p.kind p.text) (from + length p.text) rest (omega (arith, less, h)))
-])
+reads_on : (n : ℕ) (mode : Mode) (from : ℕ) (text : List ℕ) → length text ≤ n → SomeReading mode from text
+reads_on n mode from [] h = ([], None, refl)
+reads_on zero mode from (b ∷ bs) h = absurd (omega arith)
+reads_on (suc n) mode from (b ∷ bs) h =
+    let f = found mode b bs in
+    elim (goes_by mode from b bs f.0 f.1) [
+      | inl (p, rest, here) ↦
+          let some : 0 < length p.text = lexeme_some mode p.kind p.text rest here.longest.lexeme in
+          let whole : length (b ∷ bs) ≡ length p.text + length rest = ap length here.split ∙ length-append p.text rest in
+          let later = reads_on n (mode_after mode p.kind p.text) (from + length p.text) rest (omega arith) in
+          (p ∷ later.0, later.1, (rest, here, later.2))
+      | inr (bad, ahead, is, e) ↦ ([], Some bad, (ahead, is, e))
+    ]
 
 has_reading : (text : List ℕ) (pieces : List Piece) (end : Option (Fault × ℕ)) → Reads Top 0 text pieces end → HasReading text
-has_reading text pieces None reads = inl (tokens_of pieces, (pieces, reads, refl))
-has_reading text pieces (Some (fault, place)) reads = inr (fault, place, (tokens_of pieces, (pieces, reads, refl)))
+has_reading text pieces None h = inl (tokens_of pieces, (pieces, h, refl))
+has_reading text pieces (Some (fault, place)) h = inr (fault, place, (tokens_of pieces, (pieces, h, refl)))
 
--- A text reads as tokens or has a bad place.
-pub some_reading : (text : List ℕ) → Surely (HasReading text)
-some_reading text = surely_map (λ read. has_reading text read.0 read.1 read.2) (reads_from (suc (length text)) Top 0 text (omega arith))
+pub each_text_reads : EachTextReads
+each_text_reads = λ text. let r = reads_on (length text) Top 0 text (omega arith) in has_reading text r.0 r.1 r.2
+
+-- the same, doubly negated
+pub some_reading : (text : List ℕ) → (HasReading text → ⊥) → ⊥
+some_reading text = λ none. none (each_text_reads text)

@@ -1,3 +1,4 @@
+-- meaning: classes of bytes, and numbers spelled by digits.
 use Rattle.std.specs.Prelude.{ℕ, ◌+◌, ◌-◌, ◌*◌, ◌==◌, ◌&&◌, ◌||◌, Bool, not, List, [], ◌∷◌, nat_le, if◌then◌else◌}
 use Rattle.std.specs.List.{list_any}
 

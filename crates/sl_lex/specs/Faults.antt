@@ -1,3 +1,4 @@
+-- meaning: why a text can't go on at a place, and which place to name.
 use Rattle.std.specs.Prelude.{◌≡◌, ℕ, ◌+◌, ◌<◌, ◌≤◌, ◌^◌, ◌⊎◌, Bool, List, [], ◌∷◌, ◌++◌, length, true, false, Some}
 use Rattle.std.specs.List.{list_all}
 use Rattle.sl_lex.specs.Bytes.{is_quote, is_line_end, is_text_byte}

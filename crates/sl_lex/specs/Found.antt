@@ -1,4 +1,4 @@
--- What the functions of the lexer hand on.
+-- step: what the functions of the lexer hand on.
 use Rattle.std.specs.Prelude.{◌≡◌, ℕ, ◌+◌, ◌<◌, ◌≤◌, ◌&&◌, ◌||◌, ◌++◌, Bool, true, List, [], ◌∷◌, length, take, drop, not, if◌then◌else◌, Option, Some, None, Contains}
 use Rattle.std.specs.List.{list_all}
 use Rattle.std.specs.Option.{option_map, option_to_list}

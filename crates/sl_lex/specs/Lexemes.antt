@@ -1,3 +1,4 @@
+-- meaning: lexemes, and the longest at a place.
 use Rattle.std.specs.Prelude.{◌≡◌, ℕ, ◌<◌, ◌≤◌, ◌⊎◌, Bool, List, [], ◌∷◌, ◌++◌, length, true, false, nat_eq, codes, Option, None, Some, Contains}
 use Rattle.std.specs.List.{list_all, starts_with}
 use Rattle.sl_lex.specs.Bytes.{is_blank, is_hash, is_digit, is_hex_digit, is_binary_digit, begins_word, is_word_byte, is_comment_byte, is_text_byte, is_char, number}

@@ -1,3 +1,4 @@
+-- meaning: the marks of each mode.
 use Rattle.std.specs.Prelude.{List, [], ◌∷◌, ◌++◌, ℕ, codes, map}
 use Rattle.sl_lex.specs.declared.mode.Mode.{Mode}
 use Rattle.sl_lex.specs.declared.mode.Mode.TheVariants.{Top, Head, Plain, Body, Display, Pattern}

@@ -1,3 +1,4 @@
+-- meaning: the modes of a text, and the words and marks that lead out of them.
 use Rattle.std.specs.Prelude.{ℕ, List, [], ◌∷◌, codes, if◌then◌else◌}
 use Rattle.std.specs.Str.{bytes_eq}
 use Rattle.sl_lex.specs.declared.mode.Mode.{Mode}

@@ -1,3 +1,4 @@
+-- meaning: the reading of a text as pieces, up to its end or its first bad place.
 use Rattle.std.specs.Prelude.{◌≡◌, ℕ, ◌+◌, ◌<◌, ◌^◌, List, [], ◌∷◌, ◌++◌, length, Option, Some, None}
 use Rattle.sl_lex.specs.Faults.{Fault, IsFault}
 use Rattle.sl_lex.specs.Lexemes.{IsLongest}

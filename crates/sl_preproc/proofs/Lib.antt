@@ -7,3 +7,4 @@ pub mod ExpansionLemmas
 pub mod MainLemmas
 pub mod FeedLemmas
 pub mod SoundLemmas
+pub mod TextFileLemmas
