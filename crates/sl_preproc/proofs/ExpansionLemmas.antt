@@ -1,19 +1,17 @@
--- The lines of a file, one after the other.
-use Rattle.std.proofs.Common.{◌≡◌, ℕ, suc, ◌+◌, ◌-◌, List, [], ◌∷◌, ◌++◌, reverse, Some, None, Result, Ok, Err, arith, refl, sym, ap, subst, ◌∙◌}
+-- The lines of a file, one after the other, and the files that they include.
+use Rattle.std.proofs.Common.{◌≡◌, ℕ, suc, ◌+◌, ◌-◌, List, [], ◌∷◌, ◌++◌, reverse, Option, Some, None, Result, Ok, Err, arith, refl, sym, ap, ◌∙◌}
 use Rattle.std.specs.Prelude.{slice_get}
 use Rattle.std.proofs.lemmas.List.{reverse-append}
 use Rattle.sl_outside.specs.Folder.{Folder}
 use Rattle.sl_directive.specs.Lines.{lines}
-use Rattle.sl_directive.specs.Outcomes.{◌>>◌}
-use Rattle.sl_preproc.specs.Expansion.{Work, Refusal, Includer, on_line, expand_file, checked, included, refused}
+use Rattle.sl_preproc.specs.Readings.{Reading, pure, refused, ◌>>=◌}
+use Rattle.sl_preproc.specs.Expansion.{Work, Includer, on_line, if_included, expand_file, fetched, included}
 use Rattle.sl_preproc.specs.ByLines.{line_step, line_done, at_end, expand_lines}
 use Rattle.sl_preproc.specs.Naming.{joined_name}
 use Rattle.sl_preproc.specs.Groups.{outermost}
 use Rattle.sl_preproc.specs.declared.groups.Group.{Group}
-use Rattle.sl_preproc.specs.declared.error.PreError.{PreError}
-use Rattle.sl_preproc.specs.declared.error.PreError.TheVariants.{NoFile, TooLong, IncludeDepth, UndefinedName, ReplaceDepth, BadDirective, Unbalanced, ReadFault, NoMemory}
+use Rattle.sl_directive.specs.declared.fault.Cause.{Cause}
 use Rattle.sl_directive.specs.declared.fault.Cause.TheVariants as cause
-use Rattle.sl_preproc.specs.Refusals.{RefusesAs, Answers}
 
 -- ---- the outermost group
 
@@ -39,35 +37,22 @@ first_open name work (g ∷ gs) first h =
     let e : g ≡ first = cc in
     left_open name work g gs ∙ ap (λ (x : Group). refused {X = Work} cause.Unbalanced name x.line) e
 
--- ---- refusals go along
-
-pub refuses_along : {A B : Type 0} (e : PreError) (f : A → Result B Refusal) (defined : Result A Refusal) → RefusesAs e defined → RefusesAs e (defined >> f)
-refuses_along (NoFile file line) f defined h = ap (λ d. d >> f) h
-refuses_along (TooLong file line) f defined h = ap (λ d. d >> f) h
-refuses_along (IncludeDepth file line) f defined h = ap (λ d. d >> f) h
-refuses_along (UndefinedName file line) f defined h = ap (λ d. d >> f) h
-refuses_along (ReplaceDepth file line) f defined h = ap (λ d. d >> f) h
-refuses_along (BadDirective file line) f defined h = ap (λ d. d >> f) h
-refuses_along (Unbalanced file line) f defined h = ap (λ d. d >> f) h
-refuses_along ReadFault f defined h = tt
-refuses_along NoMemory f defined h = tt
-
-pub refuses_same : {A : Type 0} (e : PreError) (a b : Result A Refusal) → a ≡ b → RefusesAs e a → RefusesAs e b
-refuses_same e a b h r = rw (← h) r
-
 -- ---- one line more
 
-pub line_goes : (includes : Includer) (name s line rest : List ℕ) (number : ℕ) (gs : List Group) (work : Work) (total : Result Work Refusal) → lines s ≡ line ∷ lines rest
-    → expand_lines includes name (lines s) number gs work ≡ total
-    → (line_done includes name number line gs work >> λ r. expand_lines includes name (lines rest) (number + 1) r.0 r.1) ≡ total
+pub line_goes : (includes : Includer) (name s line rest : List ℕ) (number : ℕ) (gs : List Group) (work : Work) → lines s ≡ line ∷ lines rest
+    → expand_lines includes name (lines s) number gs work
+    ≡ (line_done includes name number line gs work >>= λ r. expand_lines includes name (lines rest) (number + 1) r.0 r.1)
 unfolding expand_lines
-line_goes includes name s line rest number gs work total h so_far =
-    let one : expand_lines includes name (line ∷ lines rest) number gs work ≡ total = rw h at so_far in one
+line_goes includes name s line rest number gs work h = ap (λ (ls : List (List ℕ)). expand_lines includes name ls number gs work) h
 
-pub no_line : (includes : Includer) (name s : List ℕ) (number : ℕ) (gs : List Group) (work : Work) (total : Result Work Refusal) → lines s ≡ []
-    → expand_lines includes name (lines s) number gs work ≡ total → at_end name gs work ≡ total
+pub no_line : (includes : Includer) (name s : List ℕ) (number : ℕ) (gs : List Group) (work : Work) → lines s ≡ []
+    → expand_lines includes name (lines s) number gs work ≡ at_end name gs work
 unfolding expand_lines
-no_line includes name s number gs work total h so_far = let one : expand_lines includes name [] number gs work ≡ total = rw h at so_far in one
+no_line includes name s number gs work h = ap (λ (ls : List (List ℕ)). expand_lines includes name ls number gs work) h
+
+pub end_asks : (name : List ℕ) (gs : List Group) (work : Work) → (at_end name gs work).asked ≡ []
+end_asks name [] work = refl
+end_asks name (g ∷ gs) work = refl
 
 -- ---- included files
 
@@ -75,60 +60,47 @@ pub no_depth : (left : ℕ) (folder : Folder) (from : List ℕ) (line : ℕ) (na
 unfolding included
 no_depth left folder from line name work h = rw h refl
 
-pub deeper : (left : ℕ) (folder : Folder) (from : List ℕ) (line : ℕ) (name : List ℕ) (work : Work) → (left ≡ 0 → ⊥)
+deeper : (left : ℕ) (folder : Folder) (from : List ℕ) (line : ℕ) (name : List ℕ) (work : Work) → (left ≡ 0 → ⊥)
     → included left folder from line name work
-    ≡ (checked from line (folder (joined_name from name)) >> λ bytes. expand_file (included (left - 1) folder (joined_name from name)) (joined_name from name) bytes work)
+    ≡ (fetched folder (joined_name from name) from line >>= λ bytes. expand_file (included (left - 1) folder (joined_name from name)) (joined_name from name) bytes work)
 unfolding included
 deeper left folder from line name work h =
     let k : left ≡ suc (left - 1) = omega arith in
     ap (λ (n : ℕ). included n folder from line name work) k
 
-pub included_as : (left : ℕ) (folder : Folder) (from : List ℕ) (line : ℕ) (name : List ℕ) (work : Work) (n m bytes s : List ℕ) → (left ≡ 0 → ⊥)
-    → n ≡ joined_name from name → m ≡ joined_name from name → checked from line (folder n) ≡ Ok bytes → s ≡ bytes
-    → expand_file (included (left - 1) folder m) m s work ≡ included left folder from line name work
-included_as left folder from line name work n m bytes s some e f found same =
-    let here : checked from line (folder (joined_name from name)) ≡ Ok bytes = ap (λ (x : List ℕ). checked from line (folder x)) (sym e) ∙ found in
-    ap (λ (x : List ℕ). expand_file (included (left - 1) folder x) x s work) f
-    ∙ ap (λ (x : List ℕ). expand_file (included (left - 1) folder (joined_name from name)) (joined_name from name) x work) same
-    ∙ sym (ap (λ (r : Result (List ℕ) Refusal). r >> λ bytes. expand_file (included (left - 1) folder (joined_name from name)) (joined_name from name) bytes work) here)
-    ∙ sym (deeper left folder from line name work some)
-
-pub fetch_fails : (e : PreError) (left : ℕ) (folder : Folder) (from : List ℕ) (line : ℕ) (name : List ℕ) (work : Work) (n : List ℕ) → (left ≡ 0 → ⊥)
-    → n ≡ joined_name from name → RefusesAs e (checked from line (folder n)) → RefusesAs e (included left folder from line name work)
-fetch_fails e left folder from line name work n some f h =
-    refuses_same e _ _ (sym (deeper left folder from line name work some))
-    (refuses_along e _ (checked from line (folder (joined_name from name))) (subst (λ (x : List ℕ). RefusesAs e (checked from line (folder x))) f h))
-
-pub too_deep : (e : PreError) (left : ℕ) (folder : Folder) (from : List ℕ) (line : ℕ) (name : List ℕ) (work : Work) → left ≡ 0
-    → RefusesAs {Y = Refusal} e (refused cause.IncludeDepth from line) → RefusesAs e (included left folder from line name work)
-too_deep e left folder from line name work h r =
-    refuses_same e _ _ (sym (no_depth left folder from line name work h))
-    (refuses_along e (λ (x : Refusal). refused {X = Work} cause.IncludeDepth from line) (refused {X = Refusal} cause.IncludeDepth from line) r)
-
--- ---- answers go along
-
-pub answers_along : {A B : Type 0} (r : Result (Unit {0}) PreError) (defined : Result A Refusal) (v : A) (f : A → Result B Refusal) (w : B) → f v ≡ Ok w
-    → Answers (λ _. v) r defined → Answers (λ _. w) r (defined >> f)
-answers_along (Ok x) defined v f w e h = ap (λ d. d >> f) h ∙ e
-answers_along (Err x) defined v f w e h = refuses_along x f defined h
-
-pub answers_same : {A : Type 0} (r : Result (Unit {0}) PreError) (v : A) (a b : Result A Refusal) → a ≡ b → Answers (λ _. v) r a → Answers (λ _. v) r b
-answers_same (Ok x) v a b e h = sym e ∙ h
-answers_same (Err x) v a b e h = refuses_same x a b e h
+pub included_as : (left : ℕ) (folder : Folder) (from : List ℕ) (line : ℕ) (name : List ℕ) (work : Work) (n m : List ℕ) → (left ≡ 0 → ⊥)
+    → n ≡ joined_name from name → m ≡ joined_name from name
+    → included left folder from line name work ≡ (fetched folder n from line >>= λ bytes. expand_file (included (left - 1) folder m) m bytes work)
+included_as left folder from line name work n m some e f =
+    deeper left folder from line name work some
+    ∙ ap (λ (x : List ℕ). fetched folder x from line >>= λ bytes. expand_file (included (left - 1) folder (joined_name from name)) (joined_name from name) bytes work) (sym e)
+    ∙ ap (λ (x : List ℕ). fetched folder n from line >>= λ bytes. expand_file (included (left - 1) folder x) x bytes work) (sym f)
 
 -- ---- a line and what it includes
 
+pub line_asks : {X : Type 0} (name : List ℕ) (number : ℕ) (r : Result X Cause) → (on_line name number r).asked ≡ []
+line_asks name number (Ok x) = refl
+line_asks name number (Err e) = refl
+
+line_gives : {X : Type 0} (name : List ℕ) (number : ℕ) (r : Result X Cause) (x : X) → (on_line name number r).result ≡ Ok x → on_line name number r ≡ pure x
+line_gives name number (Ok y) x h = let e : y ≡ x = cc in ap pure e
+line_gives name number (Err e) x h = absurd (cc)
+
 module _ (includes : Includer) (name : List ℕ) (number : ℕ) (line : List ℕ) (gs : List Group) (work : Work) where
-  pub line_fails : (e : PreError) → RefusesAs e (on_line name number (line_step name number line gs work)) → RefusesAs e (line_done includes name number line gs work)
-  unfolding line_done
-  line_fails e h = refuses_along e _ (on_line name number (line_step name number line gs work)) h
+  -- what a line includes, and what is left of it then
+  pub then_includes : Option (List ℕ) × List Group × Work → Reading (List Group × Work)
+  then_includes s = if_included s.0 (includes number) s.2 >>= λ w. pure (s.1, w)
 
-  pub line_plain : (after : List Group) (done : Work) → on_line name number (line_step name number line gs work) ≡ Ok (None, after, done)
-      → line_done includes name number line gs work ≡ Ok (after, done)
-  unfolding line_done
-  line_plain after done h = rw h refl
+  pub line_first : line_done includes name number line gs work ≡ (on_line name number (line_step name number line gs work) >>= then_includes)
+  unfolding line_done then_includes
+  line_first = refl
 
-  pub line_includes : (file : List ℕ) (after : List Group) (done : Work) → on_line name number (line_step name number line gs work) ≡ Ok (Some file, after, done)
-      → line_done includes name number line gs work ≡ (includes number file done >> λ w. Ok (after, w))
+  pub line_plain : (after : List Group) (done : Work) → (on_line name number (line_step name number line gs work)).result ≡ Ok (None, after, done)
+      → line_done includes name number line gs work ≡ pure (after, done)
   unfolding line_done
-  line_includes file after done h = rw h refl
+  line_plain after done h = rw (line_gives name number (line_step name number line gs work) (None, after, done) h) refl
+
+  pub line_includes : (file : List ℕ) (after : List Group) (done : Work) → (on_line name number (line_step name number line gs work)).result ≡ Ok (Some file, after, done)
+      → line_done includes name number line gs work ≡ (includes number file done >>= λ w. pure (after, w))
+  unfolding line_done
+  line_includes file after done h = rw (line_gives name number (line_step name number line gs work) (Some file, after, done) h) refl

@@ -1,5 +1,6 @@
 -- The expansion line by line is that of the tree.
 use Rattle.std.proofs.Common.{◌≡◌, ℕ, ◌+◌, Bool, true, false, not, List, [], ◌∷◌, drop, Option, Some, None, Result, Ok, Err, refl, sym, ap, ◌∙◌}
+use Rattle.std.proofs.Common.{◌++◌, append_assoc}
 use Rattle.std.specs.Prelude.{if◌then◌else◌, ◌==◌, ◌||◌}
 use Rattle.sl_directive.specs.Outcomes.{◌>>◌}
 use Rattle.sl_directive.specs.Parts.{is_ended}
@@ -11,22 +12,35 @@ use Rattle.sl_directive.specs.declared.fault.Cause.{Cause}
 use Rattle.sl_directive.specs.declared.fault.Cause.TheVariants.{BadDirective, Unbalanced}
 use Rattle.sl_preproc.specs.Trees.{Line, numbered, words, Tree, End, Text, Alone, Marked, Branches, Branch, Closed, Unclosed, Cut, led, begun, cut_at, cut_of, group_of, planted_by, planted, tree_of, is_closed, opening_line, first_open}
 use Rattle.sl_preproc.specs.Trees as tree
-use Rattle.sl_preproc.specs.Expansion.{Work, Refusal, Includer, refused, text_line, done_by, on_line, if_included, text_done, alone_done, chosen_by, choice, closing, expand_tree, expand_branches, unless_open, expand_whole}
+use Rattle.sl_preproc.specs.Readings.{Refusal, Reading, pure, refused, asked_before, going_on, ◌>>=◌}
+use Rattle.sl_preproc.specs.Expansion.{Work, Includer, text_line, done_by, on_line, if_included, text_done, alone_done, chosen_by, choice, closing, expand_tree, expand_branches, unless_open, expand_whole}
 use Rattle.sl_preproc.specs.Groups.{is_taken, is_dead, is_live, chosen_if, new_group, with_branch, opened, elif_branch, at_elif, is_well_ended, else_branch, at_else, at_endif, outermost, turned_by}
 use Rattle.sl_preproc.specs.ByLines.{Step, alone, directive_step, text_or_directive, line_step, line_done, at_end, expand_lines}
 use Rattle.sl_preproc.specs.declared.groups.Branch.TheVariants.{Dead, Waiting, Taken, Passed}
 use Rattle.sl_preproc.specs.declared.groups.Branch as branch
 use Rattle.sl_preproc.specs.declared.groups.Group.{Group}
 
--- ---- steps one after another
+-- ---- readings one after another
 
-bind_assoc : {A B C E : Type 0} (r : Result A E) (f : A → Result B E) (g : B → Result C E) → ((r >> f) >> g) ≡ (r >> λ x. f x >> g)
-bind_assoc (Ok x) f g = refl
-bind_assoc (Err e) f g = refl
+after_bind : {A B : Type 0} (names asked : List (List ℕ)) (r : Result A Refusal) (f : A → Reading B)
+    → going_on (names ++ asked) r f ≡ asked_before names (going_on asked r f)
+after_bind names asked (Ok x) f = ap (λ (a : List (List ℕ)). record { asked = a; result = (f x).result }) (append_assoc names asked (f x).asked)
+after_bind names asked (Err e) f = refl
 
-bind_ext : {A B E : Type 0} (r : Result A E) (f g : A → Result B E) → ((x : A) → f x ≡ g x) → (r >> f) ≡ (r >> g)
-bind_ext (Ok x) f g h = h x
-bind_ext (Err e) f g h = refl
+assoc_by : {A B C : Type 0} (names : List (List ℕ)) (r : Result A Refusal) (f : A → Reading B) (g : B → Reading C)
+    → (going_on names r f >>= g) ≡ going_on names r (λ x. f x >>= g)
+assoc_by names (Ok x) f g = after_bind names (f x).asked (f x).result g
+assoc_by names (Err e) f g = refl
+
+bind_assoc : {A B C : Type 0} (r : Reading A) (f : A → Reading B) (g : B → Reading C) → ((r >>= f) >>= g) ≡ (r >>= λ x. f x >>= g)
+bind_assoc r f g = assoc_by r.asked r.result f g
+
+ext_by : {A B : Type 0} (names : List (List ℕ)) (r : Result A Refusal) (f g : A → Reading B) → ((x : A) → f x ≡ g x) → going_on names r f ≡ going_on names r g
+ext_by names (Ok x) f g h = ap (λ r. asked_before names r) (h x)
+ext_by names (Err e) f g h = refl
+
+bind_ext : {A B : Type 0} (r : Reading A) (f g : A → Reading B) → ((x : A) → f x ≡ g x) → (r >>= f) ≡ (r >>= g)
+bind_ext r f g h = ext_by r.asked r.result f g h
 
 rest_is : (bytes rest : List ℕ) → directive_line bytes ≡ Some rest → rest ≡ drop 1 bytes
 rest_is [] rest h = absurd (cc)
@@ -78,68 +92,68 @@ outermost_line g k (x ∷ gs) h = refl
 
 module _ (includes : Includer) (name : List ℕ) where
   -- the lines behind a group that is open: the rest of its branch, its other branches, and what is behind it, if it is closed
-  by_end : Bool → Bool → Bool → Bool → Cut → (Tree → Work → Result Work Refusal) → Result Work Refusal → Work → Result Work Refusal
+  by_end : Bool → Bool → Bool → Bool → Cut → (Tree → Work → Reading Work) → Reading Work → Work → Reading Work
   by_end closed now live chosen cut next end work =
-      expand_tree includes name cut.body now work >> λ w. expand_branches includes name cut.others live chosen w >> λ w. if closed then next cut.behind w else end
+      expand_tree includes name cut.body now work >>= λ w. expand_branches includes name cut.others live chosen w >>= λ w. if closed then next cut.behind w else end
 
-  abbrev group_rest : Bool → Bool → Bool → Cut → (Tree → Work → Result Work Refusal) → Result Work Refusal → Work → Result Work Refusal
+  abbrev group_rest : Bool → Bool → Bool → Cut → (Tree → Work → Reading Work) → Reading Work → Work → Reading Work
   group_rest now live chosen cut next end work = by_end (is_closed cut.others) now live chosen cut next end work
 
   -- the lines that are left, within the groups that are open
-  rest_of : List Group → Tree → Work → Result Work Refusal
+  rest_of : List Group → Tree → Work → Reading Work
   rest_of [] t work = expand_whole includes name t work
   rest_of (g ∷ gs) t work =
       group_rest (is_taken g.branch) (is_looked_at g.branch) (has_chosen g.branch) (cut_of t g.has_else) (rest_of gs) (refused Unbalanced name (outermost g gs)) work
 
   -- a part in front of the lines that are left
-  part_first : (part : Tree → Tree) (done : Bool → Work → Result Work Refusal)
-      → ((t : Tree) (live : Bool) (w : Work) → expand_tree includes name (part t) live w ≡ (done live w >> λ x. expand_tree includes name t live x))
+  part_first : (part : Tree → Tree) (done : Bool → Work → Reading Work)
+      → ((t : Tree) (live : Bool) (w : Work) → expand_tree includes name (part t) live w ≡ (done live w >>= λ x. expand_tree includes name t live x))
       → ((t : Tree) → first_open (part t) ≡ first_open t) → ((t : Tree) (e : Bool) → cut_of (part t) e ≡ led part (cut_of t e))
-      → (gs : List Group) (t : Tree) (work : Work) → rest_of gs (part t) work ≡ (done (is_live gs) work >> λ w. rest_of gs t w)
+      → (gs : List Group) (t : Tree) (work : Work) → rest_of gs (part t) work ≡ (done (is_live gs) work >>= λ w. rest_of gs t w)
   unfolding rest_of by_end
   part_first part done h o c [] t work =
-      ap (λ (p : Option ℕ). expand_tree includes name (part t) true work >> λ w. unless_open name p w) (o t)
-      ∙ ap (λ (r : Result Work Refusal). r >> λ w. unless_open name (first_open t) w) (h t true work)
+      ap (λ (p : Option ℕ). expand_tree includes name (part t) true work >>= λ w. unless_open name p w) (o t)
+      ∙ ap (λ (r : Reading Work). r >>= λ w. unless_open name (first_open t) w) (h t true work)
       ∙ bind_assoc (done true work) (λ x. expand_tree includes name t true x) (λ w. unless_open name (first_open t) w)
   part_first part done h o c (g ∷ gs) t work =
-      let F : Work → Result Work Refusal = λ w. expand_branches includes name (cut_of t g.has_else).others (is_looked_at g.branch) (has_chosen g.branch) w
-      >> λ w. if is_closed (cut_of t g.has_else).others then rest_of gs (cut_of t g.has_else).behind w else refused Unbalanced name (outermost g gs) in
+      let F : Work → Reading Work = λ w. expand_branches includes name (cut_of t g.has_else).others (is_looked_at g.branch) (has_chosen g.branch) w
+      >>= λ w. if is_closed (cut_of t g.has_else).others then rest_of gs (cut_of t g.has_else).behind w else refused Unbalanced name (outermost g gs) in
       ap (λ (k : Cut). group_rest (is_taken g.branch) (is_looked_at g.branch) (has_chosen g.branch) k (rest_of gs) (refused Unbalanced name (outermost g gs)) work) (c t g.has_else)
-      ∙ ap (λ (r : Result Work Refusal). r >> F) (h (cut_of t g.has_else).body (is_taken g.branch) work)
+      ∙ ap (λ (r : Reading Work). r >>= F) (h (cut_of t g.has_else).body (is_taken g.branch) work)
       ∙ bind_assoc (done (is_taken g.branch) work) (λ x. expand_tree includes name (cut_of t g.has_else).body (is_taken g.branch) x) F
 
-  text_first : (gs : List Group) (line : Line) (t : Tree) (work : Work) → rest_of gs (Text line t) work ≡ (text_done name line (is_live gs) work >> λ w. rest_of gs t w)
+  text_first : (gs : List Group) (line : Line) (t : Tree) (work : Work) → rest_of gs (Text line t) work ≡ (text_done name line (is_live gs) work >>= λ w. rest_of gs t w)
   unfolding expand_tree cut_of first_open
   text_first gs line t work = part_first (Text line) (text_done name line) (λ t live w. refl) (λ t. refl) (λ t e. refl) gs t work
 
-  alone_first : (gs : List Group) (line : Line) (t : Tree) (work : Work) → rest_of gs (Alone line t) work ≡ (alone_done includes name line (is_live gs) work >> λ w. rest_of gs t w)
+  alone_first : (gs : List Group) (line : Line) (t : Tree) (work : Work) → rest_of gs (Alone line t) work ≡ (alone_done includes name line (is_live gs) work >>= λ w. rest_of gs t w)
   unfolding expand_tree cut_of first_open
   alone_first gs line t work = part_first (Alone line) (alone_done includes name line) (λ t live w. refl) (λ t. refl) (λ t e. refl) gs t work
 
   closed_first : (gs : List Group) (branches : Branches) (t : Tree) (work : Work) → is_closed branches ≡ true
-      → rest_of gs (tree.Group branches t) work ≡ (expand_branches includes name branches (is_live gs) false work >> λ w. rest_of gs t w)
+      → rest_of gs (tree.Group branches t) work ≡ (expand_branches includes name branches (is_live gs) false work >>= λ w. rest_of gs t w)
   unfolding expand_tree cut_of first_open
   closed_first gs branches t work closed =
       part_first (tree.Group branches) (λ live w. expand_branches includes name branches live false w) (λ t live w. refl) (λ t. rw closed refl) (λ t e. refl) gs t work
 
   unclosed_first : (gs : List Group) (branches : Branches) (work : Work) (b : branch.Branch) → is_closed branches ≡ false
       → rest_of gs (tree.Group branches End) work
-      ≡ (expand_branches includes name branches (is_live gs) false work >> λ w. refused Unbalanced name (outermost (new_group (opening_line branches) b) gs))
+      ≡ (expand_branches includes name branches (is_live gs) false work >>= λ w. refused Unbalanced name (outermost (new_group (opening_line branches) b) gs))
   unfolding rest_of by_end expand_tree cut_of first_open
   unclosed_first [] branches work b h =
-      ap (λ (p : Option ℕ). (expand_branches includes name branches true false work >> λ w. Ok w) >> λ w. unless_open name p w) (let e : first_open (tree.Group branches End) ≡ Some (opening_line branches) = rw h refl in e)
-      ∙ bind_assoc (expand_branches includes name branches true false work) (λ w. Ok w) (λ w. refused Unbalanced name (opening_line branches))
+      ap (λ (p : Option ℕ). (expand_branches includes name branches true false work >>= λ w. pure w) >>= λ w. unless_open name p w) (let e : first_open (tree.Group branches End) ≡ Some (opening_line branches) = rw h refl in e)
+      ∙ bind_assoc (expand_branches includes name branches true false work) (λ w. pure w) (λ w. refused Unbalanced name (opening_line branches))
   unclosed_first (g ∷ gs) branches work b h =
-      bind_assoc (expand_branches includes name branches (is_taken g.branch) false work) (λ w. Ok w) (λ w. refused Unbalanced name (outermost g gs))
+      bind_assoc (expand_branches includes name branches (is_taken g.branch) false work) (λ w. pure w) (λ w. refused Unbalanced name (outermost g gs))
 
   -- a group in front of the lines that are left
   module _ (gs : List Group) (line : Line) (t : Tree) (work : Work) (b : branch.Branch) where
-    abbrev end_of : Result Work Refusal
+    abbrev end_of : Reading Work
     end_of = refused Unbalanced name (outermost (new_group line.number b) gs)
 
     opens_to : (closed : Bool) → is_closed (cut_of t false).others ≡ closed
         → rest_of gs (group_of line (cut_of t false)) work
-        ≡ (on_line name line.number (choice (words line) (is_live gs) false work.defs) >> λ now. by_end closed now (is_live gs) now (cut_of t false) (rest_of gs) end_of work)
+        ≡ (on_line name line.number (choice (words line) (is_live gs) false work.defs) >>= λ now. by_end closed now (is_live gs) now (cut_of t false) (rest_of gs) end_of work)
     unfolding by_end expand_branches
     opens_to true h =
         let cut : Cut = cut_of t false in
@@ -156,16 +170,16 @@ module _ (includes : Includer) (name : List ℕ) where
         (λ now. bind_assoc (expand_tree includes name cut.body now work) (λ w. expand_branches includes name cut.others (is_live gs) now w) (λ w. end_of))
 
     group_first : rest_of gs (group_of line (cut_of t false)) work
-        ≡ (on_line name line.number (choice (words line) (is_live gs) false work.defs) >> λ now. group_rest now (is_live gs) now (cut_of t false) (rest_of gs) end_of work)
+        ≡ (on_line name line.number (choice (words line) (is_live gs) false work.defs) >>= λ now. group_rest now (is_live gs) now (cut_of t false) (rest_of gs) end_of work)
     group_first = opens_to (is_closed (cut_of t false).others) refl
 
   -- a branch in front of the rest of its group
-  begun_first : (now live chosen : Bool) (line : Line) (cut : Cut) (next : Tree → Work → Result Work Refusal) (end : Result Work Refusal) (work : Work)
+  begun_first : (now live chosen : Bool) (line : Line) (cut : Cut) (next : Tree → Work → Reading Work) (end : Reading Work) (work : Work)
       → group_rest now live chosen (begun line cut) next end work
-      ≡ (on_line name line.number (choice (words line) live chosen work.defs) >> λ now. group_rest now live (chosen || now) cut next end work)
+      ≡ (on_line name line.number (choice (words line) live chosen work.defs) >>= λ now. group_rest now live (chosen || now) cut next end work)
   unfolding by_end expand_tree expand_branches
   begun_first now live chosen line cut next end work =
-      let F : Work → Result Work Refusal = λ w. if is_closed cut.others then next cut.behind w else end in
+      let F : Work → Reading Work = λ w. if is_closed cut.others then next cut.behind w else end in
       bind_assoc (on_line name line.number (choice (words line) live chosen work.defs)) _ F
       ∙ bind_ext (on_line name line.number (choice (words line) live chosen work.defs)) _ _
       (λ here. bind_assoc (expand_tree includes name cut.body here work) (λ w. expand_branches includes name cut.others live (chosen || here) w) F)
@@ -173,26 +187,25 @@ module _ (includes : Includer) (name : List ℕ) where
   -- ---- one line
 
   -- what a step of the expansion line by line comes to
-  after : ℕ → Tree → Step → Result Work Refusal
+  after : ℕ → Tree → Step → Reading Work
   after number t step =
-      (on_line name number step >> λ s. if_included s.0 (includes number) s.2 >> λ w. let r : Result (List Group × Work) Refusal = Ok (s.1, w) in r) >> λ s. rest_of s.0 t s.1
+      (on_line name number step >>= λ s. if_included s.0 (includes number) s.2 >>= λ w. let r : Reading (List Group × Work) = pure (s.1, w) in r) >>= λ s. rest_of s.0 t s.1
 
   module _ (number : ℕ) (t : Tree) (gs : List Group) (work : Work) where
     text_by : (live : Bool) (r : Result Work Cause)
         → after number t (let s : Step = if live then (r >> λ w. Ok (None, gs, w)) else Ok (None, gs, work) in s)
-        ≡ ((let r : Result Work Refusal = if live then on_line name number r else Ok work in r) >> λ w. rest_of gs t w)
+        ≡ ((let r : Reading Work = if live then on_line name number r else pure work in r) >>= λ w. rest_of gs t w)
     unfolding after
     text_by true (Ok w) = refl
     text_by true (Err e) = refl
     text_by false r = refl
 
-    included_by : (x : Result Work Refusal) → ((x >> λ w. let r : Result (List Group × Work) Refusal = Ok (gs, w) in r) >> λ s. rest_of s.0 t s.1) ≡ (x >> λ w. rest_of gs t w)
-    included_by (Ok w) = refl
-    included_by (Err e) = refl
+    included_by : (x : Reading Work) → ((x >>= λ w. let r : Reading (List Group × Work) = pure (gs, w) in r) >>= λ s. rest_of s.0 t s.1) ≡ (x >>= λ w. rest_of gs t w)
+    included_by x = bind_assoc x (λ w. let r : Reading (List Group × Work) = pure (gs, w) in r) (λ s. rest_of s.0 t s.1)
 
     alone_by : (live : Bool) (r : Result (Option (List ℕ) × Work) Cause)
         → after number t (let s : Step = if live then (r >> λ d. Ok (d.0, gs, d.1)) else Ok (None, gs, work) in s)
-        ≡ ((let r : Result Work Refusal = if live then (on_line name number r >> λ d. if_included d.0 (includes number) d.1) else Ok work in r) >> λ w. rest_of gs t w)
+        ≡ ((let r : Reading Work = if live then (on_line name number r >>= λ d. if_included d.0 (includes number) d.1) else pure work in r) >>= λ w. rest_of gs t w)
     unfolding after
     alone_by true (Ok d) = included_by (if_included d.0 (includes number) d.1)
     alone_by true (Err e) = refl
@@ -209,7 +222,7 @@ module _ (includes : Includer) (name : List ℕ) where
         → after line.number t ((let turned : Result (List Group) Cause = if live then (j >> λ holds. Ok (new_group line.number (chosen_if holds) ∷ gs)) else Ok (new_group line.number Dead ∷ gs) in turned)
         >> λ turned. Ok (None, turned, work))
         ≡ (on_line name line.number (let r : Result Bool Cause = if live then j else Ok false in r)
-        >> λ now. group_rest now live now (cut_of t false) (rest_of gs) (refused Unbalanced name (outermost (new_group line.number Dead) gs)) work)
+        >>= λ now. group_rest now live now (cut_of t false) (rest_of gs) (refused Unbalanced name (outermost (new_group line.number Dead) gs)) work)
     unfolding after rest_of
     open_by true (Ok true) = same_end (new_group line.number Taken) (new_group line.number Dead) gs refl true true true (cut_of t false) work
     open_by true (Ok false) = same_end (new_group line.number Waiting) (new_group line.number Dead) gs refl false true false (cut_of t false) work
@@ -217,13 +230,13 @@ module _ (includes : Includer) (name : List ℕ) where
     open_by false j = refl
 
     module _ (g : Group) where
-      abbrev end_at : Result Work Refusal
+      abbrev end_at : Reading Work
       end_at = refused Unbalanced name (outermost g gs)
 
       elif_by : (b : branch.Branch) (defs : Values) (rest : List ℕ) (j : Result Bool Cause) → judged (condition_of defs Elif rest) ≡ j
           → after line.number t ((elif_branch defs Elif rest b >> λ n. let turned : Result (List Group) Cause = Ok (with_branch n false g ∷ gs) in turned) >> λ turned. Ok (None, turned, work))
           ≡ (on_line name line.number (choice (Elif, rest) (is_looked_at b) (has_chosen b) defs)
-          >> λ now. group_rest now (is_looked_at b) (has_chosen b || now) (cut_of t false) (rest_of gs) end_at work)
+          >>= λ now. group_rest now (is_looked_at b) (has_chosen b || now) (cut_of t false) (rest_of gs) end_at work)
       unfolding after rest_of
       elif_by Dead defs rest j h = same_end (with_branch Dead false g) g gs refl false false false (cut_of t false) work
       elif_by Taken defs rest j h = same_end (with_branch Passed false g) g gs refl false true true (cut_of t false) work
@@ -236,7 +249,7 @@ module _ (includes : Includer) (name : List ℕ) where
           → after line.number t ((let turned : Result (List Group) Cause = if is_well_ended b rest then Ok (with_branch (else_branch b) true g ∷ gs) else Err BadDirective in turned)
           >> λ turned. Ok (None, turned, work))
           ≡ (on_line name line.number (choice (Else, rest) (is_looked_at b) (has_chosen b) defs)
-          >> λ now. group_rest now (is_looked_at b) (has_chosen b || now) (cut_of t true) (rest_of gs) end_at work)
+          >>= λ now. group_rest now (is_looked_at b) (has_chosen b || now) (cut_of t true) (rest_of gs) end_at work)
       unfolding after rest_of
       else_by Dead defs rest ended h = same_end (with_branch Dead true g) g gs refl false false false (cut_of t true) work
       else_by Waiting defs rest true h = rw h (same_end (with_branch Taken true g) g gs refl true true true (cut_of t true) work)
@@ -248,7 +261,7 @@ module _ (includes : Includer) (name : List ℕ) where
 
       endif_by : (b : branch.Branch) (rest : List ℕ) (ended : Bool) → is_ended rest ≡ ended
           → after line.number t ((let turned : Result (List Group) Cause = if is_well_ended b rest then Ok gs else Err BadDirective in turned) >> λ turned. Ok (None, turned, work))
-          ≡ (on_line name line.number (closing rest (is_looked_at b) work) >> λ w. rest_of gs t w)
+          ≡ (on_line name line.number (closing rest (is_looked_at b) work) >>= λ w. rest_of gs t w)
       unfolding after
       endif_by Dead rest ended h = refl
       endif_by Waiting rest true h = rw h refl
@@ -268,7 +281,7 @@ module _ (includes : Includer) (name : List ℕ) where
       elif_within e has =
           elif_by g.branch work.defs (words line).1 (judged (condition_of work.defs Elif (words line).1)) refl
           ∙ ap (λ (k : Keyword). on_line name line.number (choice (k, (words line).1) (is_looked_at g.branch) (has_chosen g.branch) work.defs)
-          >> λ now. group_rest now (is_looked_at g.branch) (has_chosen g.branch || now) (cut_of t false) (rest_of gs) end_at work) (sym e)
+          >>= λ now. group_rest now (is_looked_at g.branch) (has_chosen g.branch || now) (cut_of t false) (rest_of gs) end_at work) (sym e)
           ∙ sym (begun_first (is_taken g.branch) (is_looked_at g.branch) (has_chosen g.branch) line (cut_of t false) (rest_of gs) end_at work)
           ∙ ap (λ (cut : Cut). group_rest (is_taken g.branch) (is_looked_at g.branch) (has_chosen g.branch) cut (rest_of gs) end_at work)
           (sym (ap (λ (k : Keyword). cut_at k g.has_else line t (cut_of t)) e ∙ ap (λ (h : Bool). cut_at Elif h line t (cut_of t)) has))
@@ -281,7 +294,7 @@ module _ (includes : Includer) (name : List ℕ) where
       else_within e has =
           else_by g.branch work.defs (words line).1 (is_ended (words line).1) refl
           ∙ ap (λ (k : Keyword). on_line name line.number (choice (k, (words line).1) (is_looked_at g.branch) (has_chosen g.branch) work.defs)
-          >> λ now. group_rest now (is_looked_at g.branch) (has_chosen g.branch || now) (cut_of t true) (rest_of gs) end_at work) (sym e)
+          >>= λ now. group_rest now (is_looked_at g.branch) (has_chosen g.branch || now) (cut_of t true) (rest_of gs) end_at work) (sym e)
           ∙ sym (begun_first (is_taken g.branch) (is_looked_at g.branch) (has_chosen g.branch) line (cut_of t true) (rest_of gs) end_at work)
           ∙ ap (λ (cut : Cut). group_rest (is_taken g.branch) (is_looked_at g.branch) (has_chosen g.branch) cut (rest_of gs) end_at work)
           (sym (ap (λ (k : Keyword). cut_at k g.has_else line t (cut_of t)) e ∙ ap (λ (h : Bool). cut_at Else h line t (cut_of t)) has))
@@ -345,16 +358,16 @@ module _ (includes : Includer) (name : List ℕ) where
       open_is c =
           open_by line t gs work (is_live gs) (judged (condition_of work.defs word (words line).1))
           ∙ ap (λ (r : Result Bool Cause). on_line name line.number (let r : Result Bool Cause = if is_live gs then r else Ok false in r)
-          >> λ now. group_rest now (is_live gs) now (cut_of t false) (rest_of gs) (refused Unbalanced name (outermost (new_group line.number Dead) gs)) work) (sym (c false))
+          >>= λ now. group_rest now (is_live gs) now (cut_of t false) (rest_of gs) (refused Unbalanced name (outermost (new_group line.number Dead) gs)) work) (sym (c false))
           ∙ ap (λ (k : Keyword). on_line name line.number (choice (k, (words line).1) (is_live gs) false work.defs)
-          >> λ now. group_rest now (is_live gs) now (cut_of t false) (rest_of gs) (refused Unbalanced name (outermost (new_group line.number Dead) gs)) work) (sym e)
+          >>= λ now. group_rest now (is_live gs) now (cut_of t false) (rest_of gs) (refused Unbalanced name (outermost (new_group line.number Dead) gs)) work) (sym e)
           ∙ sym (group_first gs line t work Dead)
 
       alone_is : after line.number t (alone word (words line).1 gs work) ≡ rest_of gs (Alone line t) work
       alone_is =
           alone_by line.number t gs work (is_live gs) (done_by (directive_at word (words line).1) work)
-          ∙ ap (λ (k : Keyword). (let r : Result Work Refusal = if is_live gs then (on_line name line.number (done_by (directive_at k (words line).1) work) >> λ d. if_included d.0 (includes line.number) d.1) else Ok work in r)
-          >> λ w. rest_of gs t w) (sym e)
+          ∙ ap (λ (k : Keyword). (let r : Reading Work = if is_live gs then (on_line name line.number (done_by (directive_at k (words line).1) work) >>= λ d. if_included d.0 (includes line.number) d.1) else pure work in r)
+          >>= λ w. rest_of gs t w) (sym e)
           ∙ sym (alone_first gs line t work)
 
     directive_is : (gs : List Group) (word : Keyword) → (words line).0 ≡ word → after line.number t (directive_step line.number (word, (words line).1) gs work) ≡ rest_of gs (planted_by word line t) work

@@ -204,12 +204,12 @@ step_whole : (name : List ℕ) (number : ℕ) (line : List ℕ) (gs : List Group
 unfolding line_step
 step_whole name number line gs work free h = either_whole name number line gs work free h (directive_line line) refl
 
-at_ok : {A : Type 0} (name : List ℕ) (number : ℕ) (r : Result A Cause) (P : A → Type 0) (x : A) → IfOk r P → on_line name number r ≡ Ok x → P x
+at_ok : {A : Type 0} (name : List ℕ) (number : ℕ) (r : Result A Cause) (P : A → Type 0) (x : A) → IfOk r P → (on_line name number r).result ≡ Ok x → P x
 at_ok name number (Ok y) P x h e = let k : y ≡ x = cc in subst P k h
 at_ok name number (Err y) P x h e = absurd (cc)
 
 pub read_whole : (name : List ℕ) (number : ℕ) (line : List ℕ) (gs : List Group) (work : Work) (o : Option (List ℕ)) (after : List Group) (done : Work)
-    → on_line name number (line_step name number line gs work) ≡ Ok (o, after, done) → NoFeed line → IsWhole work → IsWhole done
+    → (on_line name number (line_step name number line gs work)).result ≡ Ok (o, after, done) → NoFeed line → IsWhole work → IsWhole done
 read_whole name number line gs work o after done e free h = at_ok name number (line_step name number line gs work) StepWhole (o, after, done) (step_whole name number line gs work free h) e
 
 -- ---- the whole text

@@ -1,4 +1,4 @@
--- Conditional groups: what the lines of a file leave open, the innermost group first.
+-- step: conditional groups: what the lines of a file leave open, the innermost group first.
 use Rattle.std.specs.Prelude.{ℕ, Bool, true, false, List, [], ◌∷◌, Result, Ok, Err, if◌then◌else◌}
 use Rattle.sl_directive.specs.Parts.{is_ended}
 use Rattle.sl_directive.specs.Definitions.{Values}

@@ -2,10 +2,14 @@ pub mod Groups
 pub mod Stacks
 pub mod Naming
 pub mod Trees
+pub mod Readings
 pub mod Expansion
 pub mod ByLines
 pub mod Works
 pub mod Refusals
+pub mod Stops
 pub mod Expanded
+pub mod Asks
+pub mod Reads
 pub mod Sound
 pub mod Laws

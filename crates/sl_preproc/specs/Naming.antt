@@ -1,4 +1,4 @@
--- The names of included files.
+-- meaning: the names of included files.
 use Rattle.std.specs.Prelude.{ℕ, ◌==◌, ◌-◌, Bool, not, List, ◌++◌, length, take, slice_index, if◌then◌else◌}
 use Rattle.std.specs.List.{suffix_len}
 

@@ -1,4 +1,4 @@
--- Refusals as the program gives them.
+-- meaning: refusals as the program gives them.
 use Rattle.std.specs.Prelude.{◌≡◌, ℕ, Option, Some, Result, Ok, Err}
 use Rattle.std.specs.Global.{Global}
 use Rattle.std.specs.String.{string_bytes}

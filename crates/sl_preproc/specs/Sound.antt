@@ -1,4 +1,4 @@
--- What holds of each expanded text, whatever the files say.
+-- meaning: what holds of each expanded text, whatever the files say.
 use Rattle.std.specs.Prelude.{◌≡◌, ℕ, ◌==◌, ◌<◌, ◌≤◌, false, List, [], ◌∷◌, ◌++◌, length, count_by, Some, ◌⊎◌}
 use Rattle.std.specs.List.{AllByRecursion}
 use Rattle.sl_outside.specs.Folder.{size_limit}

@@ -1,4 +1,4 @@
--- The lines of a file as a tree: conditional groups with their branches.
+-- meaning: the lines of a file as a tree: conditional groups with their branches.
 use Rattle.std.specs.Prelude.{ℕ, ◌+◌, Bool, true, false, List, [], ◌∷◌, ◌++◌, drop, Option, Some, None, if◌then◌else◌}
 use Rattle.sl_directive.specs.Directives.{directive_line, keyword_at}
 use Rattle.sl_directive.specs.declared.directive.Keyword.{Keyword}

@@ -1,4 +1,4 @@
--- The work of an expansion as the program keeps it.
+-- view: the work of an expansion as the program keeps it.
 use Rattle.std.specs.Prelude.{◌≡◌, ℕ, List, map, Result, Ok, Err}
 use Rattle.std.specs.Global.{Global}
 use Rattle.std.specs.List.{position_or_len}

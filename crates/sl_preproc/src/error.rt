@@ -1,21 +1,22 @@
 //! Why there is no expansion.
 
-ghost use Rattle.std.specs.Prelude.{◌≡◌};
-ghost use Rattle.sl_preproc.specs.Expansion.{Refusal, refused};
-ghost use Rattle.sl_preproc.specs.Expansion as spec;
+ghost use Rattle.std.specs.Prelude.{◌≡◌, Err};
+ghost use Rattle.sl_preproc.specs.Readings.{Refusal, refusal};
 ghost use Rattle.sl_preproc.specs.Refusals.{RefusesAs};
+ghost use Rattle.sl_preproc.specs.Stops.{IsReadFault};
 ghost use Rattle.sl_preproc.specs.declared.error.PreError.TheVariants.{NoMemory};
 
 use sl_directive::fault::Cause;
 use std::alloc::{AllocError, Global};
 
-/// Why there is no expansion, with the name of the file as it was fetched and the line there, counted from 1.
+/// Why there is no expansion, with the name of the file as it was fetched and the line there,
+/// counted from 1.
 #[derive(Debug, Drop)]
 pub enum PreError {
     /// The file isn't there. The place is that of its `@include`; the main file has line 0.
     NoFile { file: String, line: u32 },
-    /// A file, or the expanded text, has more than 2^24 bytes. An included file has the place of its `@include`,
-    /// the main file line 0, and the text the line that brings it past the limit.
+    /// A file, or the expanded text, has more than 2^24 bytes. An included file has the place of
+    /// its `@include`, the main file line 0, and the text the line that brings it past the limit.
     TooLong { file: String, line: u32 },
     /// A file would stand at depth 17. The main file has depth 1.
     IncludeDepth { file: String, line: u32 },
@@ -25,7 +26,8 @@ pub enum PreError {
     ReplaceDepth { file: String, line: u32 },
     /// A live directive is unknown or malformed.
     BadDirective { file: String, line: u32 },
-    /// A conditional directive without its group, or behind its `@else`, or a group that its file doesn't close.
+    /// A conditional directive without its group, or after its `@else`, or a group that its file
+    /// doesn't close.
     Unbalanced { file: String, line: u32 },
     /// A file couldn't be read.
     ReadFault,
@@ -42,8 +44,8 @@ impl From<AllocError> for PreError {
 
 /// The refusal of this cause at this line of the file of this name.
 pub fn refuse(alloc: Global, cause: Cause, name: &str, line: u32) -> PreError
-    ensures refused { RefusesAs {Y = Refusal} result (refused cause name.now line) }
-    ensures no_read_fault { result ≡ PreError.ReadFault → ⊥ }
+    ensures refused { RefusesAs {Y = Refusal} result (Err (refusal cause name.now line)) }
+    ensures no_read_fault { IsReadFault result → ⊥ }
 {
     let Ok(file) = String::from_str(alloc, name) else {
         return PreError::NoMemory;

@@ -1,18 +1,20 @@
 //! The expansion of a file and of those that it includes.
 
-ghost use Rattle.std.specs.Prelude.{◌≡◌, ◌≤◌, length, IfOk, OnOk, option_map};
-ghost use Rattle.std.specs.Result.{IsErrOf};
+ghost use Rattle.std.specs.Prelude.{◌≡◌, ℕ, [], ◌∷◌, ◌≤◌, List, length, IfOk, OnOk, option_map};
 ghost use Rattle.std.specs.String.{string_bytes};
-ghost use Rattle.sl_outside.specs.Causes.{Rose};
 ghost use Rattle.sl_outside.specs.Folder.{size_limit};
-ghost use Rattle.sl_preproc.specs.Stacks.{stack_of};
-ghost use Rattle.sl_preproc.specs.Works.{work_of};
-ghost use Rattle.sl_preproc.specs.Expansion.{on_line, expand_file, checked, included, nothing_yet};
+ghost use Rattle.sl_outside.specs.Uses.{UsesFiles};
+ghost use Rattle.sl_preproc.specs.Asks.{AsksFor};
 ghost use Rattle.sl_preproc.specs.ByLines.{line_step, line_done, at_end};
-ghost use Rattle.sl_preproc.specs.Expansion as spec;
 ghost use Rattle.sl_preproc.specs.Expanded.{expanded, seen, text_of};
+ghost use Rattle.sl_preproc.specs.Expansion as spec;
+ghost use Rattle.sl_preproc.specs.Expansion.{on_line, expand_file, checked, included, nothing_yet};
+ghost use Rattle.sl_preproc.specs.Reads.{Reads};
 ghost use Rattle.sl_preproc.specs.Refusals.{Answers, WhereTold};
 ghost use Rattle.sl_preproc.specs.Sound.{IsSound, IsWhole, NoFeed};
+ghost use Rattle.sl_preproc.specs.Stacks.{stack_of};
+ghost use Rattle.sl_preproc.specs.Stops.{Fails, IsEarly};
+ghost use Rattle.sl_preproc.specs.Works.{work_of};
 
 use crate::error::{PreError, refuse};
 use crate::groups::Groups;
@@ -38,11 +40,11 @@ fn fetch<F: Files>(
     line: u32,
     files: &mut F,
 ) -> Result<Vec<u8>, PreError>
-    ensures found { WhereTold (F.told files.old) (λ folder. Answers (λ v. v.items) result (checked from.now line (folder name.now))) }
+    ensures found { WhereTold (F.told files.old)
+        (λ folder. Answers (λ v. v.items) result (checked from.now line (folder name.now))) }
     ensures size { IfOk result (λ v. length v.items ≤ size_limit) }
-    ensures read_fault { IsErrOf result PreError.ReadFault → Rose (F.faults files.old) (F.faults files.new) }
-    ensures same_folder { F.told files.new ≡ F.told files.old }
-    ensures never_falls { F.faults files.old ≤ F.faults files.new }
+    ensures files { UsesFiles F.told F.faults F.asked files.old files.new (name.now ∷ [])
+        (IsEarly result) (Fails result) }
 {
     let mut bytes = Vec::new(alloc);
     match files.fetch(name, &mut bytes) {
@@ -63,9 +65,13 @@ fn read<'a>(
     groups: &mut Groups,
     work: &mut Work,
 ) -> Result<Option<&'a str>, PreError>
-    ensures read { Answers (λ o. (option_map (λ n. n.now) o, stack_of groups.new, work_of work.new)) result (on_line name.now line (line_step name.now line text.now (stack_of groups.old) (work_of work.old))) }
-    ensures whole { NoFeed text.now → IsWhole (work_of work.old) → OnOk result (IsWhole (work_of work.new)) }
-    ensures no_read_fault { IsErrOf result PreError.ReadFault → ⊥ }
+    ensures read { Answers
+        (λ o. (option_map (λ n. n.now) o, stack_of groups.new, work_of work.new)) result
+        (on_line name.now line
+        (line_step name.now line text.now (stack_of groups.old) (work_of work.old))).result }
+    ensures whole { NoFeed text.now → IsWhole (work_of work.old)
+        → OnOk result (IsWhole (work_of work.new)) }
+    ensures no_read_fault { Fails result → ⊥ }
 {
     match read_line(alloc, name, line, text, groups, work) {
         Ok(included) => Ok(included),
@@ -76,8 +82,9 @@ fn read<'a>(
 
 /// Refuses a file whose end leaves groups open.
 fn end(alloc: Global, name: &str, groups: &Groups) -> Result<(), PreError>
-    ensures ended { (work : spec.Work) → Answers (λ _. work) result (at_end name.now (stack_of groups.now) work) }
-    ensures no_read_fault { IsErrOf result PreError.ReadFault → ⊥ }
+    ensures ended { (work : spec.Work)
+        → Answers (λ _. work) result (at_end name.now (stack_of groups.now) work).result }
+    ensures no_read_fault { Fails result → ⊥ }
 {
     match groups.first() {
         None => Ok(()),
@@ -96,11 +103,10 @@ fn include<F: Files>(
     files: &mut F,
     work: &mut Work,
 ) -> Result<(), PreError>
-    ensures included { WhereTold (F.told files.old) (λ folder. Answers (λ _. work_of work.new) result (included left folder from.now line name.now (work_of work.old))) }
+    ensures included { Reads F.told F.faults F.asked files.old files.new
+        (λ folder. included left folder from.now line name.now (work_of work.old))
+        (λ _. work_of work.new) result }
     ensures whole { IsWhole (work_of work.old) → OnOk result (IsWhole (work_of work.new)) }
-    ensures read_fault { IsErrOf result PreError.ReadFault → Rose (F.faults files.old) (F.faults files.new) }
-    ensures same_folder { F.told files.new ≡ F.told files.old }
-    ensures never_falls { F.faults files.old ≤ F.faults files.new }
 {
     if left == 0 {
         return Err(refuse(alloc, Cause::IncludeDepth, from, line));
@@ -129,11 +135,12 @@ fn expand_line<F: Files>(
     files: &mut F,
     work: &mut Work,
 ) -> Result<(), PreError>
-    ensures line { WhereTold (F.told files.old) (λ folder. Answers (λ _. (stack_of groups.new, work_of work.new)) result (line_done (included left folder name.now) name.now line text.now (stack_of groups.old) (work_of work.old))) }
-    ensures whole { NoFeed text.now → IsWhole (work_of work.old) → OnOk result (IsWhole (work_of work.new)) }
-    ensures read_fault { IsErrOf result PreError.ReadFault → Rose (F.faults files.old) (F.faults files.new) }
-    ensures same_folder { F.told files.new ≡ F.told files.old }
-    ensures never_falls { F.faults files.old ≤ F.faults files.new }
+    ensures line { Reads F.told F.faults F.asked files.old files.new
+        (λ folder. line_done (included left folder name.now) name.now line text.now
+        (stack_of groups.old) (work_of work.old))
+        (λ _. (stack_of groups.new, work_of work.new)) result }
+    ensures whole { NoFeed text.now → IsWhole (work_of work.old)
+        → OnOk result (IsWhole (work_of work.new)) }
 {
     match read(alloc, name, line, text, groups, work)? {
         Some(included) => include(alloc, left, name, line, included, files, work),
@@ -152,11 +159,11 @@ fn expand_lines<F: Files>(
     work: &mut Work,
 ) -> Result<(), PreError>
     requires { length bytes.now ≤ size_limit }
-    ensures file { WhereTold (F.told files.old) (λ folder. Answers (λ _. work_of work.new) result (expand_file (included left folder name.now) name.now bytes.now (work_of work.old))) }
+    ensures file { Reads F.told F.faults F.asked files.old files.new
+        (λ folder. expand_file (included left folder name.now) name.now bytes.now
+        (work_of work.old))
+        (λ _. work_of work.new) result }
     ensures whole { IsWhole (work_of work.old) → OnOk result (IsWhole (work_of work.new)) }
-    ensures read_fault { IsErrOf result PreError.ReadFault → Rose (F.faults files.old) (F.faults files.new) }
-    ensures same_folder { F.told files.new ≡ F.told files.old }
-    ensures never_falls { F.faults files.old ≤ F.faults files.new }
 {
     let mut groups = Vec::new(alloc);
     let mut rest = bytes;
@@ -207,21 +214,23 @@ fn finish(alloc: Global, work: Work) -> Result<Expanded, AllocError>
     })
 }
 
-/// Expands the main file of this name: follows the directives of its lines, puts included files in their places and
-/// replaces names in its lines of text.
+/// Expands the main file of this name: follows the directives of its lines, puts included files in
+/// their places and replaces names in its lines of text.
 ///
-/// A name of a file that doesn't begin with `/` is joined to the directory of the file that includes it, and is
-/// fetched so. A refusal is the first in the order of the lines; a group that stays open is found at its file's end.
-/// `ReadFault` comes only where the files' count of faults went up.
+/// A name of a file that doesn't begin with `/` is joined to the directory of the file that
+/// includes it, and is fetched so. A refusal is the first in the order of the lines; a group that
+/// stays open is found at its file's end. Each file is asked for where its line is reached, once
+/// for each time that it is included.
 pub fn expand<F: Files>(alloc: Global, files: &mut F, main: &str) -> Result<Expanded, PreError>
-    ensures expansion { WhereTold (F.told files.old) (λ folder. Answers seen result (expanded folder main.now)) }
+    ensures expansion { WhereTold (F.told files.old)
+        (λ folder. Answers seen result (expanded folder main.now)) }
     ensures sound { IfOk result (λ e. IsSound (seen e)) }
-    ensures read_fault { IsErrOf result PreError.ReadFault → Rose (F.faults files.old) (F.faults files.new) }
-    ensures same_folder { F.told files.new ≡ F.told files.old }
-    ensures never_falls { F.faults files.old ≤ F.faults files.new }
+    ensures files { (names : List (List ℕ)) × AsksFor (F.told files.old) main.now names
+        × UsesFiles F.told F.faults F.asked files.old files.new names
+        (IsEarly result) (Fails result) }
 {
-    let bytes = fetch(alloc, main, main, 0, files)?;
     let mut work = begin(alloc, main)?;
+    let bytes = fetch(alloc, main, main, 0, files)?;
     expand_lines(alloc, DEPTHS, main, bytes.as_slice(), files, &mut work)?;
     let expanded = finish(alloc, work)?;
     Ok(expanded)

@@ -1,13 +1,13 @@
 //! Laws of the definitions.
 
-ghost use Rattle.sl_preproc.specs.Laws.{KeepsLines, HasOneExpansion};
+ghost use Rattle.sl_preproc.specs.Laws.{AsksForMainFirst, KeepsLines};
 
 /// The tree of a file's lines, flattened, gives the lines back.
 pub fn tree_keeps_lines()
     ensures { KeepsLines }
 {}
 
-/// A folder and the name of a main file have one expansion: one text with its places, or one refusal.
-pub fn one_expansion()
-    ensures { HasOneExpansion }
+/// The main file is the first that is asked for.
+pub fn main_is_first()
+    ensures { AsksForMainFirst }
 {}

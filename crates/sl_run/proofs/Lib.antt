@@ -3,3 +3,5 @@ pub mod RunLemmas
 pub mod SoundSections
 pub mod OneRun
 pub mod AlikeRuns
+pub mod SomeChoice
+pub mod SomeRun

@@ -1,79 +1,73 @@
--- The answer to a request, and what stands written at the end of a call.
-use Rattle.std.specs.Prelude.{◌≡◌, ℕ, ◌/◌, ◌^◌, ◌<◌, ◌≤◌, ◌⊎◌, List, [], length, map, take, Option, Some, None, IfSome, IsSome, MatchOption, Ok, Err, codes}
-use Rattle.std.specs.Io.KnownBytes.{Appends}
-use Rattle.sl_outside.specs.Folder.{Folder, size_limit}
+-- meaning: the answer to a request, and the files that it asks for.
+use Rattle.std.specs.Prelude.{◌≡◌, ℕ, ◌/◌, ◌≤◌, List, [], ◌∷◌, ◌++◌, map, Option, Some, None, Result, Ok, Err}
 use Rattle.sl_description.specs.Description.{Description}
 use Rattle.sl_description.specs.Fields.{Matches}
-use Rattle.sl_tool.specs.Lines.{refusal_line}
+use Rattle.sl_outside.specs.Causes.{Rose}
+use Rattle.sl_outside.specs.Folder.{Folder}
+use Rattle.sl_outside.specs.Uses.{Names, Asks, AsksFront}
+use Rattle.sl_preproc.specs.Asks.{AsksFor as AsksForText}
+use Rattle.sl_tool.specs.Endings.{ended}
 use Rattle.sl_tool.specs.Listing.{Lists}
-use Rattle.sl_tool.specs.Request.{Request, ListImage, RunImage, request_of, usage_line}
+use Rattle.sl_tool.specs.Problems.{refusal_text}
+use Rattle.sl_tool.specs.Request.{Command, ListImage, RunImage, Request}
 use Rattle.sl_tool.specs.Running.{IsRun}
-use Rattle.sl_tool.specs.Verdicts.{Expansion, Judges, Refuses, Accepts}
-use Rattle.sl_tool.specs.Images.{File, HasBytes}
-use Rattle.sl_preproc.specs.Expanded.{expanded}
-use Rattle.sl_preproc.specs.Refusals.{WhereTold}
-use Rattle.sl_preproc.specs.Sound.{IsSound}
+use Rattle.sl_tool.specs.Stage.{Stage, Surely, Then}
+use Rattle.sl_tool.specs.Stages.{Judges, Loads}
+use Rattle.sl_tool.specs.Values.{Tables, Input, Shown}
+use Rattle.sl_tool.specs.declared.refusal.Refusal.{Refusal}
+use Rattle.sl_tool.specs.declared.status.Ending.{Ending}
+use Rattle.sl_tool.specs.declared.status.Ending.TheVariants.{Done}
 use Rattle.sl_tool.specs.declared.status.Status.{Status}
-use Rattle.sl_tool.specs.declared.status.Status.TheVariants.{Done, Refused, Usage, ReadFault, WriteFault, NoMemory, Stopped}
+use Rattle.sl_tool.specs.declared.status.Status.TheVariants.{Refused}
+
+-- ---- the commands, a line each
+
+-- what is due of a command: an ending and a text
+abbrev pub Due : Type 1
+Due = Ending → List ℕ → Type 0
 
 abbrev pub mnemonics : Description → List (List ℕ)
 mnemonics d = map (λ c. c.mnemonic) d.constructors
 
--- The image has more bytes than a file may have, or than the memory has addresses.
-abbrev pub IsTooLarge : Description → List ℕ → Type 0
-IsTooLarge d bytes = (size_limit < length bytes) ⊎ (256 ^ d.address_bytes < length bytes)
+abbrev pub listing_of : Description → List ℕ → Due
+listing_of d image ending text = (ending ≡ Done) × Lists (Matches d) d.constructors (mnemonics d) d.address_bytes (d.token_bits / 8) image 0 text
 
--- The image has at most as many bytes as a file may have, and as the memory has addresses.
-pub record IsImage (d : Description) (image : File) (bytes : List ℕ) : Type 0 where
-  pub has : HasBytes image bytes
-  pub fits : length bytes ≤ 256 ^ d.address_bytes
+abbrev pub due_of : Command → Input → Due
+due_of ListImage i = listing_of i.tables.description i.image
+due_of (RunImage steps) i = IsRun i.tables.description i.image steps
 
--- The status and the text that answer a request, where its specification expands so and its image is this file.
-pub data Answers (r : Request) (spec : Expansion) (image : File) : Status → List ℕ → Type 0 where
-  refused : {text : List ℕ} → Judges r.spec spec (Refuses text) → Answers r spec image Refused text
-  no_image : {d : Description} → Judges r.spec spec (Accepts d) → image ≡ None → Answers r spec image Refused (refusal_line r.image 0 (codes "no such file"))
-  long_image : {d : Description} {bytes : List ℕ} → Judges r.spec spec (Accepts d) → image ≡ Some bytes → IsTooLarge d bytes
-      → Answers r spec image Refused (refusal_line r.image 0 (codes "too long"))
-  listed : {d : Description} {bytes text : List ℕ} → Judges r.spec spec (Accepts d) → IsImage d image bytes → r.command ≡ ListImage
-      → Lists (Matches d) d.constructors (mnemonics d) d.address_bytes (d.token_bits / 8) bytes 0 text → Answers r spec image Done text
-  ran : {d : Description} {bytes text : List ℕ} {steps : ℕ} {status : Status} → Judges r.spec spec (Accepts d) → IsImage d image bytes → r.command ≡ RunImage steps
-      → IsRun d bytes steps status text → Answers r spec image status text
+-- A command shows what is due, and refuses nothing.
+abbrev pub Shows : Command → Stage Refusal Input Shown
+Shows command i (Ok s) = due_of command i s.ending s.text
+Shows command i (Err x) = ⊥
 
--- ---- the call
+-- ---- requests
 
--- The name holds this file, where the folder is told.
-abbrev pub IsTold : Option Folder → List ℕ → File → Type 0
-IsTold told name file = IfSome told (λ folder. folder name ≡ file)
+-- What becomes of a request: an ending and a text, or a refusal.
+abbrev pub Answers : Option Folder → Request → Result Shown Refusal → Type 0
+Answers told r = Then (Judges told) (Then (Loads told r.image) (Shows r.command)) r.spec
 
--- A text has at most as many bytes as a file may have, and each of its lines has a place in one of its files.
-abbrev pub IsSoundExpansion : Expansion → Type 0
-IsSoundExpansion (Ok t) = IsSound t
-IsSoundExpansion (Err r) = Unit {0}
+abbrev pub text_of : Result Shown Refusal → List ℕ
+text_of (Ok s) = s.text
+text_of (Err x) = refusal_text x
 
--- The main file of this name expands so, where the folder is told.
-pub record Expands (told : Option Folder) (name : List ℕ) (x : Expansion) : Type 0 where
-  pub is : WhereTold told (λ folder. expanded folder name ≡ x)
-  pub sound : IsSoundExpansion x
+abbrev pub status_of : Result Shown Refusal → Status
+status_of (Ok s) = ended s.ending
+status_of (Err x) = Refused
 
--- The status and the text that the words mean.
-abbrev pub Means : List (List ℕ) → Option Folder → Status → List ℕ → Type 0
-Means words told status text = MatchOption (request_of words) ((status ≡ Usage) × (text ≡ usage_line))
-    (λ r. (spec : Expansion) × (image : File) × Expands told r.spec spec × IsTold told r.image image × Answers r spec image status text)
+-- ---- files
 
--- The whole text that the words mean with this status was written.
-abbrev pub WritesWhole : List (List ℕ) → Option Folder → Option (List ℕ) → Option (List ℕ) → Status → Type 0
-WritesWhole words told old new status = (text : List ℕ) × Means words told status text × Appends old new text
+-- The names that a request asks for: those of the specification's text, and that of the image where the specification isn't refused.
+pub data AsksFor (told : Option Folder) (r : Request) : List (List ℕ) → Type 0 where
+  refused : {names : List (List ℕ)} {x : Refusal} → AsksForText told r.spec names → Judges told r.spec (Err x) → AsksFor told r names
+  accepted : {names : List (List ℕ)} {b : Tables} → AsksForText told r.spec names → Judges told r.spec (Ok b) → AsksFor told r (names ++ r.image ∷ [])
 
--- Some front of a text that the words mean was written.
-abbrev pub WritesFront : List (List ℕ) → Option Folder → Option (List ℕ) → Option (List ℕ) → Type 0
-WritesFront words told old new = (status : Status) × (text : List ℕ) × (count : ℕ) × Means words told status text × Appends old new (take count text)
-
--- What was written at each status. A refusal for want of memory may have come before the text was whole, and then nothing was.
-abbrev pub Ends : List (List ℕ) → Option Folder → Option (List ℕ) → Option (List ℕ) → Status → Type 0
-Ends words told old new Done = WritesWhole words told old new Done
-Ends words told old new Refused = WritesWhole words told old new Refused
-Ends words told old new Usage = WritesWhole words told old new Usage
-Ends words told old new ReadFault = IsSome (request_of words) × Appends old new []
-Ends words told old new WriteFault = WritesFront words told old new
-Ends words told old new NoMemory = Appends old new [] ⊎ WritesFront words told old new
-Ends words told old new Stopped = WritesWhole words told old new Stopped
+-- A call asks for the names of the request: for all of them, or, where it stops early, for the first of them. It fails only where
+-- the count of faults rose. The folder stays as it is.
+pub record UsesFilesFor {F : Type 0} (told : F → Option Folder) (faults : F → ℕ) (asked : F → Names) (r : Request) (old new : F)
+    (early fails : Type 0) : Type 0 where
+  pub same_folder : told new ≡ told old
+  pub never_falls : faults old ≤ faults new
+  pub failed : fails → Rose (faults old) (faults new)
+  pub asks_front : Surely ((names : List (List ℕ)) × AsksFor (told old) r names × AsksFront (asked old) (asked new) names)
+  pub asks_all : (early → ⊥) → (names : List (List ℕ)) × AsksFor (told old) r names × Asks (asked old) (asked new) names

@@ -1,16 +1,16 @@
--- What was fetched, against the folder that is told.
-use Rattle.std.specs.Prelude.{ℕ, ◌<◌, List, length, Option, Some, None}
-use Rattle.sl_outside.specs.Folder.{Folder, size_limit}
-use Rattle.sl_tool.specs.Answers.{IsTold}
-use Rattle.sl_tool.specs.Images.{HasBytes}
-use Rattle.sl_tool.specs.declared.files.Fetched.{Fetched}
-use Rattle.sl_tool.specs.declared.files.Fetched.TheVariants.{Bytes, Absent, TooLong}
+-- step: what was fetched, against the folder that is told.
+use Rattle.std.specs.Prelude.{◌≡◌, ℕ, ◌≤◌, ◌⊎◌, List, Vec, length, Option, Result, Ok, Err, ⊤}
+use Rattle.std.specs.Global.{Global}
+use Rattle.sl_outside.specs.Folder.{Folder, Holds, Lacks, HoldsTooLong, size_limit}
+use Rattle.sl_tool.specs.Problems.{refusal}
+use Rattle.sl_tool.specs.declared.halt.Halt.{Halt}
+use Rattle.sl_tool.specs.declared.halt.Halt.TheVariants.{Refused, ReadFault, WriteFault, NoMemory}
+use Rattle.sl_tool.specs.declared.problem.Problem.TheVariants.{NoFile, TooLong}
 
--- the file has more bytes than a file may have
-abbrev pub IsOverlong : Option Folder → List ℕ → Type 0
-IsOverlong told name = (bytes : List ℕ) × IsTold told name (Some bytes) × (size_limit < length bytes)
-
-abbrev pub IsFetched : Option Folder → List ℕ → Fetched → Type 0
-IsFetched told name (Bytes v) = IsTold told name (Some v.items) × HasBytes (Some v.items) v.items
-IsFetched told name Absent = IsTold told name None
-IsFetched told name TooLong = IsOverlong told name
+-- The bytes of the file, or why it is refused.
+abbrev pub IsFetched : Option Folder → List ℕ → Result (Vec ℕ Global) Halt → Type 0
+IsFetched told name (Ok v) = Holds told name v.items × (length v.items ≤ size_limit)
+IsFetched told name (Err (Refused x)) = (Lacks told name × (x ≡ refusal name 0 NoFile)) ⊎ (HoldsTooLong told name × (x ≡ refusal name 0 TooLong))
+IsFetched told name (Err ReadFault) = ⊤
+IsFetched told name (Err WriteFault) = ⊥
+IsFetched told name (Err NoMemory) = ⊤

@@ -1,4 +1,4 @@
--- Lines of output.
+-- meaning: lines of output.
 use Rattle.std.specs.Prelude.{ℕ, ◌-◌, List, ◌++◌, drop, codes}
 use Rattle.std.specs.Int.{w64, w128, to_be_bytes}
 use Rattle.std.specs.Fmt.{decimal}
@@ -11,16 +11,13 @@ address_text bytes address = encode_lower (drop (8 - bytes) (to_be_bytes w64 add
 
 -- a line of a listing: the address, the bytes that are shown, and the text
 abbrev pub listed_line : ℕ → ℕ → List ℕ → List ℕ → List ℕ
-listed_line address_bytes address shown text = address_text address_bytes address ++ (codes ": " ++ (encode_lower shown ++ (codes " " ++ (text ++ codes "\n"))))
+listed_line address_bytes address shown text =
+    address_text address_bytes address ++ (codes ": " ++ (encode_lower shown ++ (codes " " ++ (text ++ codes "\n"))))
 
 -- the sixteen bytes of a point, and its context
 abbrev pub point_text : Point → List ℕ
 point_text p = encode_lower (to_be_bytes w128 p.bytes) ++ (codes " " ++ encode_lower (to_be_bytes w64 p.context))
 
--- what stands in a line of a file
+-- a file, and a line of it
 abbrev pub place_text : List ℕ → ℕ → List ℕ
 place_text file line = file ++ (codes ":" ++ decimal line)
-
--- a refusal with its place
-abbrev pub refusal_line : List ℕ → ℕ → List ℕ → List ℕ
-refusal_line file line text = place_text file line ++ (codes ": " ++ (text ++ codes "\n"))

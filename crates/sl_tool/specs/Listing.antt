@@ -1,4 +1,4 @@
--- The listing of an image.
+-- meaning: the listing of an image.
 use Rattle.std.specs.Prelude.{◌≡◌, ℕ, ◌+◌, ◌<◌, ◌≤◌, List, [], ◌++◌, length, take, drop, replicate, slice_get, Some, codes}
 use Rattle.std.specs.Int.{w128, from_be_bytes}
 use Rattle.sl_cube.specs.declared.Point.{Point}

@@ -1,4 +1,4 @@
--- A machine before its first step, and what is told of a run.
+-- step: a machine before its first step, and what is told of a run.
 use Rattle.std.specs.Prelude.{◌≡◌, ℕ, List, ◌++◌}
 use Rattle.sl_word.specs.declared.state.State.{State}
 use Rattle.sl_word.specs.Bytes.{address_sizes, byte_at, endian_of}

@@ -1,10 +1,33 @@
--- Places of tokens.
-use Rattle.std.specs.Prelude.{◌≡◌, ℕ, List}
+-- meaning: the places of bytes and tokens, and refusals there.
+use Rattle.std.specs.Prelude.{ℕ, List, [], length, Option, Some, None, slice_get, slice_index_or}
 use Rattle.sl_lex.specs.Reading.{Token}
-use Rattle.sl_preproc.specs.Expanded.{Text}
-use Rattle.sl_tool.specs.Verdicts.{file_at, line_at, start_of}
+use Rattle.sl_preproc.specs.Expanded.{Text, place_at}
+use Rattle.sl_tool.specs.Problems.{refusal}
+use Rattle.sl_tool.specs.Values.{Tokens}
+use Rattle.sl_tool.specs.declared.place.Place.{Place}
+use Rattle.sl_tool.specs.declared.problem.Problem.{Problem}
+use Rattle.sl_tool.specs.declared.refusal.Refusal.{Refusal}
 
--- The token of this index begins in this file and line.
-pub record IsPlaceOf (t : Text) (tokens : List Token) (index : ℕ) (file : List ℕ) (line : ℕ) : Type 0 where
-  pub file_is : file ≡ file_at t (start_of t tokens index)
-  pub line_is : line ≡ line_at t (start_of t tokens index)
+-- the file and the line from which the line of this byte comes
+abbrev pub file_at : Text → ℕ → List ℕ
+file_at t byte = slice_index_or t.files (place_at t byte).file []
+
+abbrev pub line_at : Text → ℕ → ℕ
+line_at t byte = (place_at t byte).line
+
+abbrev pub place_of_byte : Text → ℕ → Place
+place_of_byte t byte = record { file = file_at t byte; line = line_at t byte }
+
+abbrev pub from_or : ℕ → Option Token → ℕ
+from_or end None = end
+from_or end (Some t) = t.from
+
+-- the byte at which the token of this index begins; after the last one it is the text's end
+abbrev pub start_of : Tokens → ℕ → ℕ
+start_of k index = from_or (length k.source.text.bytes) (slice_get k.tokens index)
+
+abbrev pub place_of_token : Tokens → ℕ → Place
+place_of_token k index = place_of_byte k.source.text (start_of k index)
+
+abbrev pub refusal_at : Place → Problem → Refusal
+refusal_at place problem = record { place = place; problem = problem }

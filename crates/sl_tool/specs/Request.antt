@@ -1,4 +1,4 @@
--- What the words of the command line ask for.
+-- meaning: what the words of the command line ask for.
 use Rattle.std.specs.Prelude.{ℕ, ◌^◌, List, [], ◌∷◌, length, drop, Option, Some, None, Bool, true, false, ◌&&◌, ◌==◌, nat_eq, nat_lt, not, codes, if◌then◌else◌}
 use Rattle.std.specs.Char.{digit_value}
 use Rattle.std.specs.List.{list_all, starts_with}

@@ -1,4 +1,4 @@
--- A request as the program keeps it.
+-- view: a request as the program keeps it.
 use Rattle.sl_tool.specs.Request as spec
 use Rattle.sl_tool.specs.declared.request.Command.{Command}
 use Rattle.sl_tool.specs.declared.request.Command.TheVariants.{List, Run}

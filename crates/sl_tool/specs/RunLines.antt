@@ -1,4 +1,4 @@
--- The lines that tell of a run.
+-- meaning: the lines that tell of a run.
 use Rattle.std.specs.Prelude.{◌≡◌, ◌≢◌, ℕ, ◌+◌, ◌-◌, ◌<◌, ◌≤◌, Bool, true, false, List, [], ◌∷◌, ◌++◌, drop, codes}
 use Rattle.std.specs.Int.{w128, to_be_bytes}
 use Rattle.std.specs.Fmt.{decimal}

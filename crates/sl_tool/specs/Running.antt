@@ -1,31 +1,27 @@
--- The run of an image.
-use Rattle.std.specs.Prelude.{◌≡◌, ◌≢◌, ℕ, ◌/◌, ◌^◌, Bool, true, false, List, Some, ◌++◌, slice_index}
+-- meaning: the run of an image.
+use Rattle.std.specs.Prelude.{◌≡◌, ◌≢◌, ℕ, ◌/◌, ◌^◌, Bool, List, Some, ◌++◌, slice_index}
 use Rattle.sl_description.specs.Description.{Description}
 use Rattle.sl_description.specs.Fields.{Matches}
 use Rattle.sl_description.specs.Sections.{Resolution, Sum, resolution_of}
 use Rattle.sl_run.specs.Machine.{Bytes}
 use Rattle.sl_run.specs.Runs.{Runs}
 use Rattle.sl_tool.specs.RunLines.{TellsChanges, counter_line, fault_line, register_lines, steps_line}
-use Rattle.sl_tool.specs.declared.status.Status.{Status}
-use Rattle.sl_tool.specs.declared.status.Status.TheVariants.{Done, Stopped}
+use Rattle.sl_tool.specs.Endings.{ending_of}
+use Rattle.sl_tool.specs.declared.status.Ending.{Ending}
 
 -- The memory has the image from its first byte on; all other bytes are 0.
 pub record HasImage (image : List ℕ) (bytes : Bytes) : Type 0 where
   pub memory : (offset : ℕ) → bytes 0 offset ≡ slice_index image offset
   pub others : (space offset : ℕ) → space ≢ 0 → bytes space offset ≡ 0
 
-abbrev pub status_of : Bool → Status
-status_of true = Stopped
-status_of false = Done
-
 -- At most so many steps from these bytes, the first at address 0.
 abbrev pub RunsFrom : Description → List (List Sum) → ℕ → Bytes → ℕ → Bytes → ℕ → Bool → Type 0
 RunsFrom d sections steps start ran end counter has_stopped =
     Runs (Matches d) d.constructors sections d.address_bytes (d.token_bits / 8) d.endian steps start 0 ran end counter has_stopped
 
--- The status and the text of a run of at most so many steps: how many instructions ran, where the machine would go on, what
+-- The ending and the text of a run of at most so many steps: how many instructions ran, where the machine would go on, what
 -- the registers hold, the bytes of memory that have changed, and the fault, if there was one.
-pub record IsRun (d : Description) (image : List ℕ) (steps : ℕ) (status : Status) (text : List ℕ) : Type 0 where
+pub record IsRun (d : Description) (image : List ℕ) (steps : ℕ) (ending : Ending) (text : List ℕ) : Type 0 where
   pub meaning : Resolution
   pub start : Bytes
   pub end : Bytes
@@ -37,5 +33,5 @@ pub record IsRun (d : Description) (image : List ℕ) (steps : ℕ) (status : St
   pub opens : HasImage image start
   pub runs : RunsFrom d meaning.sections steps start ran end counter has_stopped
   pub changed : TellsChanges d.space d.address_bytes (256 ^ d.address_bytes) (start 0) (end 0) 0 changes
-  pub status_is : status ≡ status_of has_stopped
+  pub ending_is : ending ≡ ending_of has_stopped
   pub text_is : text ≡ steps_line ran ++ (counter_line d.address_bytes counter ++ (register_lines d.endian end meaning.registers ++ (changes ++ fault_line has_stopped)))

@@ -1,4 +1,4 @@
--- What a listing shows at a point.
+-- step: what a listing shows at a point.
 use Rattle.std.specs.Prelude.{◌≡◌, ℕ, ◌⊎◌, List, Some, length, map, slice_get, codes}
 use Rattle.sl_cube.specs.declared.Cube.{Cube}
 use Rattle.sl_cube.specs.declared.Point.{Point}

@@ -1,4 +1,4 @@
--- The changes of a machine's bytes as they are told.
+-- step: the changes of a machine's bytes as they are told.
 use Rattle.std.specs.Prelude.{ℕ, List, [], ◌∷◌, ◌++◌, ◌==◌, if◌then◌else◌}
 use Rattle.sl_word.specs.declared.state.Change.{Change}
 use Rattle.sl_tool.specs.RunLines.{change_line}

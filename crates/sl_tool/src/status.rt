@@ -1,4 +1,7 @@
-//! How a call of the tool ends.
+//! How a command and a call end.
+
+ghost use Rattle.std.specs.Prelude.{◌≡◌};
+ghost use Rattle.sl_tool.specs.Endings.{ended, ending_of};
 
 /// How a call ended. The program's exit status is the variant's place in this order: 0 for `Done`,
 /// 1 for `Refused`, and so on.
@@ -18,4 +21,33 @@ pub enum Status {
     NoMemory,
     /// A run met a fault: no constructor matches where it would go on.
     Stopped,
+}
+
+/// How a command ended that wrote its whole text.
+#[derive(Clone, Copy, Debug, PartialEq, Eq)]
+pub enum Ending {
+    Done,
+    /// A run met a fault.
+    Stopped,
+}
+
+/// The status of an ending.
+pub fn ended(ending: Ending) -> Status
+    ensures { result ≡ ended ending }
+{
+    match ending {
+        Ending::Done => Status::Done,
+        Ending::Stopped => Status::Stopped,
+    }
+}
+
+/// The ending of a run.
+pub fn ending_of(has_stopped: bool) -> Ending
+    ensures { result ≡ ending_of has_stopped }
+{
+    if has_stopped {
+        Ending::Stopped
+    } else {
+        Ending::Done
+    }
 }

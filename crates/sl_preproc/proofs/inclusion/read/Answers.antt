@@ -9,4 +9,4 @@ use Rattle.sl_preproc.proofs.inclusion.read.Goals as goal
 pub returns-in-Ok-clause-whole : goal.returns-in-Ok-clause-whole
 returns-in-Ok-clause-whole c = λ free w.
     read_whole c.args.name.now c.args.line c.args.text.now (stack_of c.args.groups.now) (work_of c.args.work.now) _ _ _
-    (ap (λ (r : Step). on_line c.args.name.now c.args.line r) c.in-Ok.ensures) free w
+    (ap (λ (r : Step). (on_line c.args.name.now c.args.line r).result) c.in-Ok.ensures) free w

@@ -1,0 +1,43 @@
+-- meaning: what stands written at the end of a call, and the files that it asked for.
+use Rattle.std.specs.Prelude.{◌≡◌, ℕ, ◌⊎◌, List, [], take, Option, Some, None, Result, IsSome}
+use Rattle.std.specs.Io.KnownBytes.{Appends}
+use Rattle.sl_outside.specs.Folder.{Folder}
+use Rattle.sl_outside.specs.Uses.{Names, UsesFiles}
+use Rattle.sl_tool.specs.Answers.{Answers, UsesFilesFor, status_of, text_of}
+use Rattle.sl_tool.specs.Request.{Request, usage_line}
+use Rattle.sl_tool.specs.Values.{Shown}
+use Rattle.sl_tool.specs.declared.refusal.Refusal.{Refusal}
+use Rattle.sl_tool.specs.declared.status.Status.{Status}
+use Rattle.sl_tool.specs.declared.status.Status.TheVariants.{Done, Refused, Usage, ReadFault, WriteFault, NoMemory, Stopped}
+
+-- The status and the text that are due of a request, or of words that are none.
+pub data Means (told : Option Folder) : Option Request → Status → List ℕ → Type 0 where
+  usage : Means told None Usage usage_line
+  answer : {r : Request} {x : Result Shown Refusal} → Answers told r x → Means told (Some r) (status_of x) (text_of x)
+
+-- The whole text that is due with this status was written.
+abbrev pub WritesWhole : Option Folder → Option Request → Option (List ℕ) → Option (List ℕ) → Status → Type 0
+WritesWhole told r old new status = (text : List ℕ) × Means told r status text × Appends old new text
+
+-- The first bytes of a text that is due were written.
+abbrev pub WritesFirst : Option Folder → Option Request → Option (List ℕ) → Option (List ℕ) → Type 0
+WritesFirst told r old new = (status : Status) × (text : List ℕ) × (count : ℕ) × Means told r status text × Appends old new (take count text)
+
+-- What was written at each status.
+abbrev pub Ends : Option Folder → Option Request → Option (List ℕ) → Option (List ℕ) → Status → Type 0
+Ends told r old new Done = WritesWhole told r old new Done
+Ends told r old new Refused = WritesWhole told r old new Refused
+Ends told r old new Usage = WritesWhole told r old new Usage
+Ends told r old new ReadFault = IsSome r × Appends old new []
+Ends told r old new WriteFault = WritesFirst told r old new
+Ends told r old new NoMemory = Appends old new [] ⊎ WritesFirst told r old new
+Ends told r old new Stopped = WritesWhole told r old new Stopped
+
+-- The call stopped before its end.
+abbrev pub IsEarlyStatus : Status → Type 0
+IsEarlyStatus status = (status ≡ ReadFault) ⊎ (status ≡ NoMemory)
+
+-- What the call does to the files: without a request it asks for none.
+abbrev pub RunsFor : {F : Type 0} → (F → Option Folder) → (F → ℕ) → (F → Names) → Option Request → F → F → Status → Type 0
+RunsFor told faults asked None old new status = UsesFiles told faults asked old new [] ⊥ (status ≡ ReadFault)
+RunsFor told faults asked (Some r) old new status = UsesFilesFor told faults asked r old new (IsEarlyStatus status) (status ≡ ReadFault)

@@ -1,0 +1,78 @@
+-- meaning: what a part of the program promises of a stage.
+use Rattle.std.specs.Prelude.{ℕ, ◌⊎◌, List, [], take, Option, Result, Ok, Err, ⊤}
+use Rattle.std.specs.Io.KnownBytes.{Appends}
+use Rattle.sl_tool.specs.Answers.{Due, text_of}
+use Rattle.sl_tool.specs.Values.{Shown, shown}
+use Rattle.sl_tool.specs.declared.halt.Halt.{Halt}
+use Rattle.sl_tool.specs.declared.halt.Halt.TheVariants.{Refused, ReadFault, WriteFault, NoMemory}
+use Rattle.sl_tool.specs.declared.refusal.Refusal.{Refusal}
+use Rattle.sl_tool.specs.declared.status.Ending.{Ending}
+
+-- ---- stages
+
+-- A value as the stage gives it, or its refusal; it neither reads nor writes.
+abbrev pub Gives : {T B : Type 0} → (Result B Refusal → Type 0) → (T → B) → Result T Halt → Type 0
+Gives S view (Ok v) = S (Ok (view v))
+Gives S view (Err (Refused x)) = S (Err x)
+Gives S view (Err ReadFault) = ⊥
+Gives S view (Err WriteFault) = ⊥
+Gives S view (Err NoMemory) = ⊤
+
+-- The same of a stage that reads files.
+abbrev pub Obtains : {T B : Type 0} → (Result B Refusal → Type 0) → (T → B) → Result T Halt → Type 0
+Obtains S view (Ok v) = S (Ok (view v))
+Obtains S view (Err (Refused x)) = S (Err x)
+Obtains S view (Err ReadFault) = ⊤
+Obtains S view (Err WriteFault) = ⊥
+Obtains S view (Err NoMemory) = ⊤
+
+-- It stopped before its end: a file could not be read, or memory ran out.
+abbrev pub IsEarly : {T : Type 0} → Result T Halt → Type 0
+IsEarly (Ok v) = ⊥
+IsEarly (Err (Refused x)) = ⊥
+IsEarly (Err ReadFault) = ⊤
+IsEarly (Err WriteFault) = ⊥
+IsEarly (Err NoMemory) = ⊤
+
+-- A file could not be read.
+abbrev pub FailsToRead : {T : Type 0} → Result T Halt → Type 0
+FailsToRead (Ok v) = ⊥
+FailsToRead (Err (Refused x)) = ⊥
+FailsToRead (Err ReadFault) = ⊤
+FailsToRead (Err WriteFault) = ⊥
+FailsToRead (Err NoMemory) = ⊥
+
+-- The output could not be written.
+abbrev pub FailsToWrite : {T : Type 0} → Result T Halt → Type 0
+FailsToWrite (Ok v) = ⊥
+FailsToWrite (Err (Refused x)) = ⊥
+FailsToWrite (Err ReadFault) = ⊥
+FailsToWrite (Err WriteFault) = ⊤
+FailsToWrite (Err NoMemory) = ⊥
+
+-- ---- what was written
+
+-- The first bytes of a text that is due were written.
+abbrev pub StreamsFront : Due → Option (List ℕ) → Option (List ℕ) → Type 0
+StreamsFront due old new = (ending : Ending) × (text : List ℕ) × (count : ℕ) × due ending text × Appends old new (take count text)
+
+-- What a command wrote of what is due: the whole text, or, where the writing failed or memory ran out, the first bytes of it.
+abbrev pub Streams : Due → Option (List ℕ) → Option (List ℕ) → Result Ending Halt → Type 0
+Streams due old new (Ok ending) = (text : List ℕ) × due ending text × Appends old new text
+Streams due old new (Err (Refused x)) = ⊥
+Streams due old new (Err ReadFault) = ⊥
+Streams due old new (Err WriteFault) = StreamsFront due old new
+Streams due old new (Err NoMemory) = Appends old new [] ⊎ StreamsFront due old new
+
+-- The first bytes of the text of some result were written.
+abbrev pub WritesFront : (Result Shown Refusal → Type 0) → Option (List ℕ) → Option (List ℕ) → Type 0
+WritesFront S old new = (r : Result Shown Refusal) × (count : ℕ) × S r × Appends old new (take count (text_of r))
+
+-- What was written of a result of the stage: the whole text at an ending, nothing at a refusal and where a file could not
+-- be read, and otherwise the first bytes.
+abbrev pub Writes : (Result Shown Refusal → Type 0) → Option (List ℕ) → Option (List ℕ) → Result Ending Halt → Type 0
+Writes S old new (Ok ending) = (text : List ℕ) × S (Ok (shown ending text)) × Appends old new text
+Writes S old new (Err (Refused x)) = S (Err x) × Appends old new []
+Writes S old new (Err ReadFault) = Appends old new []
+Writes S old new (Err WriteFault) = WritesFront S old new
+Writes S old new (Err NoMemory) = Appends old new [] ⊎ WritesFront S old new

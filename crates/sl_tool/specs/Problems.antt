@@ -1,0 +1,77 @@
+-- meaning: the words of each problem, and the text of a refusal.
+use Rattle.std.specs.Prelude.{ℕ, List, [], ◌++◌, codes}
+use Rattle.sl_ast.specs.declared.symbols.Feature.{Feature}
+use Rattle.sl_ast.specs.declared.symbols.Feature.TheVariants as feature
+use Rattle.sl_cube.specs.declared.Point.{Point}
+use Rattle.sl_sets.specs.declared.conflicts.Apart.{Apart}
+use Rattle.sl_sets.specs.declared.conflicts.Apart.TheVariants.{Same, Two}
+use Rattle.sl_sets.specs.declared.conflicts.Report.{Report}
+use Rattle.sl_tool.specs.Lines.{place_text, point_text}
+use Rattle.sl_tool.specs.declared.problem.Problem.{Problem}
+use Rattle.sl_tool.specs.declared.problem.Problem.TheVariants.{NoFile, TooLong, IncludeDepth, UndefinedName, ReplaceDepth, BadDirective, Unbalanced, BadByte, OpenString, WideInteger, Syntax, Nesting, NotSupported, NotYet, Ambiguous}
+use Rattle.sl_tool.specs.declared.refusal.Refusal.{Refusal}
+use Rattle.sl_tool.specs.declared.place.Place.{Place}
+
+-- ---- words
+
+-- the words of a form that the language leaves out
+abbrev pub feature_words : Feature → List ℕ
+feature_words feature.Crossbuild = codes "crossbuild"
+feature_words feature.DelaySlot = codes "delay slot"
+feature_words feature.FloatingPoint = codes "floating point"
+feature_words feature.ConstantPool = codes "constant pool"
+feature_words feature.NewObject = codes "new object"
+feature_words feature.AddressOf = codes "address of"
+feature_words feature.LeadingEllipsis = codes "leading ellipsis"
+feature_words feature.NameInConstraint = codes "name in constraint"
+feature_words feature.WordSize = codes "word size"
+feature_words feature.InstNext2 = codes "inst_next2"
+feature_words feature.WideValue = codes "wide value"
+
+-- what is printed of a problem behind its place
+abbrev pub words_of : Problem → List ℕ
+words_of NoFile = codes "no such file"
+words_of TooLong = codes "too long"
+words_of IncludeDepth = codes "includes too deep"
+words_of UndefinedName = codes "undefined name"
+words_of ReplaceDepth = codes "replacement too deep"
+words_of BadDirective = codes "bad directive"
+words_of Unbalanced = codes "unbalanced condition"
+words_of BadByte = codes "bad byte"
+words_of OpenString = codes "open string"
+words_of WideInteger = codes "wide integer"
+words_of Syntax = codes "syntax error"
+words_of Nesting = codes "nesting too deep"
+words_of (NotSupported form) = codes "not supported: " ++ feature_words form
+words_of NotYet = codes "not yet"
+words_of (Ambiguous conflict) = codes "ambiguous in instruction with " ++ place_text conflict.other.file conflict.other.line
+
+-- ---- the report of a conflict
+
+-- a point after its name
+abbrev pub point_line : List ℕ → Point → List ℕ
+point_line name p = name ++ (codes " " ++ (point_text p ++ codes "\n"))
+
+-- that the two sets are the same, or the points that each has alone
+abbrev pub apart_lines : Apart → List ℕ
+apart_lines Same = codes "same\n"
+apart_lines (Two only_first only_second) = point_line (codes "first") only_first ++ point_line (codes "second") only_second
+
+-- the least point of both, and how they differ
+abbrev pub report_lines : Report → List ℕ
+report_lines told = point_line (codes "both") told.both ++ apart_lines told.apart
+
+-- ---- refusals
+
+-- what is printed after the line of a problem
+abbrev pub lines_after : Problem → List ℕ
+lines_after (Ambiguous conflict) = report_lines conflict.report
+lines_after problem = []
+
+-- the place, the problem's words, and what is printed after that line
+abbrev pub refusal_text : Refusal → List ℕ
+refusal_text x = place_text x.place.file x.place.line ++ (codes ": " ++ (words_of x.problem ++ (codes "\n" ++ lines_after x.problem)))
+
+-- the refusal of a line of a file; line 0 is the whole file
+abbrev pub refusal : List ℕ → ℕ → Problem → Refusal
+refusal file line problem = record { place = record { file = file; line = line }; problem = problem }

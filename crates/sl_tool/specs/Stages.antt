@@ -1,0 +1,131 @@
+-- meaning: the stages from the name of a specification to what a command works on.
+use Rattle.std.specs.Prelude.{◌≡◌, ℕ, ◌^◌, ◌<◌, ◌≤◌, List, length, Option, Some, None, Result, Ok, Err, ⊤}
+use Rattle.sl_ast.specs.Spelling.{spell}
+use Rattle.sl_ast.specs.Unfolding.{firsts}
+use Rattle.sl_ast.specs.Validity.{AreItems}
+use Rattle.sl_description.specs.Compiles.{AreSound}
+use Rattle.sl_description.specs.Description.{Description}
+use Rattle.sl_description.specs.Fields.{Matches}
+use Rattle.sl_directive.specs.declared.fault.Cause.{Cause}
+use Rattle.sl_directive.specs.declared.fault.Cause.TheVariants as cause
+use Rattle.sl_grammar.specs.Faults.{Reason, no_spelling, too_deep, left_out}
+use Rattle.sl_lex.specs.Faults.{Fault}
+use Rattle.sl_lex.specs.Faults.Fault as fault
+use Rattle.sl_lex.specs.Reading.{ReadsAs, HasBadPlace}
+use Rattle.sl_outside.specs.Folder.{Folder, Holds, Lacks, HoldsTooLong, size_limit}
+use Rattle.sl_parse.specs.Parsing.{TellsFault}
+use Rattle.sl_preproc.specs.Expanded.{Text, expanded}
+use Rattle.sl_preproc.specs.Expansion as preproc
+use Rattle.sl_preproc.specs.Sound.{IsSound}
+use Rattle.sl_sets.specs.Reports.{IsReport}
+use Rattle.sl_sets.specs.Sets.{IsFirstConflict, HasNoConflict}
+use Rattle.sl_sets.specs.declared.conflicts.Report.{Report}
+use Rattle.sl_symbols.specs.Symbols.{symbols_of}
+use Rattle.sl_tool.specs.Places.{place_of_byte, place_of_token, refusal_at}
+use Rattle.sl_tool.specs.Problems.{refusal}
+use Rattle.sl_tool.specs.Stage.{Stage, Then}
+use Rattle.sl_tool.specs.Values.{Source, Tokens, Tree, Tables, Input, source}
+use Rattle.sl_tool.specs.declared.problem.Problem.{Problem}
+use Rattle.sl_tool.specs.declared.problem.Problem.TheVariants.{NoFile, TooLong, IncludeDepth, UndefinedName, ReplaceDepth, BadDirective, Unbalanced, BadByte, OpenString, WideInteger, Syntax, Nesting, NotSupported, NotYet, Ambiguous}
+use Rattle.sl_tool.specs.declared.refusal.Refusal.{Refusal}
+
+-- ---- 1: the name of the main file to its expanded text
+
+abbrev pub problem_of_cause : Cause → Problem
+problem_of_cause cause.NoFile = NoFile
+problem_of_cause cause.TooLong = TooLong
+problem_of_cause cause.IncludeDepth = IncludeDepth
+problem_of_cause cause.UndefinedName = UndefinedName
+problem_of_cause cause.ReplaceDepth = ReplaceDepth
+problem_of_cause cause.BadDirective = BadDirective
+problem_of_cause cause.Unbalanced = Unbalanced
+
+abbrev pub refused_expansion : preproc.Refusal → Refusal
+refused_expansion r = refusal r.file r.line (problem_of_cause r.cause)
+
+abbrev pub source_of : List ℕ → Result Text preproc.Refusal → Result Source Refusal
+source_of name (Ok t) = Ok (source name t)
+source_of name (Err r) = Err (refused_expansion r)
+
+-- Where the folder is told, the expansion is that of the definition; where it isn't, it is some sound text or some refusal.
+abbrev pub Expands : Option Folder → Stage Refusal (List ℕ) Source
+Expands (Some folder) name r = r ≡ source_of name (expanded folder name)
+Expands None name (Ok s) = (s.name ≡ name) × IsSound s.text
+Expands None name (Err x) = ⊤
+
+-- ---- 2: the text to its tokens
+
+abbrev pub problem_of_fault : Fault → Problem
+problem_of_fault fault.NoLexeme = BadByte
+problem_of_fault fault.OpenQuote = OpenString
+problem_of_fault fault.TooWide = WideInteger
+
+-- The text reads as these tokens, or has a first bad place.
+abbrev pub Tokenizes : Stage Refusal Source Tokens
+Tokenizes s (Ok k) = (k.source ≡ s) × ReadsAs s.text.bytes k.tokens
+Tokenizes s (Err x) = (bad : Fault) × (place : ℕ) × HasBadPlace s.text.bytes bad place
+    × (x ≡ refusal_at (place_of_byte s.text place) (problem_of_fault bad))
+
+-- ---- 3: the tokens to the tree that they spell
+
+abbrev pub problem_of_reason : Reason → Problem
+problem_of_reason no_spelling = Syntax
+problem_of_reason too_deep = Nesting
+problem_of_reason (left_out form) = NotSupported form
+
+-- The tokens spell this tree, which has no fault, or they have a first fault.
+abbrev pub Parses : Stage Refusal Tokens Tree
+Parses k (Ok t) = (t.tokens ≡ k) × (symbols_of k.tokens ≡ spell t.items) × AreItems t.items
+Parses k (Err x) = (reason : Reason) × (index : ℕ) × TellsFault (symbols_of k.tokens) reason index
+    × (x ≡ refusal_at (place_of_token k index) (problem_of_reason reason))
+
+-- ---- 4: the tree to what it describes
+
+-- The tree is this description, which keeps the rules, or it is none.
+abbrev pub Tabulates : Stage Refusal Tree Tables
+Tabulates t (Ok b) = (b.tree ≡ t) × AreSound t.items (firsts t.items) b.description
+Tabulates t (Err x) = ((d : Description) → AreSound t.items (firsts t.items) d → ⊥) × (x ≡ refusal t.tokens.source.name 0 NotYet)
+
+-- ---- 5: a description without a conflict
+
+-- The refusal names the first two constructors in conflict, and tells their report.
+pub record IsAmbiguous (b : Tables) (x : Refusal) : Type 0 where
+  pub first : ℕ
+  pub second : ℕ
+  pub told : Report
+  pub conflict : IsFirstConflict (Matches b.description) b.description.constructors first second
+  pub report : IsReport (Matches b.description) conflict.here.first conflict.here.second told
+  pub is : x ≡ refusal_at (place_of_token b.tree.tokens conflict.here.first.first)
+      (Ambiguous (record { other = place_of_token b.tree.tokens conflict.here.second.first; report = told }))
+
+-- No two constructors are in conflict, or the first two that are.
+abbrev pub Settles : Stage Refusal Tables Tables
+Settles b (Ok c) = (c ≡ b) × HasNoConflict (Matches b.description) b.description.constructors
+Settles b (Err x) = IsAmbiguous b x
+
+-- ---- 6: the image beside it
+
+-- The name holds these bytes, which aren't too many for a file, nor for the addresses.
+pub record IsImage (told : Option Folder) (name : List ℕ) (addresses : ℕ) (bytes : List ℕ) : Type 0 where
+  pub has : Holds told name bytes
+  pub within : length bytes ≤ size_limit
+  pub fits : length bytes ≤ addresses
+
+-- The name holds no image for so many addresses, for this reason.
+pub data RefusesImage (told : Option Folder) (name : List ℕ) (addresses : ℕ) : Problem → Type 0 where
+  absent : Lacks told name → RefusesImage told name addresses NoFile
+  too_long : HoldsTooLong told name → RefusesImage told name addresses TooLong
+  beyond : {bytes : List ℕ} → Holds told name bytes → length bytes ≤ size_limit → addresses < length bytes → RefusesImage told name addresses TooLong
+
+abbrev pub addresses_of : Tables → ℕ
+addresses_of b = 256 ^ b.description.address_bytes
+
+-- The image of this name fits the memory, or there is none that does.
+abbrev pub Loads : Option Folder → List ℕ → Stage Refusal Tables Input
+Loads told name b (Ok i) = (i.tables ≡ b) × IsImage told name (addresses_of b) i.image
+Loads told name b (Err x) = (problem : Problem) × RefusesImage told name (addresses_of b) problem × (x ≡ refusal name 0 problem)
+
+-- ---- the verdict on a specification
+
+abbrev pub Judges : Option Folder → List ℕ → Result Tables Refusal → Type 0
+Judges told = Then (Expands told) (Then Tokenizes (Then Parses (Then Tabulates Settles)))

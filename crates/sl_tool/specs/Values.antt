@@ -1,0 +1,53 @@
+-- meaning: what the stages make of a specification and an image, each with what it was made of.
+use Rattle.std.specs.Prelude.{ℕ, List}
+use Rattle.sl_ast.specs.Trees.{Item}
+use Rattle.sl_description.specs.Description.{Description}
+use Rattle.sl_lex.specs.Reading.{Token}
+use Rattle.sl_preproc.specs.Expanded.{Text}
+use Rattle.sl_tool.specs.declared.status.Ending.{Ending}
+
+-- the name of the main file, and the text that it expands to
+pub record Source : Type 0 where
+  pub name : List ℕ
+  pub text : Text
+
+pub record Tokens : Type 0 where
+  pub source : Source
+  pub tokens : List Token
+
+pub record Tree : Type 0 where
+  pub tokens : Tokens
+  pub items : List Item
+
+pub record Tables : Type 0 where
+  pub tree : Tree
+  pub description : Description
+
+pub record Input : Type 0 where
+  pub tables : Tables
+  pub image : List ℕ
+
+-- how a command ends, and what it writes
+pub record Shown : Type 0 where
+  pub ending : Ending
+  pub text : List ℕ
+
+-- ---- made of their parts
+
+abbrev pub source : List ℕ → Text → Source
+source name text = record { name = name; text = text }
+
+abbrev pub tokens : Source → List Token → Tokens
+tokens s ts = record { source = s; tokens = ts }
+
+abbrev pub tree : Tokens → List Item → Tree
+tree k items = record { tokens = k; items = items }
+
+abbrev pub tables : Tree → Description → Tables
+tables t d = record { tree = t; description = d }
+
+abbrev pub input : Tables → List ℕ → Input
+input b image = record { tables = b; image = image }
+
+abbrev pub shown : Ending → List ℕ → Shown
+shown ending text = record { ending = ending; text = text }

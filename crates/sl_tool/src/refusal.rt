@@ -1,0 +1,89 @@
+//! Refusals, and the text that is printed of them.
+
+ghost use Rattle.std.specs.Prelude.{◌≡◌, ◌++◌, IfOk, OnOk};
+ghost use Rattle.sl_tool.specs.Problems.{apart_lines, lines_after, point_line, report_lines};
+
+use crate::lines::{push_place, push_point};
+use crate::place::{FileName, Place};
+use crate::problem::{Problem, push_words};
+use sl_cube::Point;
+use sl_sets::{Apart, Report};
+use std::alloc::{AllocError, Global};
+
+/// What is refused: the place, and the problem there.
+#[derive(Debug, Drop)]
+pub struct Refusal {
+    pub place: Place,
+    pub problem: Problem,
+}
+
+impl Refusal {
+    ghost use Rattle.std.specs.Prelude.{◌≡◌, IfOk};
+    ghost use Rattle.sl_tool.specs.Problems.{refusal, refusal_text};
+
+    /// The refusal of a whole file.
+    pub fn of_file(alloc: Global, file: &str, problem: Problem) -> Result<Self, AllocError>
+        ensures { IfOk result (λ x. x ≡ refusal file.now 0 problem) }
+    {
+        let file = FileName::copied(alloc, file)?;
+        let place = Place { file, line: 0 };
+        Ok(Refusal { place, problem })
+    }
+
+    /// The text that is printed of it.
+    pub fn text(&self, alloc: Global) -> Result<Vec<u8>, AllocError>
+        ensures { IfOk result (λ text. text.items ≡ refusal_text self.now) }
+    {
+        let mut out = Vec::new(alloc);
+        push_place(&mut out, &self.place)?;
+        out.extend_from_slice(b": ")?;
+        push_words(&mut out, &self.problem)?;
+        out.extend_from_slice(b"\n")?;
+        push_after(&mut out, &self.problem)?;
+        Ok(out)
+    }
+}
+
+/// Appends a line with a point after its name.
+fn push_named_point(out: &mut Vec<u8>, name: &[u8], point: &Point) -> Result<(), AllocError>
+    ensures { OnOk result (out.new.items ≡ out.old.items ++ point_line name.now point.now) }
+{
+    out.extend_from_slice(name)?;
+    out.extend_from_slice(b" ")?;
+    push_point(out, point)?;
+    out.extend_from_slice(b"\n")
+}
+
+/// Appends the lines that say how two sets in conflict differ.
+fn push_apart(out: &mut Vec<u8>, apart: &Apart) -> Result<(), AllocError>
+    ensures { OnOk result (out.new.items ≡ out.old.items ++ apart_lines apart.now) }
+{
+    match apart {
+        Apart::Same => out.extend_from_slice(b"same\n"),
+        Apart::Two {
+            only_first,
+            only_second,
+        } => {
+            push_named_point(out, b"first", only_first)?;
+            push_named_point(out, b"second", only_second)
+        }
+    }
+}
+
+/// Appends the report of a conflict.
+fn push_report(out: &mut Vec<u8>, report: &Report) -> Result<(), AllocError>
+    ensures { OnOk result (out.new.items ≡ out.old.items ++ report_lines report.now) }
+{
+    push_named_point(out, b"both", &report.both)?;
+    push_apart(out, &report.apart)
+}
+
+/// Appends what is printed after the line of the problem.
+fn push_after(out: &mut Vec<u8>, problem: &Problem) -> Result<(), AllocError>
+    ensures { OnOk result (out.new.items ≡ out.old.items ++ lines_after problem.now) }
+{
+    match problem {
+        Problem::Ambiguous(conflict) => push_report(out, &conflict.report),
+        _ => Ok(()),
+    }
+}

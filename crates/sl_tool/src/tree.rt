@@ -1,0 +1,60 @@
+//! The third stage: the tree that the tokens spell.
+
+ghost use Rattle.std.specs.Prelude.{◌≡◌};
+ghost use Rattle.sl_tool.specs.Halts.{first_fault};
+
+use crate::halt::Halt;
+use crate::problem::Problem;
+use crate::refusal::Refusal;
+use crate::tokens::Tokens;
+use sl_ast::items::Spec;
+use sl_parse::{ParseError, parse};
+use std::alloc::Global;
+
+/// The tree of a specification, beside its tokens.
+#[derive(Debug, Drop)]
+pub struct Tree<'s, 'r> {
+    pub tokens: Tokens<'s, 'r>,
+    pub spec: Spec<'s>,
+}
+
+/// The token's index and the problem of an error of the parser, unless memory ran out.
+fn first_fault(error: ParseError) -> Option<(usize, Problem)>
+    ensures { result ≡ first_fault error }
+{
+    match error {
+        ParseError::Syntax(at) => Some((at, Problem::Syntax)),
+        ParseError::Nesting(at) => Some((at, Problem::Nesting)),
+        ParseError::NotSupported { feature, token } => {
+            Some((token, Problem::NotSupported(feature)))
+        }
+        ParseError::NoMemory => None,
+    }
+}
+
+impl<'s, 'r> Tree<'s, 'r> {
+    ghost use Rattle.std.specs.Prelude.{◌≡◌, IfOk};
+    ghost use Rattle.sl_ast.specs.Unfolding.{firsts};
+    ghost use Rattle.sl_ast.specs.Views.{indexes_of, items_of};
+    ghost use Rattle.sl_tool.specs.Outcomes.{Gives};
+    ghost use Rattle.sl_tool.specs.Stages.{Parses};
+    ghost use Rattle.sl_tool.specs.StageViews.{tree_view};
+    ghost use Rattle.sl_tool.specs.TokensView.{tokens_view};
+
+    /// The tree that the tokens spell. It keeps the index of each item's first token.
+    pub fn read(alloc: Global, tokens: Tokens<'s, 'r>) -> Result<Self, Halt>
+        ensures gives { Gives (Parses (tokens_view tokens.entry)) tree_view result }
+        ensures indexes { IfOk result (λ t. indexes_of t.spec ≡ firsts (items_of t.spec)) }
+    {
+        match parse(alloc, tokens.tokens.as_slice()) {
+            Ok(spec) => Ok(Tree { tokens, spec }),
+            Err(error) => {
+                let Some((at, problem)) = first_fault(error) else {
+                    return Err(Halt::NoMemory);
+                };
+                let place = tokens.place(alloc, at)?;
+                Err(Halt::Refused(Refusal { place, problem }))
+            }
+        }
+    }
+}
