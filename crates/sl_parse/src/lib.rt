@@ -26,6 +26,3 @@ mod parts;
 mod statements;
 
 pub use parser::{ParseError, parse};
-
-#[cfg(test)]
-mod tests;

@@ -31,7 +31,7 @@ pub enum ParseError {
 fn all_symbols<'a>(alloc: Global, tokens: &[Tok<'a>]) -> Result<Vec<Symbol<'a>>, AllocError>
     ensures { IfOk result (λ found. HasSymbols (symbols_of (views tokens.now)) found.items) }
 {
-    let mut found = Vec::new(alloc);
+    let mut found = Vec::with_capacity(alloc, tokens.len())?;
     'tokens: for token in tokens {
         found.push(seen(token))?;
     }

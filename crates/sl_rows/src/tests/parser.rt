@@ -1,7 +1,9 @@
-use crate::ParseError::{Nesting, NotSupported, Syntax};
-use crate::{ParseError, parse};
+//! The parser by itself: the items of a specification, and the errors of token lists.
+
 use sl_ast::symbols::Feature;
 use sl_lex::lex;
+use sl_parse::ParseError::{Nesting, NotSupported, Syntax};
+use sl_parse::{ParseError, parse};
 use std::test::Fail;
 
 static SMALL: &[u8] = b"define endian=big;
