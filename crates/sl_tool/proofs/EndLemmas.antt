@@ -1,17 +1,23 @@
--- How a call ends, from what was answered and what was written of it.
-use Rattle.std.proofs.Common.{◌≡◌, ◌≢◌, ℕ, ◌⊎◌, inl, inr, Bool, true, false, List, Option, Some, None, refl, sym, subst}
-use Rattle.std.specs.Prelude.{MatchOption}
+-- What stands written at the end of a call, and the files that it asked for.
+use Rattle.std.proofs.Common.{◌≡◌, ℕ, ◌≤◌, ◌⊎◌, inl, inr, List, [], Option, Some, None, Result, Ok, Err, refl, sym, subst, ◌∙◌, take, append-nil, arith}
 use Rattle.std.specs.Io.KnownBytes.{Appends}
+use Rattle.std.proofs.KnownBytes.{Appends-trans}
+use Rattle.sl_outside.specs.Causes.{Rose}
 use Rattle.sl_outside.specs.Folder.{Folder}
-use Rattle.sl_tool.specs.Answers.{Expands, IsTold, Answers, Means, Ends}
-use Rattle.sl_tool.specs.Running.{status_of}
-use Rattle.sl_tool.specs.Images.{File}
-use Rattle.sl_tool.specs.Verdicts.{Expansion}
-use Rattle.sl_tool.specs.Answers.Answers.{refused, no_image, long_image, listed, ran}
-use Rattle.sl_tool.specs.Request.{Request, request_of, usage_line}
-use Rattle.sl_tool.specs.Writing.{AppendsFront}
-use Rattle.sl_tool.specs.Given.{IsAnswered}
-use Rattle.sl_tool.specs.declared.answer.Answer.{Answer}
+use Rattle.sl_outside.specs.Uses.{Names, Asks, UsesFiles, UsesSink}
+use Rattle.sl_tool.specs.Answers.{Answers, UsesFilesFor, text_of, status_of}
+use Rattle.sl_tool.specs.Endings.{ended}
+use Rattle.sl_tool.specs.Ends.{Means, WritesWhole, WritesFirst, Ends, IsEarlyStatus, RunsFor}
+use Rattle.sl_tool.specs.Ends.Means.{usage, answer}
+use Rattle.sl_tool.specs.Outcomes.{FailsToRead, FailsToWrite, IsEarly, Writes, WritesFront}
+use Rattle.sl_tool.specs.Request.{Request, usage_line}
+use Rattle.sl_tool.specs.Values.{Shown, shown}
+use Rattle.sl_tool.specs.Writing.{IsWritten}
+use Rattle.sl_tool.specs.declared.halt.Halt.{Halt}
+use Rattle.sl_tool.specs.declared.halt.Halt.TheVariants as halt
+use Rattle.sl_tool.specs.declared.refusal.Refusal.{Refusal}
+use Rattle.sl_tool.specs.declared.status.Ending.{Ending}
+use Rattle.sl_tool.specs.declared.status.Ending.TheVariants as ending
 use Rattle.sl_tool.specs.declared.status.Status.{Status}
 use Rattle.sl_tool.specs.declared.status.Status.TheVariants.{Done, Refused, Usage, ReadFault, WriteFault, NoMemory, Stopped}
 
@@ -20,61 +26,108 @@ abbrev pub IsWhole : Status → Type 0
 IsWhole Done = Unit {0}
 IsWhole Refused = Unit {0}
 IsWhole Usage = Unit {0}
+IsWhole Stopped = Unit {0}
 IsWhole ReadFault = ⊥
 IsWhole WriteFault = ⊥
 IsWhole NoMemory = ⊥
-IsWhole Stopped = Unit {0}
 
-run_is_whole : (has_stopped : Bool) → IsWhole (status_of has_stopped)
-run_is_whole true = tt
-run_is_whole false = tt
+pub ended_whole : (e : Ending) → IsWhole (ended e)
+ended_whole ending.Done = tt
+ended_whole ending.Stopped = tt
 
-answer_is_whole : (r : Request) (spec : Expansion) (image : File) (s : Status) (text : List ℕ) → Answers r spec image s text → IsWhole s
-answer_is_whole r spec image s text (refused a) = tt
-answer_is_whole r spec image s text (no_image a b) = tt
-answer_is_whole r spec image s text (long_image a b c) = tt
-answer_is_whole r spec image s text (listed a b c e) = tt
-answer_is_whole r spec image s text (ran a b c e) = subst (λ (x : Status). IsWhole x) (sym e.status_is) (run_is_whole e.has_stopped)
+pub whole_not : (s q : Status) → IsWhole s → (IsWhole q → ⊥) → s ≡ q → ⊥
+whole_not s q h n e = n (subst IsWhole e h)
 
--- what is asked means, where it is this
-abbrev AskedMeans : Option Request → Option Folder → Status → List ℕ → Type 0
-AskedMeans asked told s text = MatchOption asked ((s ≡ Usage) × (text ≡ usage_line))
-    (λ r. (spec : Expansion) × (image : File) × Expands told r.spec spec × IsTold told r.image image × Answers r spec image s text)
+ends_whole : (told : Option Folder) (r : Option Request) (a b : Option (List ℕ)) (s : Status) → IsWhole s → WritesWhole told r a b s → Ends told r a b s
+ends_whole told r a b Done h w = w
+ends_whole told r a b Refused h w = w
+ends_whole told r a b Usage h w = w
+ends_whole told r a b Stopped h w = w
+ends_whole told r a b ReadFault h w = absurd h
+ends_whole told r a b WriteFault h w = absurd h
+ends_whole told r a b NoMemory h w = absurd h
 
-asked_is_whole : (asked : Option Request) (told : Option Folder) (s : Status) (text : List ℕ) → AskedMeans asked told s text → IsWhole s
-asked_is_whole None told s text h = subst (λ (x : Status). IsWhole x) (sym h.0) tt
-asked_is_whole (Some r) told s text h = answer_is_whole r h.0 h.1 s text h.4
+-- what was written of a text that is due
+pub ends_written : (told : Option Folder) (r : Option Request) (a b : Option (List ℕ)) (text : List ℕ) (s q : Status) → IsWhole s → Means told r s text → IsWritten a b text s q
+    → Ends told r a b q
+ends_written told r a b text s q h m (inl w) = subst (λ (z : Status). Ends told r a b z) (sym w.0) (ends_whole told r a b s h (text, m, w.1))
+ends_written told r a b text s q h m (inr w) = first w.0
+  where
+    front : WritesFirst told r a b
+    front = (s, text, w.1.0, m, w.1.1)
 
-module _ (words : List (List ℕ)) (told : Option Folder) where
-  pub means_is_whole : (s : Status) (text : List ℕ) → Means words told s text → IsWhole s
-  means_is_whole s text h = asked_is_whole (request_of words) told s text h
+    first : (q ≡ WriteFault) ⊎ (q ≡ NoMemory) → Ends told r a b q
+    first (inl e) = subst (λ (z : Status). Ends told r a b z) (sym e) front
+    first (inr e) = subst (λ (z : Status). Ends told r a b z) (sym e) (inr front)
 
-  asked_means : (asked : Option Request) (s : Status) (text : List ℕ) → request_of words ≡ asked → AskedMeans asked told s text → Means words told s text
-  asked_means asked s text is h = subst (λ (x : Option Request). AskedMeans x told s text) (sym is) h
+pub ends_ended : (told : Option Folder) (r : Request) (a b : Option (List ℕ)) (e : Ending) → (text : List ℕ) × Answers told r (Ok (shown e text)) × Appends a b text
+    → Ends told (Some r) a b (ended e)
+ends_ended told r a b e w = ends_whole told (Some r) a b (ended e) (ended_whole e) (w.0, answer w.1, w.2)
 
-  pub usage_means : (text : List ℕ) → request_of words ≡ None → text ≡ usage_line → Means words told Usage text
-  usage_means text none is = asked_means None Usage text none (refl, is)
+first_of_front : (told : Option Folder) (r : Request) (a b : Option (List ℕ)) → WritesFront (Answers told r) a b → WritesFirst told (Some r) a b
+first_of_front told r a b w = (status_of w.0, text_of w.0, w.1, answer w.2, w.3)
 
-  pub answer_means : (r : Request) (a : Answer) → request_of words ≡ Some r → IsAnswered told r a → Means words told a.status a.text.items
-  answer_means r a asked h = asked_means (Some r) a.status a.text.items asked h
+-- what was written where the halt is this one
+pub writes_at : (S : Result Shown Refusal → Type 0) (a b : Option (List ℕ)) (h k : Halt) → h ≡ k → Writes S a b (Err h) → Writes S a b (Err k)
+writes_at S a b h k e w = subst (λ (z : Halt). Writes S a b (Err z)) e w
 
-  whole_ends : (old new : Option (List ℕ)) (s : Status) (text : List ℕ) → Means words told s text → Appends old new text → Ends words told old new s
-  whole_ends old new Done text m h = (text, m, h)
-  whole_ends old new Refused text m h = (text, m, h)
-  whole_ends old new Usage text m h = (text, m, h)
-  whole_ends old new ReadFault text m h = absurd (means_is_whole ReadFault text m)
-  whole_ends old new WriteFault text m h = absurd (means_is_whole WriteFault text m)
-  whole_ends old new NoMemory text m h = absurd (means_is_whole NoMemory text m)
-  whole_ends old new Stopped text m h = (text, m, h)
+pub ends_fault : (told : Option Folder) (r : Request) (a b : Option (List ℕ)) → Writes (Answers told r) a b (Err halt.WriteFault) → Ends told (Some r) a b WriteFault
+ends_fault told r a b w = first_of_front told r a b w
 
-  -- what was written of a text that the words mean
-  pub written_ends : (old new : Option (List ℕ)) (s result : Status) (text : List ℕ) → Means words told s text
-      → ((result ≡ s) × Appends old new text) ⊎ (((result ≡ WriteFault) ⊎ (result ≡ NoMemory)) × AppendsFront old new text) → Ends words told old new result
-  written_ends old new s result text m (inl h) = subst (λ (x : Status). Ends words told old new x) (sym h.0) (whole_ends old new s text m h.1)
-  written_ends old new s result text m (inr (inl is, front)) =
-      subst (λ (x : Status). Ends words told old new x) (sym is) (s, text, front.0, m, front.1)
-  written_ends old new s result text m (inr (inr is, front)) =
-      subst (λ (x : Status). Ends words told old new x) (sym is) (inr (s, text, front.0, m, front.1))
+pub ends_memory : (told : Option Folder) (r : Request) (a b : Option (List ℕ)) → Writes (Answers told r) a b (Err halt.NoMemory) → Ends told (Some r) a b NoMemory
+ends_memory told r a b (inl w) = inl w
+ends_memory told r a b (inr w) = inr (first_of_front told r a b w)
 
-pub whole_is_no_fault : (s : Status) → IsWhole s → s ≢ WriteFault
-whole_is_no_fault s h is = subst (λ (x : Status). IsWhole x) is h
+pub written_after : (a b c : Option (List ℕ)) (text : List ℕ) (s q : Status) → Appends a b [] → IsWritten b c text s q → IsWritten a c text s q
+written_after a b c text s q h (inl w) = inl (w.0, Appends-trans a b c [] text h w.1)
+written_after a b c text s q h (inr w) = inr (w.0, (w.1.0, Appends-trans a b c [] (take w.1.0 text) h w.1.1))
+
+pub written_reads : (a b : Option (List ℕ)) (text : List ℕ) (s q : Status) → IsWhole s → IsWritten a b text s q → q ≡ ReadFault → ⊥
+written_reads a b text s q h (inl w) e = whole_not s ReadFault h (λ n. n) (sym w.0 ∙ e)
+written_reads a b text s q h (inr (inl f, w)) e = let clash : WriteFault ≡ ReadFault = sym f ∙ e in absurd (cc)
+written_reads a b text s q h (inr (inr f, w)) e = let clash : NoMemory ≡ ReadFault = sym f ∙ e in absurd (cc)
+
+-- ---- files
+
+Asks-nil : (a : Names) → Asks a a []
+Asks-nil None = tt
+Asks-nil (Some x) = sym (append-nil x)
+
+module _ {F : Type 0} (told : F → Option Folder) (faults : F → ℕ) (asked : F → Names) where
+  -- without a request no file is asked for
+  pub unused : (old : F) (q : Status) → (q ≡ ReadFault → ⊥) → RunsFor told faults asked None old old q
+  unused old q h = record {
+    same_folder = refl;
+    never_falls = omega arith;
+    failed = λ e. absurd (h e);
+    asks_front = (0, Asks-nil (asked old));
+    asks_all = λ e. Asks-nil (asked old);
+  }
+
+  -- what was asked for by an answer, whatever was written after it
+  pub used : (r : Request) (old new : F) (x : Result Ending Halt) (q : Status) → (q ≡ ReadFault → FailsToRead x)
+      → (IsEarly x → IsEarlyStatus q) → UsesFilesFor told faults asked r old new (IsEarly x) (FailsToRead x) → RunsFor told faults asked (Some r) old new q
+  used r old new x q fails early u = record {
+    same_folder = u.same_folder;
+    never_falls = u.never_falls;
+    failed = λ e. u.failed (fails e);
+    asks_front = u.asks_front;
+    asks_all = λ n. u.asks_all (λ e. n (early e));
+  }
+
+-- ---- the sink
+
+module _ {K : Type 0} (faults calls : K → ℕ) where
+  rose_more : (a b c : ℕ) → a ≤ b → Rose b c → Rose a c
+  rose_more a b c h k = omega (arith, h, k)
+
+  -- the sink after two uses, of which only the second may fail
+  pub used_twice : (old mid new : K) (e f : Type 0) → UsesSink faults calls old mid e → UsesSink faults calls mid new f → UsesSink faults calls old new f
+  used_twice old mid new e f u v = record {
+    never_falls = omega (arith, u.never_falls, v.never_falls);
+    failed = λ h. rose_more _ _ _ u.never_falls (v.failed h);
+    goes_on = omega (arith, u.goes_on, v.goes_on);
+  }
+
+  pub same_use : (old new : K) (e f : Type 0) → (f → e) → UsesSink faults calls old new e → UsesSink faults calls old new f
+  same_use old new e f g u = record { never_falls = u.never_falls; failed = λ h. u.failed (g h); goes_on = u.goes_on }

@@ -5,7 +5,7 @@ use Rattle.std.specs.Int.{w64, w128, to_be_bytes}
 use Rattle.hex.specs.Hex.{encode_lower}
 use Rattle.sl_cube.specs.declared.Point.{Point}
 use Rattle.sl_tool.specs.Lines.{point_text}
-use Rattle.sl_tool.specs.ConflictLines.{point_line, apart_lines}
+use Rattle.sl_tool.specs.Problems.{point_line, apart_lines}
 use Rattle.sl_sets.specs.declared.conflicts.Apart.{Apart}
 use Rattle.sl_sets.specs.declared.conflicts.Apart.TheVariants.{Two}
 

@@ -1,24 +1,40 @@
 -- Places that refusals name.
-use Rattle.std.proofs.Common.{◌≡◌, ℕ, suc, zero, ◌+◌, ◌-◌, ◌<◌, ◌≤◌, List, [], ◌∷◌, ◌++◌, length, Option, Some, None, refl, ap, subst, ◌∙◌, arith, inl, inr, get_or, length-append, map}
+use Rattle.std.proofs.Common.{◌≡◌, ℕ, suc, zero, ◌+◌, ◌-◌, ◌<◌, ◌≤◌, List, [], ◌∷◌, ◌++◌, length, Option, Some, None, refl, sym, ap, subst, ◌∙◌, arith, inl, inr, get_or, length-append, map}
 use Rattle.std.specs.Prelude.{slice_get, min}
+use Rattle.std.specs.Coded.{le_prop}
 use Rattle.std.specs.List.{AllByRecursion}
 use Rattle.std.specs.Option.{option_map}
+use Rattle.std.proofs.Math.Logic.{∥∥₁_elim}
 use Rattle.std.proofs.lemmas.List.{length-map}
 use Rattle.std.proofs.lemmas.Option.{slice_get-map, slice_get_read}
+use Rattle.sl_lex.specs.Errors.{Tells}
 use Rattle.sl_lex.specs.Faults.{Fault, IsBadByte, IsFault}
 use Rattle.sl_lex.specs.Faults.Fault.{NoLexeme, OpenQuote, TooWide}
 use Rattle.sl_lex.specs.Reading.{Token, Piece, Reads, HasBadPlace, mode_after}
+use Rattle.sl_lex.specs.declared.LexError.{LexError}
+use Rattle.sl_lex.specs.declared.LexError.TheVariants as lex
 use Rattle.sl_lex.specs.declared.mode.Mode.{Mode}
 use Rattle.sl_lex.specs.declared.mode.Mode.TheVariants.{Top}
+use Rattle.sl_ast.specs.Symbols.{Sym}
+use Rattle.sl_grammar.specs.Faults.{Reason, no_spelling, too_deep, left_out}
+use Rattle.sl_parse.specs.Parsing.{IsFaultOf, TellsFault}
+use Rattle.sl_parse.specs.declared.parser.ParseError.{ParseError}
+use Rattle.sl_parse.specs.declared.parser.ParseError.TheVariants as parse
 use Rattle.sl_preproc.specs.Expanded.{Text, line_index, or_no_place, place_at}
 use Rattle.sl_preproc.specs.Sound.{IsSound}
 use Rattle.sl_preproc.specs.declared.places.Place.{Place}
+use Rattle.sl_description.specs.Compiled.{AreSetsOf}
+use Rattle.sl_description.proofs.EachLemmas.{some_is}
 use Rattle.sl_description.specs.Views.{constructor, description}
 use Rattle.sl_description.specs.declared.description.Constructor as program
 use Rattle.sl_description.specs.declared.compiler.Compiled.{Compiled}
-use Rattle.sl_tool.specs.Given.{IsCompiledText}
-use Rattle.sl_tool.specs.Verdicts.{from_or}
-use Rattle.sl_tool.proofs.AnswerLemmas.{length-sets}
+use Rattle.sl_tool.specs.Halts.{bad_place, first_fault}
+use Rattle.sl_tool.specs.Places.{from_or}
+use Rattle.sl_tool.specs.declared.place.Place as program_place
+use Rattle.sl_tool.specs.Stages.{problem_of_fault, problem_of_reason}
+use Rattle.sl_tool.specs.declared.problem.Problem.{Problem}
+use Rattle.sl_tool.specs.declared.problem.Problem.TheVariants as problem
+use Rattle.sl_tool.proofs.SetLemmas.{length-sets}
 
 -- ---- places of lines
 
@@ -38,6 +54,10 @@ unfolding place_at
 file_known t byte h =
     let i = min (line_index t.bytes byte) (length t.places - 1) in
     known_or_none (length t.files) t.places i (slice_get t.places i) h.some h.known refl
+
+-- the same of a text that is known to be sound
+pub file_among : (t : Text) (byte : ℕ) → ∥ IsSound t ∥₁ → (place_at t byte).file < length t.files
+file_among t byte h = ∥∥₁_elim h le_prop (file_known t byte)
 
 -- ---- bad places
 
@@ -76,13 +96,53 @@ past_all end (token ∷ tokens) (suc index) past = past_all end tokens index (om
 seen_at : {X Y : Type 0} (see : X → Y) (xs : List X) (i : ℕ) (x : X) → i < length xs → x ≡ get_or xs i x → slice_get (map see xs) i ≡ Some (see x)
 seen_at see xs i x within is = slice_get-map see xs i ∙ ap (option_map see) (slice_get_read xs (length xs) i x refl within is)
 
+-- ---- problems and their places
+
+abbrev At : Type 0
+At = ℕ × Problem
+
+-- the bad place that an error of the lexer tells
+tells_bad : (text : List ℕ) (told at : At) (bad : Fault) → Some told ≡ Some at → HasBadPlace text bad told.0 → told.1 ≡ problem_of_fault bad
+    → (other : Fault) × HasBadPlace text other at.0 × (at.1 ≡ problem_of_fault other)
+tells_bad text told at bad is h p =
+    let same : told ≡ at = some_is told at is in
+    (bad, subst (λ (x : At). HasBadPlace text bad x.0) same h, subst (λ (x : At). x.1 ≡ problem_of_fault bad) same p)
+
+pub tells_place : (text : List ℕ) (error : LexError) (at : At) → bad_place error ≡ Some at → Tells text error
+    → (bad : Fault) × HasBadPlace text bad at.0 × (at.1 ≡ problem_of_fault bad)
+tells_place text (lex.BadByte k) at is h = tells_bad text (k, problem.BadByte) at NoLexeme is h refl
+tells_place text (lex.OpenString k) at is h = tells_bad text (k, problem.OpenString) at OpenQuote is h refl
+tells_place text (lex.WideInteger k) at is h = tells_bad text (k, problem.WideInteger) at TooWide is h refl
+tells_place text lex.NoMemory at is h = absurd (cc)
+
+-- the fault that an error of the parser tells
+tells_reason : (symbols : List Sym) (told at : At) (reason : Reason) → Some told ≡ Some at → TellsFault symbols reason told.0 → told.1 ≡ problem_of_reason reason
+    → (other : Reason) × TellsFault symbols other at.0 × (at.1 ≡ problem_of_reason other)
+tells_reason symbols told at reason is h p =
+    let same : told ≡ at = some_is told at is in
+    (reason, subst (λ (x : At). TellsFault symbols reason x.0) same h, subst (λ (x : At). x.1 ≡ problem_of_reason reason) same p)
+
+pub tells_fault : (symbols : List Sym) (error : ParseError) (at : At) → first_fault error ≡ Some at → IsFaultOf symbols error
+    → (reason : Reason) × TellsFault symbols reason at.0 × (at.1 ≡ problem_of_reason reason)
+tells_fault symbols (parse.Syntax k) at is h = tells_reason symbols (k, problem.Syntax) at no_spelling is h refl
+tells_fault symbols (parse.Nesting k) at is h = tells_reason symbols (k, problem.Nesting) at too_deep is h refl
+tells_fault symbols (parse.NotSupported form k) at is h = tells_reason symbols (k, problem.NotSupported form) at (left_out form) is h refl
+tells_fault symbols parse.NoMemory at is h = absurd (cc)
+
 -- ---- constructors
 
-module _ (t : Text) (c : Compiled) (is : IsCompiledText t c) (i : ℕ) (within : i < length c.sets.items) where
+module _ (c : Compiled) (sets : AreSetsOf (description c.description) (description c.description).constructors c.sets.items) (i : ℕ) (within : i < length c.sets.items) where
   pub constructor_within : i < length c.description.constructors.items
   constructor_within =
       let d = description c.description in
-      omega (arith, within, length-sets d d.constructors c.sets.items is.compiled.sets, length-map c.description.constructors.items constructor)
+      omega (arith, within, length-sets d d.constructors c.sets.items sets, length-map c.description.constructors.items constructor)
 
   pub seen_constructor : (k : program.Constructor) → k ≡ get_or c.description.constructors.items i k → slice_get (description c.description).constructors i ≡ Some (constructor k)
   seen_constructor k here = seen_at constructor c.description.constructors.items i k constructor_within here
+
+-- ---- places by their parts
+
+pub place_is : (a : program_place.Place) (file : List ℕ) (line : ℕ) → a.file ≡ file → a.line ≡ line → a ≡ record { file = file; line = line }
+place_is a file line e f =
+    ap (λ (x : List ℕ). let p : program_place.Place = record { file = x; line = a.line } in p) e
+    ∙ ap (λ (n : ℕ). let p : program_place.Place = record { file = file; line = n } in p) f

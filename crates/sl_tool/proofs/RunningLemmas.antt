@@ -26,9 +26,10 @@ use Rattle.sl_run.proofs.OneRun.{AreSame, run_is_one, run_keeps, value_same}
 use Rattle.sl_run.proofs.SoundSections.{sections_are_sound, then_some}
 use Rattle.sl_tool.specs.Opened.{HasRun, IsOpened, TellsRun}
 use Rattle.sl_tool.specs.RunLines.{TellsChanges, counter_line, fault_line, number_text, register_line, register_lines, steps_line}
-use Rattle.sl_tool.specs.Running.{HasImage, IsRun, RunsFrom, status_of}
+use Rattle.sl_tool.specs.Running.{HasImage, IsRun, RunsFrom}
 use Rattle.sl_tool.specs.Told.{memory_lines}
-use Rattle.sl_tool.specs.declared.status.Status.{Status}
+use Rattle.sl_tool.specs.Endings.{ending_of}
+use Rattle.sl_tool.specs.declared.status.Ending.{Ending}
 use Rattle.sl_tool.proofs.ChangeLemmas.{IsOf, AreAll, tells, told_is_one, told_same}
 
 -- ---- one run
@@ -45,7 +46,7 @@ registers_same endian a b (r ∷ rs) same =
     ap (λ (n : ℕ). (r.name ++ (codes " " ++ (number_text r.storage.size n ++ codes "\n"))) ++ register_lines endian a rs) (value_same endian a b r.storage same)
     ∙ ap (λ (t : List ℕ). register_line endian b r ++ t) (registers_same endian a b rs same)
 
-pub run_is_told_once : (d : Description) (image : List ℕ) (steps : ℕ) (s t : Status) (x y : List ℕ) → IsRun d image steps s x → IsRun d image steps t y → (s ≡ t) × (x ≡ y)
+pub run_is_told_once : (d : Description) (image : List ℕ) (steps : ℕ) (s t : Ending) (x y : List ℕ) → IsRun d image steps s x → IsRun d image steps t y → (s ≡ t) × (x ≡ y)
 run_is_told_once d image steps s t x y h g =
     let meaning : h.meaning ≡ g.meaning = some_is h.meaning g.meaning (sym h.resolves ∙ g.resolves) in
     let runs : RunsFrom d h.meaning.sections steps g.start g.ran g.end g.counter g.has_stopped =
@@ -58,7 +59,7 @@ run_is_told_once d image steps s t x y h g =
     let changes : h.changes ≡ g.changes = told_is_one d.space d.address_bytes (256 ^ d.address_bytes) (h.start 0) (h.end 0) 0 h.changes g.changes h.changed there in
     let registers : register_lines d.endian h.end h.meaning.registers ≡ register_lines d.endian g.end g.meaning.registers =
     registers_same d.endian h.end g.end h.meaning.registers one.bytes ∙ ap (λ (m : Resolution). register_lines d.endian g.end m.registers) meaning in (
-      h.status_is ∙ ap status_of one.stopped ∙ sym g.status_is,
+      h.ending_is ∙ ap ending_of one.stopped ∙ sym g.ending_is,
       h.text_is
           ∙ ap (λ (n : ℕ). steps_line n ++ (counter_line d.address_bytes h.counter ++ (register_lines d.endian h.end h.meaning.registers ++ (h.changes ++ fault_line h.has_stopped)))) one.ran
           ∙ ap (λ (n : ℕ). steps_line g.ran ++ (counter_line d.address_bytes n ++ (register_lines d.endian h.end h.meaning.registers ++ (h.changes ++ fault_line h.has_stopped)))) one.counter
@@ -127,7 +128,7 @@ image_bytes image bytes h small = λ offset. subst (λ (b : ℕ). b < 256) (sym 
 -- the run of a machine that was opened is a run of the description
 pub ran_is : (d : Description) (m : Resolution) (image : List ℕ) (steps : ℕ) (opening state : State) (outcome : Outcome) (text : List ℕ) → resolution_of d ≡ Some m → d.address_bytes ≤ 8
     → IsOpened d image opening → HasRun d m.sections image steps state outcome → TellsRun d m.registers opening state outcome text
-    → IsRun d image steps (status_of outcome.stopped) text
+    → IsRun d image steps (ending_of outcome.stopped) text
 ran_is d m image steps opening state outcome text resolves small opened run told =
     let same = start_same image (byte_at opening) run.start opened.image run.image in
     let beyond : (k : ℕ) → 256 ^ d.address_bytes ≤ k → byte_at state 0 k ≡ byte_at opening 0 k = λ k past.
@@ -147,7 +148,7 @@ ran_is d m image steps opening state outcome text resolves small opened run told
       runs = run.runs;
       changed = told_same d.space d.address_bytes (256 ^ d.address_bytes) (byte_at opening 0) (byte_at state 0) (run.start 0) (byte_at state 0) 0
           (memory_lines d.space d.address_bytes told.changes) (λ k. same 0 k) (λ k. refl) changed;
-      status_is = refl;
+      ending_is = refl;
       text_is = told.text_is ∙ ap (λ (e : Endian). steps_line outcome.ran ++ (counter_line d.address_bytes outcome.counter
           ++ (register_lines e (byte_at state) m.registers ++ (memory_lines d.space d.address_bytes told.changes ++ fault_line outcome.stopped)))) run.endian;
     }

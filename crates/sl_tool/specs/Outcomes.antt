@@ -26,29 +26,40 @@ Obtains S view (Err ReadFault) = ⊤
 Obtains S view (Err WriteFault) = ⊥
 Obtains S view (Err NoMemory) = ⊤
 
+-- ---- halts
+
 -- It stopped before its end: a file could not be read, or memory ran out.
+abbrev pub StopsEarly : Halt → Type 0
+StopsEarly (Refused x) = ⊥
+StopsEarly ReadFault = ⊤
+StopsEarly WriteFault = ⊥
+StopsEarly NoMemory = ⊤
+
+abbrev pub IsReadFault : Halt → Type 0
+IsReadFault (Refused x) = ⊥
+IsReadFault ReadFault = ⊤
+IsReadFault WriteFault = ⊥
+IsReadFault NoMemory = ⊥
+
+abbrev pub IsWriteFault : Halt → Type 0
+IsWriteFault (Refused x) = ⊥
+IsWriteFault ReadFault = ⊥
+IsWriteFault WriteFault = ⊤
+IsWriteFault NoMemory = ⊥
+
 abbrev pub IsEarly : {T : Type 0} → Result T Halt → Type 0
 IsEarly (Ok v) = ⊥
-IsEarly (Err (Refused x)) = ⊥
-IsEarly (Err ReadFault) = ⊤
-IsEarly (Err WriteFault) = ⊥
-IsEarly (Err NoMemory) = ⊤
+IsEarly (Err h) = StopsEarly h
 
 -- A file could not be read.
 abbrev pub FailsToRead : {T : Type 0} → Result T Halt → Type 0
 FailsToRead (Ok v) = ⊥
-FailsToRead (Err (Refused x)) = ⊥
-FailsToRead (Err ReadFault) = ⊤
-FailsToRead (Err WriteFault) = ⊥
-FailsToRead (Err NoMemory) = ⊥
+FailsToRead (Err h) = IsReadFault h
 
 -- The output could not be written.
 abbrev pub FailsToWrite : {T : Type 0} → Result T Halt → Type 0
 FailsToWrite (Ok v) = ⊥
-FailsToWrite (Err (Refused x)) = ⊥
-FailsToWrite (Err ReadFault) = ⊥
-FailsToWrite (Err WriteFault) = ⊤
-FailsToWrite (Err NoMemory) = ⊥
+FailsToWrite (Err h) = IsWriteFault h
 
 -- ---- what was written
 

@@ -1,22 +1,14 @@
 -- step: what a listing shows at a point.
-use Rattle.std.specs.Prelude.{◌≡◌, ℕ, ◌⊎◌, List, Some, length, map, slice_get, codes}
+use Rattle.std.specs.Prelude.{◌≡◌, ℕ, ◌⊎◌, List, Some, map, slice_get, codes}
 use Rattle.sl_cube.specs.declared.Cube.{Cube}
 use Rattle.sl_cube.specs.declared.Point.{Point}
 use Rattle.sl_sets.specs.Cubes.{has_cube}
-use Rattle.sl_sets.specs.Scan.{StandsFor}
-use Rattle.sl_sets.specs.Sets.{HasNoConflict, IsChoice, IsUnmatched}
-use Rattle.sl_sets.specs.declared.choice.Chooser.{Chooser}
+use Rattle.sl_sets.specs.Sets.{IsChoice, IsUnmatched}
 use Rattle.sl_description.specs.declared.description.Constructor.{Constructor}
 
 -- the texts of the constructors
 abbrev pub mnemonics : List Constructor → List (List ℕ)
 mnemonics constructors = map (λ c. c.mnemonic.now) constructors
-
--- The chooser stands for the cubes, of which no two are in conflict, and there are as many texts.
-pub record Chooses (chooser : Chooser) (cubes : List Cube) (texts : List (List ℕ)) : Type 0 where
-  pub stands : StandsFor chooser cubes
-  pub clear : HasNoConflict has_cube cubes
-  pub counted : length cubes ≡ length texts
 
 -- the text that stands at the place of the choice
 pub record IsChosenText (cubes : List Cube) (texts : List (List ℕ)) (p : Point) (text : List ℕ) : Type 0 where

@@ -10,7 +10,7 @@ use Rattle.sl_directive.specs.declared.fault.Cause.{Cause}
 use Rattle.sl_directive.specs.declared.fault.Cause.TheVariants as cause
 use Rattle.sl_grammar.specs.Faults.{Reason, no_spelling, too_deep, left_out}
 use Rattle.sl_lex.specs.Faults.{Fault}
-use Rattle.sl_lex.specs.Faults.Fault as fault
+use Rattle.sl_lex.specs.Faults.Fault.{NoLexeme, OpenQuote, TooWide}
 use Rattle.sl_lex.specs.Reading.{ReadsAs, HasBadPlace}
 use Rattle.sl_outside.specs.Folder.{Folder, Holds, Lacks, HoldsTooLong, size_limit}
 use Rattle.sl_parse.specs.Parsing.{TellsFault}
@@ -56,9 +56,9 @@ Expands None name (Err x) = ⊤
 -- ---- 2: the text to its tokens
 
 abbrev pub problem_of_fault : Fault → Problem
-problem_of_fault fault.NoLexeme = BadByte
-problem_of_fault fault.OpenQuote = OpenString
-problem_of_fault fault.TooWide = WideInteger
+problem_of_fault NoLexeme = BadByte
+problem_of_fault OpenQuote = OpenString
+problem_of_fault TooWide = WideInteger
 
 -- The text reads as these tokens, or has a first bad place.
 abbrev pub Tokenizes : Stage Refusal Source Tokens
@@ -115,7 +115,7 @@ pub record IsImage (told : Option Folder) (name : List ℕ) (addresses : ℕ) (b
 pub data RefusesImage (told : Option Folder) (name : List ℕ) (addresses : ℕ) : Problem → Type 0 where
   absent : Lacks told name → RefusesImage told name addresses NoFile
   too_long : HoldsTooLong told name → RefusesImage told name addresses TooLong
-  beyond : {bytes : List ℕ} → Holds told name bytes → length bytes ≤ size_limit → addresses < length bytes → RefusesImage told name addresses TooLong
+  beyond : (bytes : List ℕ) → Holds told name bytes → length bytes ≤ size_limit → addresses < length bytes → RefusesImage told name addresses TooLong
 
 abbrev pub addresses_of : Tables → ℕ
 addresses_of b = 256 ^ b.description.address_bytes

@@ -40,6 +40,5 @@ pub fn answered<F: Files, K: Sink>(
     let tables = Tables::read(alloc, tree)?;
     let checked = Checked::check(alloc, tables)?;
     let input = Input::read(alloc, request.image, checked, files)?;
-    let ending = show(alloc, request.command, &input, out)?;
-    Ok(ending)
+    show(alloc, request.command, &input, out)
 }

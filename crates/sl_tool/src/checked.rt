@@ -8,7 +8,7 @@ use sl_sets::{first_conflict, report_on};
 use std::alloc::{AllocError, Global};
 
 /// A description of which no two constructors are in conflict.
-#[derive(Debug, Drop)]
+#[derive(Drop)]
 pub struct Checked<'s, 'r> {
     pub tables: Tables<'s, 'r>,
 }
@@ -24,7 +24,7 @@ impl<'s, 'r> Checked<'s, 'r> {
 
     /// The description, where it has no conflict.
     pub fn check(alloc: Global, tables: Tables<'s, 'r>) -> Result<Self, Halt>
-        requires { HasCompiled tables.entry.compiled }
+        requires { HasCompiled tables.compiled }
         ensures gives { Gives (Settles (tables_view tables.entry)) checked_view result }
         ensures compiled { IfOk result (λ c. HasCompiled c.tables.compiled) }
         ensures clear { IfOk result (λ c. HasNoConflict has_cube c.tables.compiled.sets.items) }

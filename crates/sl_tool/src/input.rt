@@ -11,7 +11,7 @@ use sl_outside::Files;
 use std::alloc::Global;
 
 /// An image that fits the memory, beside the specification that it is read by.
-#[derive(Debug, Drop)]
+#[derive(Drop)]
 pub struct Input<'s, 'r> {
     pub checked: Checked<'s, 'r>,
     pub image: Vec<u8>,
@@ -43,8 +43,8 @@ impl<'s, 'r> Input<'s, 'r> {
         checked: Checked<'s, 'r>,
         files: &mut F,
     ) -> Result<Self, Halt>
-        requires compiled { HasCompiled checked.entry.tables.compiled }
-        requires clear { HasNoConflict has_cube checked.entry.tables.compiled.sets.items }
+        requires compiled { HasCompiled checked.tables.compiled }
+        requires clear { HasNoConflict has_cube checked.tables.compiled.sets.items }
         ensures gives { Obtains (Loads (F.told files.old) name.now (checked_view checked.entry)) input_view result }
         ensures ready { IfOk result IsReady }
         ensures files { UsesFiles F.told F.faults F.asked files.old files.new (name.now ∷ [])

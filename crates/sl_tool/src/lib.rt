@@ -7,25 +7,33 @@
 //! token, registers, and constructors that test fields for equality and may add to registers. Each
 //! constructor becomes a set of points, a cube. Where two sets are in conflict the specification is refused as ambiguous;
 //! otherwise the one most specific matching constructor is chosen at each place.
-//! `specs/Verdicts.antt` says what becomes of a specification, and `specs/Answers.antt` which text and
-//! status answer a request.
+//!
+//! `answer.rt` has the row of stages: source, tokens, tree, tables, checked, input, and then one room
+//! for each command in `commands/`. `specs/Stages.antt` says what each stage makes of the one before,
+//! and `specs/Answers.antt` what is due of a request.
 #![tactic(auto)]
 
 mod answer;
-mod fault;
-mod files;
+mod checked;
+mod commands;
+mod fetched;
+mod halt;
+mod input;
 mod laws;
 mod lines;
-mod listing;
-mod refusals;
-mod reports;
+mod place;
+mod problem;
+mod refusal;
 mod request;
 mod run_lines;
-mod running;
+mod source;
 mod status;
+mod tables;
+mod tokens;
 mod tool;
+mod tree;
 mod writing;
 
-pub use laws::one_answer;
+pub use laws::{one_answer, some_answer};
 pub use status::Status;
 pub use tool::run_tool;

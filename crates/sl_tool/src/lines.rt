@@ -3,8 +3,9 @@
 
 ghost use Rattle.std.specs.Prelude.{◌≡◌, ◌++◌, ◌≤◌, OnOk, length};
 ghost use Rattle.hex.specs.Hex.{encode_lower};
-ghost use Rattle.sl_tool.specs.Lines.{address_text, listed_line, point_text, place_text, refusal_line};
+ghost use Rattle.sl_tool.specs.Lines.{address_text, listed_line, point_text, place_text};
 
+use crate::place::Place;
 use itoa::Buffer;
 use sl_cube::Point;
 use std::alloc::AllocError;
@@ -41,29 +42,14 @@ pub fn push_point(out: &mut Vec<u8>, point: &Point) -> Result<(), AllocError>
     push_hex(out, &point.context.to_be_bytes())
 }
 
-/// Appends the name of a file and the number of a line, which counts from 1.
-pub fn push_place(out: &mut Vec<u8>, file: &[u8], line: u64) -> Result<(), AllocError>
-    ensures { OnOk result (out.new.items ≡ out.old.items ++ place_text file.now line) }
+/// Appends the name of a file and the number of a line.
+pub fn push_place(out: &mut Vec<u8>, place: &Place) -> Result<(), AllocError>
+    ensures { OnOk result (out.new.items ≡ out.old.items ++ place_text place.now.file place.now.line) }
 {
     let mut buffer = Buffer::new();
-    out.extend_from_slice(file)?;
+    out.extend_from_slice(place.file.as_bytes())?;
     out.extend_from_slice(b":")?;
-    out.extend_from_slice(buffer.format(line).as_bytes())
-}
-
-/// Appends the line of a refusal: its place, and what is refused.
-pub fn push_refusal(
-    out: &mut Vec<u8>,
-    file: &[u8],
-    line: u64,
-    text: &[u8],
-) -> Result<(), AllocError>
-    ensures { OnOk result (out.new.items ≡ out.old.items ++ refusal_line file.now line text.now) }
-{
-    push_place(out, file, line)?;
-    out.extend_from_slice(b": ")?;
-    out.extend_from_slice(text)?;
-    out.extend_from_slice(b"\n")
+    out.extend_from_slice(buffer.format(place.line).as_bytes())
 }
 
 /// Appends a line of a listing: an address, the bytes that are there, and what they are.

@@ -1,9 +1,10 @@
 //! The first stage: the text that the main file expands to.
 
-ghost use Rattle.std.specs.Prelude.{◌≡◌};
+ghost use Rattle.std.specs.Prelude.{◌≡◌, string_bytes};
 ghost use Rattle.sl_preproc.specs.Expanded.{seen};
 ghost use Rattle.sl_preproc.specs.Sound.{IsSound};
 ghost use Rattle.sl_tool.specs.Halts.{halt_of};
+ghost use Rattle.sl_tool.specs.Problems.{refusal};
 
 use crate::halt::Halt;
 use crate::place::{FileName, Place};
@@ -22,7 +23,9 @@ pub struct Source<'r> {
 }
 
 /// The refusal of a line of this file.
-fn refused(file: String, line: u32, problem: Problem) -> Halt {
+fn refused(file: String, line: u32, problem: Problem) -> Halt
+    ensures { result ≡ Halt.Refused (refusal (string_bytes file) line problem) }
+{
     let file = FileName::of(file);
     let line = u64::from(line);
     let place = Place { file, line };

@@ -9,7 +9,7 @@ use sl_description::{Compiled, Refusal as NoDescription, compile};
 use std::alloc::{AllocError, Global};
 
 /// What a tree describes, beside it.
-#[derive(Debug, Drop)]
+#[derive(Drop)]
 pub struct Tables<'s, 'r> {
     pub tree: Tree<'s, 'r>,
     pub compiled: Compiled<'s>,
@@ -30,7 +30,7 @@ impl<'s, 'r> Tables<'s, 'r> {
 
     /// What the tree describes, where it is of the form that is compiled today and keeps the rules.
     pub fn read(alloc: Global, tree: Tree<'s, 'r>) -> Result<Self, Halt>
-        requires { indexes_of tree.entry.spec ≡ firsts (items_of tree.entry.spec) }
+        requires { indexes_of tree.spec ≡ firsts (items_of tree.spec) }
         ensures gives { Gives (Tabulates (tree_view tree.entry)) tables_view result }
         ensures compiled { IfOk result (λ b. HasCompiled b.compiled) }
     {

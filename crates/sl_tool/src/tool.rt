@@ -1,17 +1,19 @@
 //! The whole call: words, files and an output.
 
-ghost use Rattle.std.specs.Prelude.{◌≡◌, ◌≢◌, ◌⊎◌, ◌≤◌, map, string_bytes};
-ghost use Rattle.std.specs.Io.KnownBytes.{Appends};
-ghost use Rattle.sl_outside.specs.Causes.{Rose};
-ghost use Rattle.sl_tool.specs.Answers.{Ends};
-ghost use Rattle.sl_tool.specs.Writing.{AppendsFront};
+ghost use Rattle.std.specs.Prelude.{◌≡◌, ◌≢◌, map, string_bytes};
+ghost use Rattle.sl_outside.specs.Uses.{UsesSink};
+ghost use Rattle.sl_tool.specs.Ends.{Ends, RunsFor};
+ghost use Rattle.sl_tool.specs.Problems.{refusal_text};
+ghost use Rattle.sl_tool.specs.Request.{request_of as request_meant};
+ghost use Rattle.sl_tool.specs.Writing.{IsWritten};
 
-use crate::answer::answer_of;
-use crate::fault::Fault;
+use crate::answer::answered;
+use crate::halt::Halt;
+use crate::refusal::Refusal;
 use crate::request::{USAGE, request_of};
-use crate::status::Status;
+use crate::status::{Status, ended};
 use crate::writing::write_all;
-use sl_outside::{Files, Sink, SinkError};
+use sl_outside::{Files, Sink};
 use std::alloc::Global;
 
 /// Answers the words of a command line, the program's name first, from these files, and writes the
@@ -28,34 +30,43 @@ pub fn run_tool<F: Files, K: Sink>(
     files: &mut F,
     out: &mut K,
 ) -> Status
-    ensures ends { Ends (map string_bytes words.now) (F.told files.old) (K.taken out.old) (K.taken out.new) result }
-    ensures read_fault { result ≡ Status.ReadFault → Rose (F.faults files.old) (F.faults files.new) }
-    ensures write_fault { result ≡ Status.WriteFault → Rose (K.faults out.old) (K.faults out.new) }
-    ensures same_folder { F.told files.new ≡ F.told files.old }
-    ensures files_never_fall { F.faults files.old ≤ F.faults files.new }
-    ensures sink_never_falls { K.faults out.old ≤ K.faults out.new }
+    ensures ends { Ends (F.told files.old) (request_meant (map string_bytes words.now)) (K.taken out.old) (K.taken out.new) result }
+    ensures files { RunsFor F.told F.faults F.asked (request_meant (map string_bytes words.now)) files.old files.new result }
+    ensures sink { UsesSink K.faults K.calls out.old out.new (result ≡ Status.WriteFault) }
+    ensures unwritten { result ≡ Status.ReadFault → K.calls out.new ≡ K.calls out.old }
 {
     let Some(request) = request_of(words) else {
         return written(out, USAGE.as_bytes(), Status::Usage);
     };
-    match answer_of(alloc, request, files) {
-        Ok(answer) => written(out, answer.text.as_slice(), answer.status),
-        Err(Fault::Read) => Status::ReadFault,
-        Err(Fault::NoMemory) => Status::NoMemory,
+    match answered(alloc, request, files, out) {
+        Ok(ending) => ended(ending),
+        Err(Halt::Refused(refusal)) => refused(alloc, &refusal, out),
+        Err(Halt::ReadFault) => Status::ReadFault,
+        Err(Halt::WriteFault) => Status::WriteFault,
+        Err(Halt::NoMemory) => Status::NoMemory,
+    }
+}
+
+/// Writes the text of a refusal.
+fn refused<K: Sink>(alloc: Global, refusal: &Refusal, out: &mut K) -> Status
+    ensures whole { IsWritten (K.taken out.old) (K.taken out.new) (refusal_text refusal.now) Status.Refused result }
+    ensures sink { UsesSink K.faults K.calls out.old out.new (result ≡ Status.WriteFault) }
+{
+    match refusal.text(alloc) {
+        Ok(text) => written(out, text.as_slice(), Status::Refused),
+        Err(_) => Status::NoMemory,
     }
 }
 
 /// Writes the text. The status is this one where the whole of it was written.
-fn written<K: Sink>(out: &mut K, text: &[u8], status: Status) -> Status
-    requires { status ≢ Status.WriteFault }
-    ensures ends { ((result ≡ status) × Appends (K.taken out.old) (K.taken out.new) text.now)
-        ⊎ (((result ≡ Status.WriteFault) ⊎ (result ≡ Status.NoMemory)) × AppendsFront (K.taken out.old) (K.taken out.new) text.now) }
-    ensures failed { result ≡ Status.WriteFault → Rose (K.faults out.old) (K.faults out.new) }
-    ensures never_falls { K.faults out.old ≤ K.faults out.new }
+fn written<K: Sink>(out: &mut K, text: &[u8], wanted: Status) -> Status
+    requires { wanted ≢ Status.WriteFault }
+    ensures whole { IsWritten (K.taken out.old) (K.taken out.new) text.now wanted result }
+    ensures sink { UsesSink K.faults K.calls out.old out.new (result ≡ Status.WriteFault) }
 {
     match write_all(out, text) {
-        Ok(()) => status,
-        Err(SinkError::Failed) => Status::WriteFault,
-        Err(SinkError::NoMemory) => Status::NoMemory,
+        Ok(()) => wanted,
+        Err(Halt::WriteFault) => Status::WriteFault,
+        Err(_) => Status::NoMemory,
     }
 }

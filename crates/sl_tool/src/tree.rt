@@ -12,7 +12,7 @@ use sl_parse::{ParseError, parse};
 use std::alloc::Global;
 
 /// The tree of a specification, beside its tokens.
-#[derive(Debug, Drop)]
+#[derive(Drop)]
 pub struct Tree<'s, 'r> {
     pub tokens: Tokens<'s, 'r>,
     pub spec: Spec<'s>,

@@ -1,29 +1,71 @@
-//! The listing of an image.
+//! `list`: the listing of an image.
 
-ghost use Rattle.std.specs.Prelude.{◌≡◌, ◌<◌, ◌≤◌, ◌^◌, IfOk, MatchOption, List, length, map};
+ghost use Rattle.std.specs.Prelude.{◌≡◌, ◌<◌, ◌≤◌, ◌^◌, IfOk, MatchOption, length, map};
 ghost use Rattle.std.specs.Int.{w128, from_be_bytes};
-ghost use Rattle.sl_cube.specs.declared.Cube.{Cube};
+ghost use Rattle.sl_description.specs.Views.{description};
+ghost use Rattle.sl_outside.specs.Folder.{size_limit};
+ghost use Rattle.sl_outside.specs.Uses.{UsesSink};
 ghost use Rattle.sl_sets.specs.Cubes.{has_cube};
-ghost use Rattle.sl_tool.specs.Listing.{Lists, bytes_at};
-ghost use Rattle.sl_sets.specs.Scan.{StandsFor};
 ghost use Rattle.sl_sets.specs.Sets.{HasNoConflict, IsUnmatched};
-ghost use Rattle.sl_tool.specs.Shown.{Chooses, IsChosenText, IsShown, mnemonics};
+ghost use Rattle.sl_tool.specs.Answers.{listing_of};
+ghost use Rattle.sl_tool.specs.Compiled.{HasCompiled};
+ghost use Rattle.sl_tool.specs.Inputs.{IsReady};
+ghost use Rattle.sl_tool.specs.Listing.{Lists, bytes_at};
+ghost use Rattle.sl_tool.specs.Outcomes.{FailsToWrite, Streams};
+ghost use Rattle.sl_tool.specs.Shown.{IsChosenText, IsShown, mnemonics};
 
+use crate::halt::Halt;
+use crate::input::Input;
 use crate::lines::push_listed;
+use crate::status::Ending;
+use crate::writing::write_all;
 use sl_cube::Point;
-use sl_description::Constructor;
+use sl_description::{Compiled, Constructor};
+use sl_outside::Sink;
 use sl_sets::Chooser;
 use std::alloc::{AllocError, Global};
 
 /// What is shown where no constructor matches.
 const MARK: &[u8] = b"??";
 
+/// Writes the listing of the image.
+pub fn list<K: Sink>(alloc: Global, input: &Input<'_, '_>, out: &mut K) -> Result<Ending, Halt>
+    requires { IsReady input.now }
+    ensures streams { Streams (listing_of (description input.now.checked.tables.compiled.description) input.now.image.items)
+        (K.taken out.old) (K.taken out.new) result }
+    ensures sink { UsesSink K.faults K.calls out.old out.new (FailsToWrite result) }
+{
+    let compiled = &input.checked.tables.compiled;
+    let lines = list_image(alloc, compiled, input.image.as_slice())?;
+    write_all(out, lines.as_slice())?;
+    Ok(Ending::Done)
+}
+
+/// The lines of the listing.
+fn list_image(alloc: Global, compiled: &Compiled, image: &[u8]) -> Result<Vec<u8>, AllocError>
+    requires compiled { HasCompiled compiled.now }
+    requires clear { HasNoConflict has_cube compiled.now.sets.items }
+    requires within { length image.now ≤ size_limit }
+    ensures { IfOk result (λ lines. listing_of (description compiled.now.description) image.now Ending.Done lines.items) }
+{
+    let chooser = Chooser::build(alloc, compiled.sets.as_slice())?;
+    let lines = listing(
+        alloc,
+        &chooser,
+        compiled.description.constructors.as_slice(),
+        compiled.description.address_bytes as usize,
+        (compiled.description.token_bits / 8) as usize,
+        image,
+    )?;
+    Ok(lines)
+}
+
 /// The listing of the image, whose first byte has address 0. Zeros follow the image, both where a
 /// constructor is chosen and in the bytes that are shown. The only error is want of memory.
-pub fn listing(
+fn listing(
     alloc: Global,
-    chooser: &Chooser,
-    constructors: &[Constructor],
+    chooser: &Chooser<'_>,
+    constructors: &[Constructor<'_>],
     address_bytes: usize,
     token_bytes: usize,
     image: &[u8],
@@ -32,9 +74,8 @@ pub fn listing(
     requires some_token { 1 ≤ token_bytes }
     requires token_bytes { token_bytes ≤ 8 }
     requires image { length image.now < 2 ^ 63 }
-    ensures { (cubes : List Cube) → StandsFor chooser.now cubes → HasNoConflict has_cube cubes
-        → length cubes ≡ length constructors.now
-        → IfOk result (λ text. Lists has_cube cubes (map (λ c. c.mnemonic.now) constructors.now)
+    requires counted { length chooser.now ≡ length constructors.now }
+    ensures { IfOk result (λ text. Lists has_cube chooser.now (mnemonics constructors.now)
         address_bytes token_bytes image.now 0 text.items) }
 {
     let mut out = Vec::new(alloc);
@@ -73,17 +114,17 @@ fn point_of(window: [u8; 16]) -> Point
 
 /// How many bytes are shown at the point, and the text beside them.
 fn shown<'a>(
-    chooser: &Chooser,
+    chooser: &Chooser<'_>,
     constructors: &[Constructor<'a>],
     token_bytes: usize,
     point: &Point,
 ) -> (usize, &'a [u8])
     requires some_token { 1 ≤ token_bytes }
     requires token_bytes { token_bytes ≤ 8 }
+    requires counted { length chooser.now ≡ length constructors.now }
     ensures some { 1 ≤ result.0 }
     ensures most { result.0 ≤ 8 }
-    ensures shown { (cubes : List Cube) → Chooses chooser.now cubes (mnemonics constructors.now)
-        → IsShown cubes (mnemonics constructors.now) token_bytes point.now result.0 result.1.now }
+    ensures shown { IsShown chooser.now (mnemonics constructors.now) token_bytes point.now result.0 result.1.now }
 {
     match chosen(chooser, constructors, point) {
         Some(text) => (token_bytes, text),
@@ -93,13 +134,13 @@ fn shown<'a>(
 
 /// The text of the constructor that is chosen at the point.
 fn chosen<'a>(
-    chooser: &Chooser,
+    chooser: &Chooser<'_>,
     constructors: &[Constructor<'a>],
     point: &Point,
 ) -> Option<&'a [u8]>
-    ensures { (cubes : List Cube) → Chooses chooser.now cubes (mnemonics constructors.now)
-        → MatchOption result (IsUnmatched has_cube cubes point.now)
-        (λ text. IsChosenText cubes (mnemonics constructors.now) point.now text.now) }
+    requires { length chooser.now ≡ length constructors.now }
+    ensures { MatchOption result (IsUnmatched has_cube chooser.now point.now)
+        (λ text. IsChosenText chooser.now (mnemonics constructors.now) point.now text.now) }
 {
     let index = chooser.pick(point)?;
     let constructor = constructors.get(index)?;

@@ -1,42 +1,70 @@
-//! The run of an image.
+//! `run`: the run of an image.
 
-ghost use Rattle.std.specs.Prelude.{◌≡◌, ◌<◌, ◌≤◌, ◌^◌, IfOk, length};
+ghost use Rattle.std.specs.Prelude.{◌≡◌, ◌≤◌, ◌^◌, IfOk, length};
 ghost use Rattle.std.specs.List.{AllByRecursion};
-ghost use Rattle.sl_word.specs.Bytes.{address_sizes as sizes_of_state};
 ghost use Rattle.sl_description.specs.Registers.{address_sizes_of};
 ghost use Rattle.sl_description.specs.Rules.{IsSound};
 ghost use Rattle.sl_description.specs.Views.{description, seen_registers, statements};
+ghost use Rattle.sl_outside.specs.Uses.{UsesSink};
 ghost use Rattle.sl_run.specs.Machine.{RegisterFits};
 ghost use Rattle.sl_sets.specs.Cubes.{has_cube};
 ghost use Rattle.sl_sets.specs.Sets.{HasNoConflict};
-ghost use Rattle.sl_tool.specs.Given.{HasCompiled};
+ghost use Rattle.sl_tool.specs.Compiled.{HasCompiled};
+ghost use Rattle.sl_tool.specs.Endings.{ending_of};
+ghost use Rattle.sl_tool.specs.Inputs.{IsReady};
 ghost use Rattle.sl_tool.specs.Opened.{HasRun, IsOpened, TellsRun};
-ghost use Rattle.sl_tool.specs.Running.{IsRun, status_of};
+ghost use Rattle.sl_tool.specs.Outcomes.{FailsToWrite, Streams};
+ghost use Rattle.sl_tool.specs.Running.{IsRun};
+ghost use Rattle.sl_word.specs.Bytes.{address_sizes as sizes_of_state};
+ghost use Rattle.sl_word.specs.Sizes.{byte_counts};
 
+use crate::halt::Halt;
+use crate::input::Input;
 use crate::run_lines::{push_changes, push_counter, push_fault, push_registers, push_steps};
+use crate::status::{Ending, ending_of};
+use crate::writing::write_all;
 use sl_description::{Compiled, Description};
+use sl_outside::Sink;
 use sl_run::{Outcome, run_steps};
 use sl_sets::Chooser;
-use sl_word::{SpaceId, State};
+use sl_word::{AddressSize, SpaceId, State};
 use std::alloc::{AllocError, Global};
 
-/// How many bytes an address has in each space: the memory, and the register space if there is one.
-fn address_sizes(alloc: Global, d: &Description) -> Result<Vec<u8>, AllocError>
+/// Writes the run of the image for at most so many steps.
+pub fn run<K: Sink>(
+    alloc: Global,
+    input: &Input<'_, '_>,
+    steps: u64,
+    out: &mut K,
+) -> Result<Ending, Halt>
+    requires { IsReady input.now }
+    ensures streams { Streams (IsRun (description input.now.checked.tables.compiled.description) input.now.image.items steps)
+        (K.taken out.old) (K.taken out.new) result }
+    ensures sink { UsesSink K.faults K.calls out.old out.new (FailsToWrite result) }
+{
+    let compiled = &input.checked.tables.compiled;
+    let (lines, has_stopped) = run_image(alloc, compiled, input.image.as_slice(), steps)?;
+    write_all(out, lines.as_slice())?;
+    Ok(ending_of(has_stopped))
+}
+
+/// The size of addresses in each space: the memory, and the register space if there is one.
+fn address_sizes(alloc: Global, d: &Description) -> Result<Vec<AddressSize>, AllocError>
     requires { IsSound (description d.now) }
-    ensures { IfOk result (λ sizes. sizes.items ≡ address_sizes_of (description d.now)) }
+    ensures { IfOk result (λ sizes. byte_counts sizes.items ≡ address_sizes_of (description d.now)) }
 {
     let mut sizes = Vec::new(alloc);
-    sizes.push(d.address_bytes as u8)?;
+    sizes.push(AddressSize::new(d.address_bytes as u8).unwrap())?;
     if let Some(space) = &d.registers {
-        sizes.push(space.address_bytes as u8)?;
+        sizes.push(AddressSize::new(space.address_bytes as u8).unwrap())?;
     }
     Ok(sizes)
 }
 
 /// A machine with the image in its memory, before the first step.
-fn opened(alloc: Global, d: &Description, sizes: &[u8], image: &[u8]) -> Result<State, AllocError>
+fn opened(alloc: Global, d: &Description, sizes: &[AddressSize], image: &[u8]) -> Result<State, AllocError>
     requires sound { IsSound (description d.now) }
-    requires sizes { sizes.now ≡ address_sizes_of (description d.now) }
+    requires sizes { byte_counts sizes.now ≡ address_sizes_of (description d.now) }
     requires fits { length image.now ≤ 256 ^ d.now.address_bytes }
     ensures { IfOk result (IsOpened (description d.now) image.now) }
 {
@@ -46,16 +74,16 @@ fn opened(alloc: Global, d: &Description, sizes: &[u8], image: &[u8]) -> Result<
 }
 
 /// The machine after at most so many steps from the image, and how they ended.
-fn run(
+fn machine_after(
     alloc: Global,
     compiled: &Compiled,
-    sizes: &[u8],
+    sizes: &[AddressSize],
     image: &[u8],
     steps: u64,
 ) -> Result<(State, Outcome), AllocError>
     requires compiled { HasCompiled compiled.now }
     requires clear { HasNoConflict has_cube compiled.now.sets.items }
-    requires sizes { sizes.now ≡ address_sizes_of (description compiled.now.description) }
+    requires sizes { byte_counts sizes.now ≡ address_sizes_of (description compiled.now.description) }
     requires fits { length image.now ≤ 256 ^ compiled.now.description.address_bytes }
     ensures { IfOk result (λ r. HasRun (description compiled.now.description) (statements compiled.now.resolution.sections.items) image.now steps r.0 r.1) }
 {
@@ -103,7 +131,7 @@ fn run_text(
 
 /// The run of the image for at most so many steps: its text, and whether it stopped at a fault. The
 /// only error is want of memory.
-pub fn run_image(
+fn run_image(
     alloc: Global,
     compiled: &Compiled,
     image: &[u8],
@@ -112,12 +140,12 @@ pub fn run_image(
     requires compiled { HasCompiled compiled.now }
     requires clear { HasNoConflict has_cube compiled.now.sets.items }
     requires fits { length image.now ≤ 256 ^ compiled.now.description.address_bytes }
-    ensures { IfOk result (λ r. IsRun (description compiled.now.description) image.now steps (status_of r.1) r.0.items) }
+    ensures { IfOk result (λ r. IsRun (description compiled.now.description) image.now steps (ending_of r.1) r.0.items) }
 {
     let d = &compiled.description;
     let sizes = address_sizes(alloc, d)?;
     let opening = opened(alloc, d, sizes.as_slice(), image)?;
-    let (state, outcome) = run(alloc, compiled, sizes.as_slice(), image, steps)?;
+    let (state, outcome) = machine_after(alloc, compiled, sizes.as_slice(), image, steps)?;
     let lines = run_text(alloc, compiled, &opening, &state, outcome)?;
     Ok((lines, outcome.stopped))
 }

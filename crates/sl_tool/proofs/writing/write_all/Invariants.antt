@@ -7,6 +7,7 @@ invariant-pieces g l = record {
   within : l.at ≤ length l.text;
   written : Appends (g.K.Sink.taken l.fn.out) (g.K.Sink.taken l.out) (take l.at l.text);
   faults : g.K.Sink.faults l.fn.out ≤ g.K.Sink.faults l.out;
+  calls : g.K.Sink.calls l.fn.out ≤ g.K.Sink.calls l.out;
 }
 
 abbrev pub decreases-pieces : goal.decreases-pieces

@@ -1,0 +1,226 @@
+-- Each stage has one result, and it can't be that it has none.
+use Rattle.std.proofs.Common.{◌≡◌, ℕ, ◌/◌, ◌^◌, ◌<◌, ◌≤◌, ◌⊎◌, inl, inr, List, Option, Some, None, Result, Ok, Err, refl, sym, ap, subst, ◌∙◌, length, arith}
+use Rattle.std.proofs.lemmas.Bool.{cases_lt}
+use Rattle.std.specs.Prelude.{slice_get}
+use Rattle.sl_ast.specs.Spelling.{spell}
+use Rattle.sl_ast.specs.Trees.{Item}
+use Rattle.sl_ast.specs.Unfolding.{firsts}
+use Rattle.sl_ast.specs.Validity.{AreItems}
+use Rattle.sl_description.specs.Compiles.{AreSound}
+use Rattle.sl_description.specs.Description.{Constructor, Description}
+use Rattle.sl_description.specs.Fields.{Matches}
+use Rattle.sl_description.proofs.EachLemmas.{some_is}
+use Rattle.sl_grammar.specs.Faults.{Reason}
+use Rattle.sl_grammar.proofs.Faults.{one_fault, one_tree, tree_has_no_fault}
+use Rattle.sl_lex.specs.Faults.{Fault}
+use Rattle.sl_lex.specs.Reading.{Token, ReadsAs, HasBadPlace}
+use Rattle.sl_lex.proofs.OneReading.{one_bad_place, one_reading, reads_well}
+use Rattle.sl_outside.specs.Folder.{Folder, IsTooLong, size_limit}
+use Rattle.sl_parse.specs.Parsing.{TellsFault}
+use Rattle.sl_preproc.specs.Expanded.{Text, expanded}
+use Rattle.sl_sets.specs.Reports.{IsReport}
+use Rattle.sl_sets.specs.Sets.{HasNoConflict, IsFirstConflict}
+use Rattle.sl_sets.specs.declared.conflicts.Report.{Report}
+use Rattle.sl_sets.proofs.SomeSets.{some_first_conflict, some_report}
+use Rattle.sl_sets.proofs.Surely.{surely, surely_either, surely_map, surely_then}
+use Rattle.sl_sets.proofs.UniqueSets.{first_is_one, report_is_one}
+use Rattle.sl_symbols.specs.Symbols.{symbols_of}
+use Rattle.sl_tool.specs.Places.{place_of_byte, place_of_token, refusal_at}
+use Rattle.sl_tool.specs.Problems.{refusal}
+use Rattle.sl_tool.specs.Stage.{HasOneResult, HasSomeResult, Surely, Then}
+use Rattle.sl_tool.specs.Stages.{Expands, Tokenizes, Parses, Tabulates, Settles, IsAmbiguous, Loads, RefusesImage, IsImage, Judges, addresses_of, problem_of_fault, problem_of_reason, source_of}
+use Rattle.sl_tool.specs.Stages.RefusesImage.{absent, too_long, beyond}
+use Rattle.sl_tool.specs.Values.{Source, Tokens, Tree, Tables, Input, input, tables, tokens, tree}
+use Rattle.sl_tool.specs.declared.problem.Problem.{Problem}
+use Rattle.sl_tool.specs.declared.problem.Problem.TheVariants.{Ambiguous, NoFile, NotYet, TooLong}
+use Rattle.sl_tool.specs.declared.refusal.Refusal.{Refusal}
+use Rattle.sl_tool.proofs.SomeFault.{some_tree_or_fault}
+use Rattle.sl_tool.proofs.Thens.{then_one, then_some}
+
+none_is : {A : Type 0} (x : A) → None ≡ Some x → ⊥
+none_is x e = absurd (cc)
+
+-- ---- values by their parts
+
+tokens_is : (k l : Tokens) → k.source ≡ l.source → k.tokens ≡ l.tokens → k ≡ l
+tokens_is k l e f = ap (λ (s : Source). tokens s k.tokens) e ∙ ap (λ (ts : List Token). tokens l.source ts) f
+
+tree_is : (t u : Tree) → t.tokens ≡ u.tokens → t.items ≡ u.items → t ≡ u
+tree_is t u e f = ap (λ (k : Tokens). tree k t.items) e ∙ ap (λ (xs : List Item). tree u.tokens xs) f
+
+tables_is : (b c : Tables) → b.tree ≡ c.tree → b.description ≡ c.description → b ≡ c
+tables_is b c e f = ap (λ (t : Tree). tables t b.description) e ∙ ap (λ (d : Description). tables c.tree d) f
+
+input_is : (i j : Input) → i.tables ≡ j.tables → i.image ≡ j.image → i ≡ j
+input_is i j e f = ap (λ (b : Tables). input b i.image) e ∙ ap (λ (bs : List ℕ). input j.tables bs) f
+
+-- ---- 1: expansions
+
+expands_one : (folder : Folder) → HasOneResult (Expands (Some folder))
+expands_one folder name r q h g = h ∙ sym g
+
+expands_some : (told : Option Folder) (name : List ℕ) → HasSomeResult (Expands told) name
+expands_some (Some folder) name = surely (let p : (r : Result Source Refusal) × Expands (Some folder) name r = (source_of name (expanded folder name), refl) in p)
+expands_some None name = surely (let p : (r : Result Source Refusal) × Expands None name r = (Err (refusal name 0 NoFile), tt) in p)
+
+-- ---- 2: tokens
+
+tokenizes_one : HasOneResult Tokenizes
+tokenizes_one s (Ok k) (Ok l) h g = ap Ok (tokens_is k l (h.0 ∙ sym g.0) (one_reading s.text.bytes k.tokens l.tokens h.1 g.1))
+tokenizes_one s (Ok k) (Err x) h g = absurd (reads_well s.text.bytes k.tokens g.0 g.1 h.1 g.2)
+tokenizes_one s (Err x) (Ok k) h g = absurd (reads_well s.text.bytes k.tokens h.0 h.1 g.1 h.2)
+tokenizes_one s (Err x) (Err y) h g =
+    let one = one_bad_place s.text.bytes h.0 g.0 h.1 g.1 h.2 g.2 in
+    ap Err (h.3 ∙ ap (λ (f : Fault). refusal_at (place_of_byte s.text h.1) (problem_of_fault f)) one.0
+    ∙ ap (λ (n : ℕ). refusal_at (place_of_byte s.text n) (problem_of_fault g.0)) one.1 ∙ sym g.3)
+
+tokenizes_some : (s : Source) → HasSomeResult Tokenizes s
+tokenizes_some s = ?
+
+-- ---- 3: trees
+
+parses_one : HasOneResult Parses
+parses_one k (Ok t) (Ok u) h g = ap Ok (tree_is t u (h.0 ∙ sym g.0) (one_tree t.items u.items h.2 g.2 (sym h.1 ∙ g.1)))
+parses_one k (Ok t) (Err x) h g = absurd (tree_has_no_fault (symbols_of k.tokens) t.items g.0 g.1 (sym h.1) h.2 g.2.found)
+parses_one k (Err x) (Ok t) h g = absurd (tree_has_no_fault (symbols_of k.tokens) t.items h.0 h.1 (sym g.1) g.2 h.2.found)
+parses_one k (Err x) (Err y) h g =
+    let one = one_fault (symbols_of k.tokens) h.0 g.0 h.1 g.1 h.2.found g.2.found in
+    ap Err (h.3 ∙ ap (λ (r : Reason). refusal_at (place_of_token k h.1) (problem_of_reason r)) one.0
+    ∙ ap (λ (n : ℕ). refusal_at (place_of_token k n) (problem_of_reason g.0)) one.1 ∙ sym g.3)
+
+parses_by : (k : Tokens) → ((items : List Item) × AreItems items × (symbols_of k.tokens ≡ spell items))
+    ⊎ ((reason : Reason) × (index : ℕ) × TellsFault (symbols_of k.tokens) reason index) → (r : Result Tree Refusal) × Parses k r
+parses_by k (inl t) = (Ok (tree k t.0), (refl, t.2, t.1))
+parses_by k (inr f) = (Err (refusal_at (place_of_token k f.1) (problem_of_reason f.0)), (f.0, f.1, f.2, refl))
+
+parses_some : (k : Tokens) → HasSomeResult Parses k
+parses_some k = surely (parses_by k (some_tree_or_fault (symbols_of k.tokens)))
+
+-- ---- 4: descriptions
+
+tabulates_one : HasOneResult Tabulates
+tabulates_one t (Ok b) (Ok c) h g = ap Ok (tables_is b c (h.0 ∙ sym g.0) (some_is b.description c.description (sym h.1.form ∙ g.1.form)))
+tabulates_one t (Ok b) (Err x) h g = absurd (g.0 b.description h.1)
+tabulates_one t (Err x) (Ok b) h g = absurd (h.0 b.description g.1)
+tabulates_one t (Err x) (Err y) h g = ap Err (h.1 ∙ sym g.1)
+
+abbrev HasDescription : Tree → Type 0
+HasDescription t = (d : Description) × AreSound t.items (firsts t.items) d
+
+tabulates_by : (t : Tree) → HasDescription t ⊎ (HasDescription t → ⊥) → (r : Result Tables Refusal) × Tabulates t r
+tabulates_by t (inl d) = (Ok (tables t d.0), (refl, d.1))
+tabulates_by t (inr none) = (Err (refusal t.tokens.source.name 0 NotYet), (λ d h. none (d, h), refl))
+
+tabulates_some : (t : Tree) → HasSomeResult Tabulates t
+tabulates_some t = surely_map (tabulates_by t) (surely_either (HasDescription t))
+
+-- ---- 5: conflicts
+
+-- the refusal for a conflict between these two
+abbrev refusal_of : Tables → Constructor → Constructor → Report → Refusal
+refusal_of b x y told = refusal_at (place_of_token b.tree.tokens x.first) (Ambiguous (record { other = place_of_token b.tree.tokens y.first; report = told }))
+
+settles_one : HasOneResult Settles
+settles_one b (Ok c) (Ok e) h g = ap Ok (h.0 ∙ sym g.0)
+settles_one b (Ok c) (Err x) h g = absurd (h.1 g.first g.second g.conflict.here)
+settles_one b (Err x) (Ok c) h g = absurd (g.1 h.first h.second h.conflict.here)
+settles_one b (Err x) (Err y) h g =
+    let d = b.description in
+    let same = first_is_one (Matches d) d.constructors h.first h.second g.first g.second h.conflict g.conflict in
+    let c = h.conflict.here in
+    let k = g.conflict.here in
+    let one_first : c.first ≡ k.first = some_is c.first k.first (sym c.first_is ∙ ap (λ (i : ℕ). slice_get d.constructors i) same.0 ∙ k.first_is) in
+    let one_second : c.second ≡ k.second = some_is c.second k.second (sym c.second_is ∙ ap (λ (i : ℕ). slice_get d.constructors i) same.1 ∙ k.second_is) in
+    let of_first : IsReport (Matches d) c.first k.second g.told = subst (λ (x : Constructor). IsReport (Matches d) x k.second g.told) (sym one_first) g.report in
+    let of_both : IsReport (Matches d) c.first c.second g.told = subst (λ (x : Constructor). IsReport (Matches d) c.first x g.told) (sym one_second) of_first in
+    let told : h.told ≡ g.told = report_is_one (Matches d) c.first c.second h.told g.told h.report of_both in
+    ap Err (h.is ∙ ap (λ (x : Constructor). refusal_of b x c.second h.told) one_first ∙ ap (λ (x : Constructor). refusal_of b k.first x h.told) one_second
+    ∙ ap (λ (r : Report). refusal_of b k.first k.second r) told ∙ sym g.is)
+
+settles_by : (b : Tables) → HasNoConflict (Matches b.description) b.description.constructors
+    ⊎ ((i j : ℕ) × IsFirstConflict (Matches b.description) b.description.constructors i j) → HasSomeResult Settles b
+settles_by b (inl clear) = surely (let p : (r : Result Tables Refusal) × Settles b r = (Ok b, (refl, clear)) in p)
+settles_by b (inr f) =
+    surely_map (λ (t : (told : Report) × IsReport (Matches b.description) f.2.here.first f.2.here.second told).
+    let p : (r : Result Tables Refusal) × Settles b r = (
+      Err (refusal_at (place_of_token b.tree.tokens f.2.here.first.first) (Ambiguous (record { other = place_of_token b.tree.tokens f.2.here.second.first; report = t.0 }))),
+      record { first = f.0; second = f.1; told = t.0; conflict = f.2; report = t.1; is = refl },
+    ) in p)
+    (some_report (Matches b.description) f.2.here.first f.2.here.second f.2.here.conflict)
+
+settles_some : (b : Tables) → HasSomeResult Settles b
+settles_some b = surely_then (some_first_conflict (Matches b.description) b.description.constructors) (settles_by b)
+
+-- ---- 6: images
+
+no_long : (folder : Folder) (name : List ℕ) → folder name ≡ None → IsTooLong (folder name) → ⊥
+no_long folder name e h = subst IsTooLong e h
+
+held_long : (folder : Folder) (name bytes : List ℕ) → folder name ≡ Some bytes → length bytes ≤ size_limit → IsTooLong (folder name) → ⊥
+held_long folder name bytes e within h =
+    let more : size_limit < length bytes = subst IsTooLong e h in
+    absurd (omega (arith, within, more))
+
+not_refused : (folder : Folder) (name : List ℕ) (n : ℕ) (bytes : List ℕ) (p : Problem) → IsImage (Some folder) name n bytes → RefusesImage (Some folder) name n p → ⊥
+not_refused folder name n bytes p h (absent lacks) = absurd (none_is bytes (sym lacks ∙ h.has))
+not_refused folder name n bytes p h (too_long long) = absurd (held_long folder name bytes h.has h.within long)
+not_refused folder name n bytes p h (beyond b has within more) =
+    let same : b ≡ bytes = some_is b bytes (sym has ∙ h.has) in
+    absurd (omega (arith, more, h.fits, ap length same))
+
+problem_one : (folder : Folder) (name : List ℕ) (n : ℕ) (p q : Problem) → RefusesImage (Some folder) name n p → RefusesImage (Some folder) name n q → p ≡ q
+problem_one folder name n p q (absent a) (absent b) = refl
+problem_one folder name n p q (absent a) (too_long b) = absurd (no_long folder name a b)
+problem_one folder name n p q (absent a) (beyond b has w m) = absurd (none_is b (sym a ∙ has))
+problem_one folder name n p q (too_long a) (absent b) = absurd (no_long folder name b a)
+problem_one folder name n p q (too_long a) (too_long b) = refl
+problem_one folder name n p q (too_long a) (beyond b has w m) = refl
+problem_one folder name n p q (beyond b has w m) (absent a) = absurd (none_is b (sym a ∙ has))
+problem_one folder name n p q (beyond b has w m) (too_long long) = refl
+problem_one folder name n p q (beyond b has w m) (beyond c also v k) = refl
+
+loads_one : (folder : Folder) (name : List ℕ) → HasOneResult (Loads (Some folder) name)
+loads_one folder name b (Ok i) (Ok j) h g = ap Ok (input_is i j (h.0 ∙ sym g.0) (some_is i.image j.image (sym h.1.has ∙ g.1.has)))
+loads_one folder name b (Ok i) (Err x) h g = absurd (not_refused folder name (addresses_of b) i.image g.0 h.1 g.1)
+loads_one folder name b (Err x) (Ok i) h g = absurd (not_refused folder name (addresses_of b) i.image h.0 g.1 h.1)
+loads_one folder name b (Err x) (Err y) h g =
+    ap Err (h.2 ∙ ap (λ (p : Problem). refusal name 0 p) (problem_one folder name (addresses_of b) h.0 g.0 h.1 g.1) ∙ sym g.2)
+
+abbrev Loaded : Option Folder → List ℕ → Tables → Type 0
+Loaded told name b = (r : Result Input Refusal) × Loads told name b r
+
+held_fits : (folder : Folder) (name bytes : List ℕ) (b : Tables) → folder name ≡ Some bytes → length bytes ≤ size_limit
+    → (addresses_of b < length bytes) ⊎ (length bytes ≤ addresses_of b) → Loaded (Some folder) name b
+held_fits folder name bytes b e within (inl more) = (Err (refusal name 0 TooLong), (TooLong, beyond bytes e within more, refl))
+held_fits folder name bytes b e within (inr fits) = (Ok (input b bytes), (refl, record { has = e; within = within; fits = fits }))
+
+held_by : (folder : Folder) (name bytes : List ℕ) (b : Tables) → folder name ≡ Some bytes → (size_limit < length bytes) ⊎ (length bytes ≤ size_limit)
+    → Loaded (Some folder) name b
+held_by folder name bytes b e (inl long) = (Err (refusal name 0 TooLong), (TooLong, too_long (subst IsTooLong (sym e) long), refl))
+held_by folder name bytes b e (inr within) = held_fits folder name bytes b e within (cases_lt (addresses_of b) (length bytes))
+
+held : (folder : Folder) (name : List ℕ) (b : Tables) (o : Option (List ℕ)) → folder name ≡ o → Loaded (Some folder) name b
+held folder name b None e = (Err (refusal name 0 NoFile), (NoFile, absent e, refl))
+held folder name b (Some bytes) e = held_by folder name bytes b e (cases_lt size_limit (length bytes))
+
+pub loads_by : (told : Option Folder) (name : List ℕ) (b : Tables) → Loaded told name b
+loads_by None name b = (Err (refusal name 0 NoFile), (NoFile, absent tt, refl))
+loads_by (Some folder) name b = held folder name b (folder name) refl
+
+pub loads_some : (told : Option Folder) (name : List ℕ) (b : Tables) → HasSomeResult (Loads told name) b
+loads_some told name b = surely (loads_by told name b)
+
+-- ---- the verdict
+
+pub judges_one : (folder : Folder) → HasOneResult (Judges (Some folder))
+judges_one folder = then_one _ _ (expands_one folder) (then_one _ _ tokenizes_one (then_one _ _ parses_one (then_one _ _ tabulates_one settles_one)))
+
+pub judges_some : (told : Option Folder) (name : List ℕ) → HasSomeResult (Judges told) name
+judges_some told name =
+    then_some _ _ name (expands_some told name) (λ s h.
+    then_some _ _ s (tokenizes_some s) (λ k i.
+    then_some _ _ k (parses_some k) (λ t j.
+    then_some _ _ t (tabulates_some t) (λ b l. settles_some b))))
+
+pub images_one : (folder : Folder) (name : List ℕ) → HasOneResult (Loads (Some folder) name)
+images_one = loads_one
