@@ -14,7 +14,9 @@ use Rattle.sl_grammar.specs.Faults.{Reason}
 use Rattle.sl_grammar.proofs.Faults.{one_fault, one_tree, tree_has_no_fault}
 use Rattle.sl_lex.specs.Faults.{Fault}
 use Rattle.sl_lex.specs.Reading.{Token, ReadsAs, HasBadPlace}
+use Rattle.sl_lex.specs.Laws.{HasReading}
 use Rattle.sl_lex.proofs.OneReading.{one_bad_place, one_reading, reads_well}
+use Rattle.sl_lex.proofs.SomeReading.{each_text_reads}
 use Rattle.sl_outside.specs.Folder.{Folder, IsTooLong, size_limit}
 use Rattle.sl_parse.specs.Parsing.{TellsFault}
 use Rattle.sl_preproc.specs.Expanded.{Text, expanded}
@@ -74,8 +76,12 @@ tokenizes_one s (Err x) (Err y) h g =
     ap Err (h.3 ∙ ap (λ (f : Fault). refusal_at (place_of_byte s.text h.1) (problem_of_fault f)) one.0
     ∙ ap (λ (n : ℕ). refusal_at (place_of_byte s.text n) (problem_of_fault g.0)) one.1 ∙ sym g.3)
 
+tokenizes_by : (s : Source) → HasReading s.text.bytes → (r : Result Tokens Refusal) × Tokenizes s r
+tokenizes_by s (inl t) = (Ok (tokens s t.0), (refl, t.1))
+tokenizes_by s (inr f) = (Err (refusal_at (place_of_byte s.text f.1) (problem_of_fault f.0)), (f.0, f.1, f.2, refl))
+
 tokenizes_some : (s : Source) → HasSomeResult Tokenizes s
-tokenizes_some s = ?
+tokenizes_some s = surely (tokenizes_by s (each_text_reads s.text.bytes))
 
 -- ---- 3: trees
 

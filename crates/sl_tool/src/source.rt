@@ -64,7 +64,7 @@ impl<'r> Source<'r> {
         ensures gives { Obtains (Expands (F.told files.old) name.now) source_view result }
         ensures files { (names : List (List ℕ)) × AsksFor (F.told files.old) name.now names
             × UsesFiles F.told F.faults F.asked files.old files.new names
-                (IsEarly result) (FailsToRead result) }
+            (IsEarly result) (FailsToRead result) }
     {
         match expand(alloc, files, name) {
             Ok(expanded) => Ok(Source { name, expanded }),

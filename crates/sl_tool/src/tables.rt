@@ -46,11 +46,7 @@ impl<'s, 'r> Tables<'s, 'r> {
     }
 
     /// The place of a constructor's first token.
-    pub fn constructor_place(
-        &self,
-        alloc: Global,
-        constructor: usize,
-    ) -> Result<Place, AllocError>
+    pub fn constructor_place(&self, alloc: Global, constructor: usize) -> Result<Place, AllocError>
         requires compiled { HasCompiled self.now.compiled }
         requires constructor { constructor < length self.now.compiled.sets.items }
         ensures { IfOk result (λ place. (c : spec.Constructor)

@@ -62,7 +62,12 @@ fn address_sizes(alloc: Global, d: &Description) -> Result<Vec<AddressSize>, All
 }
 
 /// A machine with the image in its memory, before the first step.
-fn opened(alloc: Global, d: &Description, sizes: &[AddressSize], image: &[u8]) -> Result<State, AllocError>
+fn opened(
+    alloc: Global,
+    d: &Description,
+    sizes: &[AddressSize],
+    image: &[u8],
+) -> Result<State, AllocError>
     requires sound { IsSound (description d.now) }
     requires sizes { byte_counts sizes.now ≡ address_sizes_of (description d.now) }
     requires fits { length image.now ≤ 256 ^ d.now.address_bytes }
