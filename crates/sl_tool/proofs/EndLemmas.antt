@@ -4,13 +4,13 @@ use Rattle.std.specs.Io.KnownBytes.{Appends}
 use Rattle.std.proofs.KnownBytes.{Appends-trans}
 use Rattle.sl_outside.specs.Causes.{Rose}
 use Rattle.sl_outside.specs.Folder.{Folder}
-use Rattle.sl_outside.specs.Uses.{Names, Asks, UsesFiles, UsesSink}
+use Rattle.sl_outside.specs.Uses.{Names, Asks, UsesSink}
 use Rattle.sl_tool.specs.Answers.{Answers, UsesFilesFor, text_of, status_of}
 use Rattle.sl_tool.specs.Endings.{ended}
 use Rattle.sl_tool.specs.Ends.{Means, WritesWhole, WritesFirst, Ends, IsEarlyStatus, RunsFor}
-use Rattle.sl_tool.specs.Ends.Means.{usage, answer}
-use Rattle.sl_tool.specs.Outcomes.{FailsToRead, FailsToWrite, IsEarly, Writes, WritesFront}
-use Rattle.sl_tool.specs.Request.{Request, usage_line}
+use Rattle.sl_tool.specs.Ends.Means.{answer}
+use Rattle.sl_tool.specs.Outcomes.{FailsToRead, IsEarly, Writes, WritesFront}
+use Rattle.sl_tool.specs.Request.{Request}
 use Rattle.sl_tool.specs.Values.{Shown, shown}
 use Rattle.sl_tool.specs.Writing.{IsWritten}
 use Rattle.sl_tool.specs.declared.halt.Halt.{Halt}

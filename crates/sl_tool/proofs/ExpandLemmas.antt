@@ -1,9 +1,8 @@
 -- The first stage: what an expansion comes to.
-use Rattle.std.proofs.Common.{◌≡◌, ℕ, List, Option, Some, None, Result, Ok, Err, refl, sym, ap, subst}
+use Rattle.std.proofs.Common.{◌≡◌, ℕ, List, Option, Some, None, Ok, Err, refl, sym, ap}
 use Rattle.sl_outside.specs.Folder.{Folder}
 use Rattle.sl_outside.specs.Uses.{Names, UsesFiles}
 use Rattle.sl_directive.specs.declared.fault.Cause.TheVariants as cause
-use Rattle.sl_preproc.specs.Asks.{AsksFor}
 use Rattle.sl_preproc.specs.Expanded.{Text, expanded, seen}
 use Rattle.sl_preproc.specs.Expansion as preproc
 use Rattle.sl_preproc.specs.Refusals.{WhereTold, with_place}
@@ -17,9 +16,7 @@ use Rattle.sl_tool.specs.Halts.{halt_of}
 use Rattle.sl_tool.specs.Outcomes.{IsReadFault, Obtains, StopsEarly}
 use Rattle.sl_tool.specs.SourceView.{source_view}
 use Rattle.sl_tool.specs.Stages.{Expands, refused_expansion, source_of}
-use Rattle.sl_tool.specs.Values.{Source, source}
-use Rattle.sl_tool.specs.declared.halt.Halt.{Halt}
-use Rattle.sl_tool.specs.declared.source.Source as program
+use Rattle.sl_tool.specs.Values.{source}
 
 pub expands_to : (told : Option Folder) (name : List ℕ) (t : Text) → WhereTold told (λ folder. expanded folder name ≡ Ok t) → IsSound t
     → Expands told name (Ok (source name t))

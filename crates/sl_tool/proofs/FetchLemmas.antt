@@ -1,5 +1,5 @@
 -- A file that was asked for, as an image.
-use Rattle.std.proofs.Common.{◌≡◌, ℕ, List, Option, Err, inl, inr}
+use Rattle.std.proofs.Common.{ℕ, List, Option, Err, inl, inr}
 use Rattle.sl_outside.specs.Folder.{Folder}
 use Rattle.sl_tool.specs.Fetches.{IsFetched}
 use Rattle.sl_tool.specs.Outcomes.{Obtains}

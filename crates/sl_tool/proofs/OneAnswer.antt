@@ -1,13 +1,11 @@
 -- A request has one answer, and it can't be that it has none.
-use Rattle.std.proofs.Common.{◌≡◌, ℕ, ◌/◌, ◌<◌, ◌≤◌, List, Option, Some, None, Result, Ok, Err, refl, sym, ap, ◌∙◌, arith}
-use Rattle.sl_description.specs.Description.{Description}
+use Rattle.std.proofs.Common.{◌≡◌, ℕ, ◌/◌, List, Some, Result, Ok, Err, sym, ap, ◌∙◌}
 use Rattle.sl_description.specs.Fields.{Matches}
 use Rattle.sl_outside.specs.Folder.{Folder}
-use Rattle.sl_sets.specs.Sets.{HasNoConflict}
 use Rattle.sl_tool.specs.Answers.{Answers, Shows, mnemonics}
 use Rattle.sl_tool.specs.Request.{Command, ListImage, RunImage, Request}
-use Rattle.sl_tool.specs.Stage.{HasOneResult, Then}
-use Rattle.sl_tool.specs.Values.{Input, Shown, shown}
+use Rattle.sl_tool.specs.Stage.{HasOneResult}
+use Rattle.sl_tool.specs.Values.{Shown, shown}
 use Rattle.sl_tool.specs.declared.refusal.Refusal.{Refusal}
 use Rattle.sl_tool.specs.declared.status.Ending.{Ending}
 use Rattle.sl_tool.proofs.OneListing.{listing_is_one}

@@ -1,5 +1,5 @@
 -- Places that refusals name.
-use Rattle.std.proofs.Common.{◌≡◌, ℕ, suc, zero, ◌+◌, ◌-◌, ◌<◌, ◌≤◌, List, [], ◌∷◌, ◌++◌, length, Option, Some, None, refl, sym, ap, subst, ◌∙◌, arith, inl, inr, get_or, length-append, map}
+use Rattle.std.proofs.Common.{◌≡◌, ℕ, suc, zero, ◌+◌, ◌-◌, ◌<◌, ◌≤◌, List, [], ◌∷◌, ◌++◌, length, Option, Some, None, refl, ap, subst, ◌∙◌, arith, inl, inr, get_or, length-append, map}
 use Rattle.std.specs.Prelude.{slice_get, min}
 use Rattle.std.specs.Coded.{le_prop}
 use Rattle.std.specs.List.{AllByRecursion}

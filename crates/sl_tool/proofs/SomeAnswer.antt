@@ -1,5 +1,5 @@
 -- It can't be that a request has no answer.
-use Rattle.std.proofs.Common.{◌≡◌, ℕ, ◌/◌, List, Option, Result, Ok, refl, sym, subst}
+use Rattle.std.proofs.Common.{ℕ, ◌/◌, List, Option, Result, Ok, refl, sym, subst}
 use Rattle.std.specs.Prelude.{Bool}
 use Rattle.sl_description.specs.Description.{Description}
 use Rattle.sl_description.specs.Fields.{Matches}

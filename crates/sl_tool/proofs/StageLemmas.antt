@@ -1,5 +1,5 @@
 -- Each stage has one result, and it can't be that it has none.
-use Rattle.std.proofs.Common.{◌≡◌, ℕ, ◌/◌, ◌^◌, ◌<◌, ◌≤◌, ◌⊎◌, inl, inr, List, Option, Some, None, Result, Ok, Err, refl, sym, ap, subst, ◌∙◌, length, arith}
+use Rattle.std.proofs.Common.{◌≡◌, ℕ, ◌<◌, ◌≤◌, ◌⊎◌, inl, inr, List, Option, Some, None, Result, Ok, Err, refl, sym, ap, subst, ◌∙◌, length, arith}
 use Rattle.std.proofs.lemmas.Bool.{cases_lt}
 use Rattle.std.specs.Prelude.{slice_get}
 use Rattle.sl_ast.specs.Spelling.{spell}
@@ -13,13 +13,13 @@ use Rattle.sl_description.proofs.EachLemmas.{some_is}
 use Rattle.sl_grammar.specs.Faults.{Reason}
 use Rattle.sl_grammar.proofs.Faults.{one_fault, one_tree, tree_has_no_fault}
 use Rattle.sl_lex.specs.Faults.{Fault}
-use Rattle.sl_lex.specs.Reading.{Token, ReadsAs, HasBadPlace}
+use Rattle.sl_lex.specs.Reading.{Token}
 use Rattle.sl_lex.specs.Laws.{HasReading}
 use Rattle.sl_lex.proofs.OneReading.{one_bad_place, one_reading, reads_well}
 use Rattle.sl_lex.proofs.SomeReading.{each_text_reads}
 use Rattle.sl_outside.specs.Folder.{Folder, IsTooLong, size_limit}
 use Rattle.sl_parse.specs.Parsing.{TellsFault}
-use Rattle.sl_preproc.specs.Expanded.{Text, expanded}
+use Rattle.sl_preproc.specs.Expanded.{expanded}
 use Rattle.sl_sets.specs.Reports.{IsReport}
 use Rattle.sl_sets.specs.Sets.{HasNoConflict, IsFirstConflict}
 use Rattle.sl_sets.specs.declared.conflicts.Report.{Report}
@@ -29,8 +29,8 @@ use Rattle.sl_sets.proofs.UniqueSets.{first_is_one, report_is_one}
 use Rattle.sl_symbols.specs.Symbols.{symbols_of}
 use Rattle.sl_tool.specs.Places.{place_of_byte, place_of_token, refusal_at}
 use Rattle.sl_tool.specs.Problems.{refusal}
-use Rattle.sl_tool.specs.Stage.{HasOneResult, HasSomeResult, Surely, Then}
-use Rattle.sl_tool.specs.Stages.{Expands, Tokenizes, Parses, Tabulates, Settles, IsAmbiguous, Loads, RefusesImage, IsImage, Judges, addresses_of, problem_of_fault, problem_of_reason, source_of}
+use Rattle.sl_tool.specs.Stage.{HasOneResult, HasSomeResult}
+use Rattle.sl_tool.specs.Stages.{Expands, Tokenizes, Parses, Tabulates, Settles, Loads, RefusesImage, IsImage, Judges, addresses_of, problem_of_fault, problem_of_reason, source_of}
 use Rattle.sl_tool.specs.Stages.RefusesImage.{absent, too_long, beyond}
 use Rattle.sl_tool.specs.Values.{Source, Tokens, Tree, Tables, Input, input, tables, tokens, tree}
 use Rattle.sl_tool.specs.declared.problem.Problem.{Problem}

@@ -1,5 +1,5 @@
 -- view: the errors of the crates below as halts and problems.
-use Rattle.std.specs.Prelude.{ℕ, List, Option, Some, None, string_bytes}
+use Rattle.std.specs.Prelude.{ℕ, Option, Some, None, string_bytes}
 use Rattle.sl_lex.specs.declared.LexError.{LexError}
 use Rattle.sl_lex.specs.declared.LexError.TheVariants as lex
 use Rattle.sl_parse.specs.declared.parser.ParseError.{ParseError}

@@ -2,7 +2,6 @@
 use Rattle.std.specs.Prelude.{ℕ, List, [], length, Option, Some, None, slice_get, slice_index_or}
 use Rattle.sl_lex.specs.Reading.{Token}
 use Rattle.sl_preproc.specs.Expanded.{Text, place_at}
-use Rattle.sl_tool.specs.Problems.{refusal}
 use Rattle.sl_tool.specs.Values.{Tokens}
 use Rattle.sl_tool.specs.declared.place.Place.{Place}
 use Rattle.sl_tool.specs.declared.problem.Problem.{Problem}

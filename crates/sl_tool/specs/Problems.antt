@@ -10,7 +10,6 @@ use Rattle.sl_tool.specs.Lines.{place_text, point_text}
 use Rattle.sl_tool.specs.declared.problem.Problem.{Problem}
 use Rattle.sl_tool.specs.declared.problem.Problem.TheVariants.{NoFile, TooLong, IncludeDepth, UndefinedName, ReplaceDepth, BadDirective, Unbalanced, BadByte, OpenString, WideInteger, Syntax, Nesting, NotSupported, NotYet, Ambiguous}
 use Rattle.sl_tool.specs.declared.refusal.Refusal.{Refusal}
-use Rattle.sl_tool.specs.declared.place.Place.{Place}
 
 -- ---- words
 

@@ -14,7 +14,7 @@ pub struct Checked<'s, 'r> {
 }
 
 impl<'s, 'r> Checked<'s, 'r> {
-    ghost use Rattle.std.specs.Prelude.{◌≡◌, IfOk};
+    ghost use Rattle.std.specs.Prelude.{IfOk};
     ghost use Rattle.sl_sets.specs.Cubes.{has_cube};
     ghost use Rattle.sl_sets.specs.Sets.{HasNoConflict, IsFirstConflict};
     ghost use Rattle.sl_tool.specs.Compiled.{HasCompiled};

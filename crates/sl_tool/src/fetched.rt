@@ -1,7 +1,6 @@
 //! Files that are fetched whole.
 
-ghost use Rattle.std.specs.Prelude.{◌≤◌, [], ◌∷◌, length, IfOk};
-ghost use Rattle.sl_outside.specs.Folder.{Holds, size_limit};
+ghost use Rattle.std.specs.Prelude.{[], ◌∷◌};
 ghost use Rattle.sl_outside.specs.Uses.{UsesFiles};
 ghost use Rattle.sl_tool.specs.Fetches.{IsFetched};
 ghost use Rattle.sl_tool.specs.Outcomes.{FailsToRead, IsEarly};

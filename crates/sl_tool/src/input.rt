@@ -25,8 +25,7 @@ fn fits(length: usize, address_bytes: u64) -> bool
 }
 
 impl<'s, 'r> Input<'s, 'r> {
-    ghost use Rattle.std.specs.Prelude.{◌≡◌, ◌≤◌, ◌^◌, [], ◌∷◌, IfOk, length};
-    ghost use Rattle.sl_outside.specs.Folder.{size_limit};
+    ghost use Rattle.std.specs.Prelude.{◌≤◌, ◌^◌, [], ◌∷◌, IfOk, length};
     ghost use Rattle.sl_outside.specs.Uses.{UsesFiles};
     ghost use Rattle.sl_sets.specs.Cubes.{has_cube};
     ghost use Rattle.sl_sets.specs.Sets.{HasNoConflict};

@@ -17,7 +17,7 @@ pub enum Status {
     ReadFault,
     /// The output could not be written whole.
     WriteFault,
-    /// Memory ran out. Nothing was written, or a front of the text.
+    /// Memory ran out. Nothing was written, or the first bytes of the text.
     NoMemory,
     /// A run met a fault: no constructor matches where it would go on.
     Stopped,

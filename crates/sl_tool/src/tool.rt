@@ -22,8 +22,8 @@ use std::alloc::Global;
 /// At `Done`, `Refused`, `Usage` and `Stopped` the whole text was written: the listing or the run, the
 /// lines that say why the specification or the image is refused, the usage line, or the run up to its
 /// fault. At `ReadFault` nothing was written, and a fault of the files was counted in this call. At
-/// `WriteFault` a front of the text was written, and a fault of the sink was counted in this call. At
-/// `NoMemory` nothing was written, or a front of the text.
+/// `WriteFault` the first bytes of the text were written, or none, and a fault of the sink was counted in
+/// this call. At `NoMemory` nothing was written, or the first bytes of the text.
 pub fn run_tool<F: Files, K: Sink>(
     alloc: Global,
     words: &[String],

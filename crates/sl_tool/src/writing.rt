@@ -1,6 +1,6 @@
 //! Texts written whole.
 
-ghost use Rattle.std.specs.Prelude.{◌≤◌, OnOk, OnErr, IfErr};
+ghost use Rattle.std.specs.Prelude.{OnOk, OnErr, IfErr};
 ghost use Rattle.std.specs.Io.KnownBytes.{Appends};
 ghost use Rattle.sl_outside.specs.Uses.{UsesSink};
 ghost use Rattle.sl_tool.specs.Outcomes.{FailsToWrite};
@@ -9,7 +9,7 @@ ghost use Rattle.sl_tool.specs.Writing.{AppendsFront, IsOfWriting};
 use crate::halt::Halt;
 use sl_outside::{Sink, SinkError};
 
-/// Writes the text, piece by piece. At an `Err` a front of it was written.
+/// Writes the text, piece by piece. At an `Err` its first bytes were written, or none.
 pub fn write_all<K: Sink>(out: &mut K, text: &[u8]) -> Result<(), Halt>
     ensures whole { OnOk result (Appends (K.taken out.old) (K.taken out.new) text.now) }
     ensures front { OnErr result (AppendsFront (K.taken out.old) (K.taken out.new) text.now) }

@@ -1,6 +1,6 @@
 //! `list`: the listing of an image.
 
-ghost use Rattle.std.specs.Prelude.{◌≡◌, ◌<◌, ◌≤◌, ◌^◌, IfOk, MatchOption, length, map};
+ghost use Rattle.std.specs.Prelude.{◌≡◌, ◌<◌, ◌≤◌, ◌^◌, IfOk, MatchOption, length};
 ghost use Rattle.std.specs.Int.{w128, from_be_bytes};
 ghost use Rattle.sl_description.specs.Views.{description};
 ghost use Rattle.sl_outside.specs.Folder.{size_limit};

@@ -1,4 +1,4 @@
-use Rattle.std.proofs.Common.{List, Ok, Err, Option, subst}
+use Rattle.std.proofs.Common.{Ok, Err, Option, subst}
 use Rattle.std.proofs.lemmas.Result.{err_from_is_err_and}
 use Rattle.sl_outside.specs.Folder.{Folder}
 use Rattle.sl_tool.specs.Answers.{Answers, due_of}

@@ -1,11 +1,10 @@
-use Rattle.std.proofs.Common.{◌≡◌, ℕ, List, Some, None, Err, Option, ap, map, sym, subst, ◌∙◌}
+use Rattle.std.proofs.Common.{ℕ, List, Some, None, Option, ap, sym, subst, ◌∙◌}
 use Rattle.std.specs.Option.{option_map}
-use Rattle.std.specs.Prelude.{string_bytes}
 use Rattle.sl_tool.specs.Answers.{Answers}
 use Rattle.sl_tool.specs.Ends.{Ends, Means, RunsFor}
 use Rattle.sl_tool.specs.Ends.Means.{usage, answer}
 use Rattle.sl_tool.specs.Problems.{refusal_text}
-use Rattle.sl_tool.specs.Request.{Request, usage_line}
+use Rattle.sl_tool.specs.Request.{Request}
 use Rattle.sl_tool.specs.Requests.{request}
 use Rattle.sl_tool.specs.declared.halt.Halt.TheVariants as halt
 use Rattle.sl_tool.specs.declared.status.Status.{Status}

@@ -1,6 +1,5 @@
-use Rattle.std.proofs.Common.{◌≡◌, ℕ, List, take, ap, sym, ◌∙◌, subst, arith}
+use Rattle.std.proofs.Common.{◌≡◌, ℕ, List, take, ap, ◌∙◌, subst, arith}
 use Rattle.std.specs.Int.{w128, from_be_bytes}
-use Rattle.std.proofs.lemmas.List.{length-map}
 use Rattle.sl_cube.specs.declared.Point.{Point}
 use Rattle.sl_tool.specs.Listing.{point_at}
 use Rattle.sl_tool.specs.Shown.{IsShown, mnemonics}

@@ -1,4 +1,4 @@
-use Rattle.std.proofs.Common.{◌≡◌, ◌/◌, ℕ, List, Vec, Global, length, sym, ap, subst, ◌∙◌, arith}
+use Rattle.std.proofs.Common.{◌/◌, ℕ, List, Vec, Global, length, sym, ap, subst, ◌∙◌, arith}
 use Rattle.std.proofs.lemmas.List.{length-map}
 use Rattle.sl_cube.specs.declared.Cube.{Cube}
 use Rattle.sl_word.specs.Bytes.{byte_at, endian_of}

@@ -1,4 +1,4 @@
-use Rattle.std.proofs.Common.{◌≡◌, ◌^◌, ◌<◌, inl, inr, sym, ◌∙◌, arith}
+use Rattle.std.proofs.Common.{◌^◌, ◌<◌, inl, inr, sym, ◌∙◌, arith}
 use Rattle.std.proofs.lemmas.Bool.{cases_lt, false≢true}
 use Rattle.std.proofs.lemmas.Result.{err_from_is_err_and}
 use Rattle.sl_tool.specs.Stages.RefusesImage.{beyond}

@@ -1,4 +1,4 @@
-use Rattle.std.proofs.Common.{◌≤◌, List, ℕ, length, ◌≡◌, ◌∙◌, ap, sym, subst, arith}
+use Rattle.std.proofs.Common.{List, ℕ, ◌∙◌, sym, subst}
 use Rattle.sl_lex.specs.Errors.{Tells}
 use Rattle.sl_tool.proofs.PlaceLemmas.{bad_place_within, tells_place}
 use Rattle.sl_tool.proofs.tokens.Tokens.read.Goals as goal
