@@ -1,3 +1,5 @@
+ghost use Rattle.std.specs.Prelude.{◌≡◌, IfOk};
+
 use crate::{
     AddressSize, Change, DivideByZero, Endian, Op1, Op2, Size, SpaceId, State, Word, apply1, apply2,
 };
@@ -7,7 +9,9 @@ fn size(n: u8) -> Result<Size, Fail> {
     Ok(Size::new(n).ok_or("a size")?)
 }
 
-fn address_size(n: u8) -> Result<AddressSize, Fail> {
+fn address_size(n: u8) -> Result<AddressSize, Fail>
+    ensures { IfOk result (λ size. size.bytes ≡ n) }
+{
     Ok(AddressSize::new(n).ok_or("a size")?)
 }
 
