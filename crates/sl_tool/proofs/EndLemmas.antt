@@ -1,15 +1,14 @@
 -- What stands written at the end of a call, and the files that it asked for.
-use Rattle.std.proofs.Common.{◌≡◌, ℕ, ◌≤◌, ◌⊎◌, inl, inr, List, [], Option, Some, None, Result, Ok, Err, refl, sym, subst, ◌∙◌, take, append-nil, arith}
+use Rattle.std.proofs.Common.{◌≡◌, ℕ, ◌⊎◌, inl, inr, List, [], Option, Some, None, Result, Ok, Err, refl, sym, subst, ◌∙◌, take, append-nil, arith}
 use Rattle.std.specs.Io.KnownBytes.{Appends}
 use Rattle.std.proofs.KnownBytes.{Appends-trans}
-use Rattle.sl_outside.specs.Causes.{Rose}
 use Rattle.sl_outside.specs.Folder.{Folder}
-use Rattle.sl_outside.specs.Uses.{Names, Asks, UsesSink}
-use Rattle.sl_tool.specs.Answers.{Answers, UsesFilesFor, text_of, status_of}
+use Rattle.sl_outside.specs.Uses.{Names, Asks}
+use Rattle.sl_tool.specs.Answers.{Answers, text_of, status_of}
 use Rattle.sl_tool.specs.Endings.{ended}
-use Rattle.sl_tool.specs.Ends.{Means, WritesWhole, WritesFirst, Ends, IsEarlyStatus, RunsFor}
+use Rattle.sl_tool.specs.Ends.{Means, WritesWhole, WritesFirst, Ends, RunsFor}
 use Rattle.sl_tool.specs.Ends.Means.{answer}
-use Rattle.sl_tool.specs.Outcomes.{FailsToRead, IsEarly, Writes, WritesFront}
+use Rattle.sl_tool.specs.Outcomes.{Writes, WritesFront}
 use Rattle.sl_tool.specs.Request.{Request}
 use Rattle.sl_tool.specs.Values.{Shown, shown}
 use Rattle.sl_tool.specs.Writing.{IsWritten}
@@ -103,31 +102,3 @@ module _ {F : Type 0} (told : F → Option Folder) (faults : F → ℕ) (asked :
     asks_front = (0, Asks-nil (asked old));
     asks_all = λ e. Asks-nil (asked old);
   }
-
-  -- what was asked for by an answer, whatever was written after it
-  pub used : (r : Request) (old new : F) (x : Result Ending Halt) (q : Status) → (q ≡ ReadFault → FailsToRead x)
-      → (IsEarly x → IsEarlyStatus q) → UsesFilesFor told faults asked r old new (IsEarly x) (FailsToRead x) → RunsFor told faults asked (Some r) old new q
-  used r old new x q fails early u = record {
-    same_folder = u.same_folder;
-    never_falls = u.never_falls;
-    failed = λ e. u.failed (fails e);
-    asks_front = u.asks_front;
-    asks_all = λ n. u.asks_all (λ e. n (early e));
-  }
-
--- ---- the sink
-
-module _ {K : Type 0} (faults calls : K → ℕ) where
-  rose_more : (a b c : ℕ) → a ≤ b → Rose b c → Rose a c
-  rose_more a b c h k = omega (arith, h, k)
-
-  -- the sink after two uses, of which only the second may fail
-  pub used_twice : (old mid new : K) (e f : Type 0) → UsesSink faults calls old mid e → UsesSink faults calls mid new f → UsesSink faults calls old new f
-  used_twice old mid new e f u v = record {
-    never_falls = omega (arith, u.never_falls, v.never_falls);
-    failed = λ h. rose_more _ _ _ u.never_falls (v.failed h);
-    goes_on = omega (arith, u.goes_on, v.goes_on);
-  }
-
-  pub same_use : (old new : K) (e f : Type 0) → (f → e) → UsesSink faults calls old new e → UsesSink faults calls old new f
-  same_use old new e f g u = record { never_falls = u.never_falls; failed = λ h. u.failed (g h); goes_on = u.goes_on }

@@ -15,11 +15,6 @@ use Rattle.sl_lex.specs.declared.LexError.{LexError}
 use Rattle.sl_lex.specs.declared.LexError.TheVariants as lex
 use Rattle.sl_lex.specs.declared.mode.Mode.{Mode}
 use Rattle.sl_lex.specs.declared.mode.Mode.TheVariants.{Top}
-use Rattle.sl_ast.specs.Symbols.{Sym}
-use Rattle.sl_grammar.specs.Faults.{Reason, no_spelling, too_deep, left_out}
-use Rattle.sl_parse.specs.Parsing.{IsFaultOf, TellsFault}
-use Rattle.sl_parse.specs.declared.parser.ParseError.{ParseError}
-use Rattle.sl_parse.specs.declared.parser.ParseError.TheVariants as parse
 use Rattle.sl_preproc.specs.Expanded.{Text, line_index, or_no_place, place_at}
 use Rattle.sl_preproc.specs.Sound.{IsSound}
 use Rattle.sl_preproc.specs.declared.places.Place.{Place}
@@ -28,10 +23,10 @@ use Rattle.sl_description.proofs.EachLemmas.{some_is}
 use Rattle.sl_description.specs.Views.{constructor, description}
 use Rattle.sl_description.specs.declared.description.Constructor as program
 use Rattle.sl_description.specs.declared.compiler.Compiled.{Compiled}
-use Rattle.sl_tool.specs.Halts.{bad_place, first_fault}
+use Rattle.sl_tool.specs.Halts.{bad_place}
 use Rattle.sl_tool.specs.Places.{from_or}
 use Rattle.sl_tool.specs.declared.place.Place as program_place
-use Rattle.sl_tool.specs.Stages.{problem_of_fault, problem_of_reason}
+use Rattle.sl_tool.specs.Stages.{problem_of_fault}
 use Rattle.sl_tool.specs.declared.problem.Problem.{Problem}
 use Rattle.sl_tool.specs.declared.problem.Problem.TheVariants as problem
 use Rattle.sl_tool.proofs.SetLemmas.{length-sets}
@@ -114,20 +109,6 @@ tells_place text (lex.BadByte k) at is h = tells_bad text (k, problem.BadByte) a
 tells_place text (lex.OpenString k) at is h = tells_bad text (k, problem.OpenString) at OpenQuote is h refl
 tells_place text (lex.WideInteger k) at is h = tells_bad text (k, problem.WideInteger) at TooWide is h refl
 tells_place text lex.NoMemory at is h = absurd (cc)
-
--- the fault that an error of the parser tells
-tells_reason : (symbols : List Sym) (told at : At) (reason : Reason) → Some told ≡ Some at → TellsFault symbols reason told.0 → told.1 ≡ problem_of_reason reason
-    → (other : Reason) × TellsFault symbols other at.0 × (at.1 ≡ problem_of_reason other)
-tells_reason symbols told at reason is h p =
-    let same : told ≡ at = some_is told at is in
-    (reason, subst (λ (x : At). TellsFault symbols reason x.0) same h, subst (λ (x : At). x.1 ≡ problem_of_reason reason) same p)
-
-pub tells_fault : (symbols : List Sym) (error : ParseError) (at : At) → first_fault error ≡ Some at → IsFaultOf symbols error
-    → (reason : Reason) × TellsFault symbols reason at.0 × (at.1 ≡ problem_of_reason reason)
-tells_fault symbols (parse.Syntax k) at is h = tells_reason symbols (k, problem.Syntax) at no_spelling is h refl
-tells_fault symbols (parse.Nesting k) at is h = tells_reason symbols (k, problem.Nesting) at too_deep is h refl
-tells_fault symbols (parse.NotSupported form k) at is h = tells_reason symbols (k, problem.NotSupported form) at (left_out form) is h refl
-tells_fault symbols parse.NoMemory at is h = absurd (cc)
 
 -- ---- constructors
 
