@@ -1,5 +1,5 @@
--- meaning: tokens, fields and the context, rules 9 to 12 (SLEIGH manual, "Defining Tokens and Fields"
--- and "Context Variables").
+-- meaning: tokens, fields and the context, rules 9 to 12 (SLEIGH manual, "Defining Tokens and
+-- Fields" and "Context Variables").
 use Rattle.std.specs.Prelude.{ℕ, ◌*◌, ◌%◌, ◌==◌, ◌&&◌, Bool, true, false, not, nat_le, nat_lt}
 use Rattle.std.specs.Prelude.{count_by, List, [], ◌∷◌, ◌++◌, length, map, Option, Some, None, Result}
 use Rattle.std.specs.Prelude.{is_none}

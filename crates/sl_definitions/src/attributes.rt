@@ -4,8 +4,8 @@ ghost use Rattle.std.specs.Prelude.{◌≡◌, ◌≤◌, ◌<◌, true, count_b
 ghost use Rattle.std.specs.List.{list_any};
 ghost use Rattle.sl_ast.specs.Views.{field_of as seen};
 ghost use Rattle.sl_definitions.specs.FieldRules.{at_most_once, has, has_attributes_once};
-ghost use Rattle.sl_definitions.specs.FieldRules.{is_dec, is_hex, is_in_order, is_noflow, is_signed};
-ghost use Rattle.sl_definitions.specs.FieldRules.{is_token_field};
+ghost use Rattle.sl_definitions.specs.FieldRules.{is_dec, is_hex, is_in_order, is_noflow};
+ghost use Rattle.sl_definitions.specs.FieldRules.{is_signed, is_token_field};
 
 use sl_ast::definitions::{Field, FieldAttribute};
 

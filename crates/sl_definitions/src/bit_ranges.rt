@@ -43,7 +43,8 @@ fn all_bit_ranges<'a>(registers: &Named<'a, Register<'a>>, given: &[tree::BitRan
 
 /// The index of a register; 0 where there is none. 2^32 registers would be want of memory.
 fn register_number<'a>(registers: &Named<'a, Register<'a>>, name: &[u8]) -> Result<u32, AllocError>
-    ensures { IfOk result (λ n. n ≡ unwrap_or (index_named (λ r. r.name) name.now registers.now) 0) }
+    ensures { IfOk result (λ n.
+        n ≡ unwrap_or (index_named (λ r. r.name) name.now registers.now) 0) }
 {
     match registers.index_of(name) {
         Some(index) => match u32::try_from(index) {
@@ -61,8 +62,10 @@ fn add<'a>(
     given: &[tree::BitRange<'a>],
 ) -> Result<(), AllocError>
     requires within { list_all (is_bit_range registers.now) (map seen given.now) ≡ true }
-    requires fresh { differ_behind (map (λ r. r.name) bitranges.old) (bit_range_names (map seen given.now)) ≡ true }
-    ensures { OnOk result (bitranges.new ≡ bitranges.old ++ map (bit_range_of registers.now) (map seen given.now)) }
+    requires fresh { differ_behind (map (λ r. r.name) bitranges.old)
+        (bit_range_names (map seen given.now)) ≡ true }
+    ensures { OnOk result (bitranges.new
+        ≡ bitranges.old ++ map (bit_range_of registers.now) (map seen given.now)) }
 {
     'places: for index in 0..given.len() {
         let of = &given[index];
@@ -84,7 +87,8 @@ fn bit_range_names<'a>(
     alloc: Global,
     given: &[tree::BitRange<'a>],
 ) -> Result<Vec<&'a [u8]>, AllocError>
-    ensures { IfOk result (λ names. map (λ n. n.now) names.items ≡ bit_range_names (map seen given.now)) }
+    ensures { IfOk result (λ names. map (λ n. n.now) names.items
+        ≡ bit_range_names (map seen given.now)) }
 {
     let mut names = Vec::new(alloc);
     'places: for index in 0..given.len() {

@@ -5,7 +5,8 @@ ghost use Rattle.std.specs.List.{list_all};
 ghost use Rattle.sl_ast.specs.Views.{field_of as seen};
 ghost use Rattle.sl_rules.specs.Demands.{Gives};
 ghost use Rattle.sl_spec.specs.Named.{index_named};
-ghost use Rattle.sl_definitions.specs.FieldRules.{context_step, field_names, holds_fields, is_context};
+ghost use Rattle.sl_definitions.specs.FieldRules.{context_step, field_names, holds_fields};
+ghost use Rattle.sl_definitions.specs.FieldRules.{is_context};
 
 use crate::names::are_new;
 use crate::tokens::{add, add_names, all_attributes_once, all_in_order};
@@ -57,7 +58,8 @@ fn register_number(t: &Tables, name: &[u8]) -> Result<Option<RegId>, AllocError>
 
 /// The names of fields.
 fn field_names<'a>(alloc: Global, fields: &[tree::Field<'a>]) -> Result<Vec<&'a [u8]>, AllocError>
-    ensures { IfOk result (λ names. map (λ n. n.now) names.items ≡ field_names (map seen fields.now)) }
+    ensures { IfOk result (λ names. map (λ n. n.now) names.items
+        ≡ field_names (map seen fields.now)) }
 {
     let mut names = Vec::new(alloc);
     add_names(&mut names, fields)?;

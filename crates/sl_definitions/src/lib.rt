@@ -1,5 +1,5 @@
-//! Definitions of spaces, registers, bit ranges, user operations, tokens and the context: rules 3 to
-//! 12, and what each definition adds to the tables.
+//! Definitions of spaces, registers, bit ranges, user operations, tokens and the context: rules 3
+//! to 12, and what each definition adds to the tables.
 #![tactic(auto)]
 
 mod attributes;

@@ -57,7 +57,8 @@ fn end_of(space: &Space) -> u128
 /// Rule 7: all places end within the space.
 fn ends_within(t: &Tables, space: &[u8], offset: u64, size: u64, places: usize) -> bool
     requires { size ≤ 16 }
-    ensures is { result ≡ ends_within (named (λ s. s.name) space.now t.now.spaces) offset size places }
+    ensures is { result
+        ≡ ends_within (named (λ s. s.name) space.now t.now.spaces) offset size places }
     ensures room { result ≡ true → offset + size * places ≤ 2 ^ 64 }
 {
     match t.spaces.get(space) {
@@ -98,7 +99,8 @@ fn lay<'a>(
 
 /// The index of a space; 0 where there is none. 2^32 spaces would be want of memory.
 fn space_number(t: &Tables, space: &[u8]) -> Result<u32, AllocError>
-    ensures { IfOk result (λ n. n ≡ unwrap_or (index_named (λ s. s.name) space.now t.now.spaces) 0) }
+    ensures { IfOk result (λ n.
+        n ≡ unwrap_or (index_named (λ s. s.name) space.now t.now.spaces) 0) }
 {
     match t.spaces.index_of(space) {
         Some(index) => match u32::try_from(index) {

@@ -6,9 +6,9 @@ ghost use Rattle.sl_ast.specs.Views.{space_attribute_of};
 ghost use Rattle.sl_rules.specs.Demands.{Gives, first_broken, judged};
 ghost use Rattle.sl_definitions.specs.Free.{IsFree};
 ghost use Rattle.sl_definitions.specs.SpaceRules.{attribute_fits, has_size_and_type, is_kind};
-ghost use Rattle.sl_definitions.specs.SpaceRules.{is_default_attribute, is_only_default, is_size, is_type};
-ghost use Rattle.sl_definitions.specs.SpaceRules.{kind_in, kind_named, size_in, space_demands, space_of};
-ghost use Rattle.sl_definitions.specs.SpaceRules.{space_step, with_space};
+ghost use Rattle.sl_definitions.specs.SpaceRules.{is_default_attribute, is_only_default, is_size};
+ghost use Rattle.sl_definitions.specs.SpaceRules.{is_type, kind_in, kind_named, size_in};
+ghost use Rattle.sl_definitions.specs.SpaceRules.{space_demands, space_of, space_step, with_space};
 
 use crate::names::is_new;
 use sl_ast::definitions::SpaceAttribute;
@@ -107,7 +107,8 @@ fn is_only_default(t: &Tables, given: &[SpaceAttribute]) -> bool
 /// The first rule that the definition of a space breaks.
 #[tactic(auto, using(crate::proofs::SpaceLemmas::size_is_some, crate::proofs::SpaceLemmas::size_is_at_most_8))]
 fn broken(t: &Tables, name: &[u8], given: &[SpaceAttribute]) -> Option<u8>
-    ensures first { result ≡ first_broken (space_demands t.now name.now (map space_attribute_of given.now)) }
+    ensures first { result
+        ≡ first_broken (space_demands t.now name.now (map space_attribute_of given.now)) }
     ensures free { result ≡ None → IsFree name.now t.now }
     ensures some { result ≡ None → 1 ≤ size_in (find is_size (map space_attribute_of given.now)) }
     ensures most { result ≡ None → size_in (find is_size (map space_attribute_of given.now)) ≤ 8 }
@@ -158,13 +159,15 @@ fn kind_of(attribute: Option<&SpaceAttribute>) -> SpaceKind
 }
 
 fn first_size<'s, 'a>(given: &'s [SpaceAttribute<'a>]) -> Option<&'s SpaceAttribute<'a>>
-    ensures { option_map (λ a. a.now) result ≡ find (λ a. is_size (space_attribute_of a)) given.now }
+    ensures { option_map (λ a. a.now) result
+        ≡ find (λ a. is_size (space_attribute_of a)) given.now }
 {
     given.iter().find(|a| is_size(a))
 }
 
 fn first_type<'s, 'a>(given: &'s [SpaceAttribute<'a>]) -> Option<&'s SpaceAttribute<'a>>
-    ensures { option_map (λ a. a.now) result ≡ find (λ a. is_type (space_attribute_of a)) given.now }
+    ensures { option_map (λ a. a.now) result
+        ≡ find (λ a. is_type (space_attribute_of a)) given.now }
 {
     given.iter().find(|a| is_type(a))
 }
@@ -189,7 +192,8 @@ fn add<'a>(t: &mut Tables<'a>, name: &'a [u8], given: &[SpaceAttribute<'a>]) -> 
     requires free { IsFree name.now t.old }
     requires some { 1 ≤ size_in (find is_size (map space_attribute_of given.now)) }
     requires most { size_in (find is_size (map space_attribute_of given.now)) ≤ 8 }
-    ensures { Gives (λ _. t.new) result (Ok (with_space t.old (space_of name.now (map space_attribute_of given.now)))) }
+    ensures { Gives (λ _. t.new) result
+        (Ok (with_space t.old (space_of name.now (map space_attribute_of given.now)))) }
 {
     let added = Space {
         name,
@@ -207,7 +211,8 @@ pub fn define_space<'a>(
     name: &'a [u8],
     given: &[SpaceAttribute<'a>],
 ) -> Result<(), Fault>
-    ensures { Gives (λ _. t.new) result (space_step t.old name.now (map space_attribute_of given.now)) }
+    ensures { Gives (λ _. t.new) result
+        (space_step t.old name.now (map space_attribute_of given.now)) }
 {
     if let Some(rule) = broken(t, name, given) {
         return Err(Fault::Rule(rule));

@@ -1,6 +1,7 @@
 //! Tokens and their fields: rules 9, 10 and 12, and what they add.
 
-ghost use Rattle.std.specs.Prelude.{◌≡◌, ◌≤◌, ◌++◌, ◌∷◌, ◌%◌, true, false, OnOk, IfOk, map, length, Some, Ok};
+ghost use Rattle.std.specs.Prelude.{◌≡◌, ◌≤◌, ◌++◌, ◌∷◌, ◌%◌, true, false, OnOk, IfOk};
+ghost use Rattle.std.specs.Prelude.{map, length, Some, Ok};
 ghost use Rattle.std.specs.List.{list_all};
 ghost use Rattle.sl_ast.specs.Views.{field_of as seen};
 ghost use Rattle.sl_rules.specs.Demands.{Gives};
@@ -98,7 +99,8 @@ pub fn add<'a>(
     given: &[tree::Field<'a>],
 ) -> Result<(), AllocError>
     requires fit { all_fit (map seen given.now) ≡ true }
-    requires fresh { differ_behind (map (λ f. f.name) fields.old) (field_names (map seen given.now)) ≡ true }
+    requires fresh { differ_behind (map (λ f. f.name) fields.old)
+        (field_names (map seen given.now)) ≡ true }
     ensures { OnOk result (fields.new ≡ fields.old ++ map (field_of token) (map seen given.now)) }
 {
     'fields: for index in 0..given.len() {
@@ -146,7 +148,8 @@ fn add_token<'a>(
     requires bytes { bits % 8 ≡ 0 }
     requires free { has_name (λ k. k.name) name.now t.old.tokens ≡ false }
     requires fit { all_fit (map seen fields.now) ≡ true }
-    requires fresh { differ_behind (map (λ f. f.name) t.old.fields) (field_names (map seen fields.now)) ≡ true }
+    requires fresh { differ_behind (map (λ f. f.name) t.old.fields)
+        (field_names (map seen fields.now)) ≡ true }
     ensures { Gives (λ _. t.new) result (Ok (with_token t.old
         (record { name = name.now; bits = bits; endian = endian })
         (map (field_of (Some (length t.old.tokens))) (map seen fields.now)))) }
@@ -157,7 +160,8 @@ fn add_token<'a>(
     Ok(())
 }
 
-/// Defines a token with its fields, in its own byte order or else that of the specification (SLEIGH manual, "Defining Tokens and Fields").
+/// Defines a token with its fields (SLEIGH manual, "Defining Tokens and Fields"). Its byte order is
+/// its own, or else that of the specification.
 #[tactic(auto, using(sl_rules::proofs::Seen::seen))]
 pub fn define_token<'a>(
     alloc: Global,

@@ -13,7 +13,8 @@ use std::alloc::{AllocError, Global};
 /// Adds operations whose names are new.
 fn add<'a>(userops: &mut Named<'a, UserOp<'a>>, names: &[&'a [u8]]) -> Result<(), AllocError>
     requires { differ_behind (map (λ u. u.name) userops.old) (map (λ n. n.now) names.now) ≡ true }
-    ensures { OnOk result (userops.new ≡ userops.old ++ map userop_of (map (λ n. n.now) names.now)) }
+    ensures { OnOk result (userops.new
+        ≡ userops.old ++ map userop_of (map (λ n. n.now) names.now)) }
 {
     'names: for index in 0..names.len() {
         let name = names[index];
