@@ -1,0 +1,7 @@
+pub mod FieldRules
+pub mod Fits
+pub mod Free
+pub mod NewNames
+pub mod RegisterRules
+pub mod SpaceRules
+pub mod UserOps
