@@ -1,3 +1,6 @@
+pub mod Cuts
 pub mod PutLemmas
 pub mod RunLemmas
 pub mod TemporaryLemmas
+pub mod TextLaws
+pub mod VarnodeTexts

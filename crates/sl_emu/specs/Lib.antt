@@ -1,4 +1,5 @@
 pub mod Outcomes
 pub mod Paged
+pub mod Readable
 pub mod Steps
 pub mod Temporaries

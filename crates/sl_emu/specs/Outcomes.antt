@@ -1,5 +1,5 @@
 -- meaning: how the run of a list ends, as a runner answers it.
-use Rattle.std.specs.Prelude.{◌≡◌, ℕ, List, Option, Some, None, IsSomeAnd}
+use Rattle.std.specs.Prelude.{◌≡◌, ℕ, List, IsSomeAnd}
 use Rattle.sl_word.specs.Bytes.{address_sizes, byte_at, endian_of}
 use Rattle.sl_word.specs.Memories.{Memory}
 use Rattle.sl_word.specs.declared.state.State.{State}
@@ -18,13 +18,6 @@ run_over state ops = run_of (endian_of state) (address_sizes state) ops (byte_at
 abbrev pub left_ending : Left → Ending
 left_ending Next = at_end
 left_ending (To address) = leaves_to address
-
--- The fault that an error is. Want of memory is none.
-abbrev pub fault_ending : EmuError → Option Ending
-fault_ending DivideByZero = Some divides_by_zero
-fault_ending (UserOp user) = Some (calls_user_op user.0)
-fault_ending JumpLimit = Some jumps_too_often
-fault_ending NoMemory = None
 
 -- The memory has the effects of the first n operations of a run, and no others.
 abbrev pub HasEffectsOf : ℕ → Run → Memory → Type 0

@@ -2,6 +2,7 @@
 #![tactic(auto)]
 
 mod emu;
+mod laws;
 mod paged;
 mod run;
 mod step;
@@ -10,5 +11,6 @@ mod temporaries;
 mod tests;
 
 pub use emu::{Emu, KeepingEmu, Runner};
+pub use laws::texts_fix_runs;
 pub use run::{EmuError, JUMP_LIMIT, Left, run_ops, run_ops_in};
 pub use temporaries::Temporaries;
