@@ -1,3 +1,4 @@
 pub mod Outcomes
+pub mod Paged
 pub mod Steps
 pub mod Temporaries

@@ -1,13 +1,14 @@
 //! Runners of lists.
 
-ghost use Rattle.std.specs.Prelude.{◌≡◌, ℕ, ◌+◌, ◌-◌, ◌^◌, min, IfOk, IfErr};
+ghost use Rattle.std.specs.Prelude.{◌≡◌, ℕ, ◌+◌, ◌-◌, ◌^◌, ◌<◌, min, IfOk, IfErr};
 ghost use Rattle.sl_word.specs.Bytes.{address_sizes, byte_at, endian_of};
 ghost use Rattle.sl_pcode.specs.Machine.{EndsSo};
 ghost use Rattle.sl_pcode.specs.Operations.{operations};
 ghost use Rattle.sl_pcode.specs.WellFormed.{IsWellFormed};
 ghost use Rattle.sl_emu.specs.Outcomes.{HasEffectsOf, IsErrorOf, left_ending, run_over};
 
-use crate::run::{EmuError, Left, run_ops};
+use crate::run::{EmuError, Left, run_ops, run_ops_in};
+use crate::temporaries::Temporaries;
 use sl_pcode::OpList;
 use sl_word::State;
 use std::alloc::Global;
@@ -17,6 +18,8 @@ use std::alloc::Global;
 /// The count stays at the largest u64 once it is there.
 pub trait Runner {
     ghost count: { Self → ℕ };
+
+    ghost small: { (runner : Self) → count runner < 2 ^ 64 };
 
     /// Runs a list as [`run_ops`] does, and adds `ran` to the count, whatever the answer is.
     fn run(
@@ -41,10 +44,13 @@ pub trait Runner {
 #[derive(Clone, Copy, Debug, PartialEq, Eq)]
 pub struct Emu {
     pub count: u64,
+    ghost small: { count < 2 ^ 64 },
 }
 
 impl Runner for Emu {
     ghost count = { λ emu. emu.count };
+
+    ghost small = { λ emu. emu.small };
 
     fn run(
         &mut self,
@@ -54,7 +60,53 @@ impl Runner for Emu {
         ran: &mut u64,
     ) -> Result<Left, EmuError> {
         let result = run_ops(alloc, ops, state, ran);
-        self.count = self.count.saturating_add(*ran);
+        self.count = counted(self.count, *ran);
+        result
+    }
+}
+
+// A count with some more, or the largest one.
+fn counted(count: u64, ran: u64) -> u64
+    ensures { result ≡ min (count + ran) (2 ^ 64 - 1) }
+{
+    count.saturating_add(ran)
+}
+
+/// The emulator, with memory for temporary bytes that it keeps from one run to the next.
+#[derive(Drop)]
+pub struct KeepingEmu {
+    pub count: u64,
+    temporaries: Temporaries,
+    ghost small: { count < 2 ^ 64 },
+}
+
+impl KeepingEmu {
+    /// An emulator that has run nothing yet.
+    pub fn new(alloc: Global) -> KeepingEmu
+        ensures { result.count ≡ 0 }
+    {
+        let temporaries = Temporaries::new(alloc);
+        KeepingEmu {
+            count: 0,
+            temporaries,
+        }
+    }
+}
+
+impl Runner for KeepingEmu {
+    ghost count = { λ emu. emu.count };
+
+    ghost small = { λ emu. emu.small };
+
+    fn run(
+        &mut self,
+        _alloc: Global,
+        ops: &OpList,
+        state: &mut State,
+        ran: &mut u64,
+    ) -> Result<Left, EmuError> {
+        let result = run_ops_in(&mut self.temporaries, ops, state, ran);
+        self.count = counted(self.count, *ran);
         result
     }
 }

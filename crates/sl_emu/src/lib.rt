@@ -2,11 +2,13 @@
 #![tactic(auto)]
 
 mod emu;
+mod paged;
 mod run;
 mod step;
 mod temporaries;
 #[cfg(test)]
 mod tests;
 
-pub use emu::{Emu, Runner};
-pub use run::{EmuError, JUMP_LIMIT, Left, run_ops};
+pub use emu::{Emu, KeepingEmu, Runner};
+pub use run::{EmuError, JUMP_LIMIT, Left, run_ops, run_ops_in};
+pub use temporaries::Temporaries;

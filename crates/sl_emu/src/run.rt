@@ -69,15 +69,33 @@ pub fn run_ops(
         (IsErrorOf ran.new (run_over state.old (operations ops.now)) (byte_at state.new)) }
     ensures effects { HasEffectsOf ran.new (run_over state.old (operations ops.now)) (byte_at state.new) }
 {
+    let mut t = Temporaries::new(alloc);
+    run_ops_in(&mut t, ops, state, ran)
+}
+
+/// The same, with memory for temporary bytes that was kept from earlier runs. None of their bytes is.
+pub fn run_ops_in(
+    t: &mut Temporaries,
+    ops: &OpList,
+    state: &mut State,
+    ran: &mut u64,
+) -> Result<Left, EmuError>
+    requires { IsWellFormed (address_sizes state.old) (operations ops.now) }
+    ensures endian { endian_of state.new ≡ endian_of state.old }
+    ensures sizes { address_sizes state.new ≡ address_sizes state.old }
+    ensures left { IfOk result (λ left.
+        EndsSo ran.new (run_over state.old (operations ops.now)) (left_ending left) (byte_at state.new)) }
+    ensures fault { IfErr result
+        (IsErrorOf ran.new (run_over state.old (operations ops.now)) (byte_at state.new)) }
+    ensures effects { HasEffectsOf ran.new (run_over state.old (operations ops.now)) (byte_at state.new) }
+{
     *ran = 0;
     let ops = ops.ops();
     if ops.len() > MOST_OPERATIONS {
         return Err(EmuError::NoMemory);
     }
-    let Ok(mut t) = Temporaries::new(alloc, state.endian()) else {
-        return Err(EmuError::NoMemory);
-    };
-    run_list(ops, state, &mut t, ran)
+    t.clear(state.endian());
+    run_list(ops, state, t, ran)
 }
 
 // Runs a list, with temporary bytes that are all 0.

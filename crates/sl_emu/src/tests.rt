@@ -6,7 +6,7 @@ ghost use Rattle.sl_word.specs.Sizes.{byte_counts};
 ghost use Rattle.sl_pcode.specs.Operations.{operations};
 ghost use Rattle.sl_pcode.specs.WellFormed.{IsWellFormed};
 
-use crate::{Emu, EmuError, Left, Runner, run_ops};
+use crate::{Emu, EmuError, KeepingEmu, Left, Runner, run_ops};
 use sl_pcode::{Code, Op, OpList, Place2, Varnode};
 use sl_word::{AddressSize, Endian, Size, SpaceId, State, UserId};
 use std::alloc::Global;
@@ -354,5 +354,42 @@ fn a_runner_counts(rt: HostRuntime) -> Result<(), Fail> {
     emu.count = u64::MAX;
     let third = emu.run(rt.alloc(), &ops, &mut state, &mut ran);
     assert!(rt; third == Ok(Left::Next) && emu.count == u64::MAX);
+    Ok(())
+}
+
+// Writes temporary bytes in the buffer and past its end, and reads them in another run.
+static FIRST: [Row; 2] = [
+    (
+        Code::Copy,
+        Some((Place2::Unique, 0x10, 4)),
+        &[(Place2::Const, 0x0102_0304, 4)],
+    ),
+    (
+        Code::Copy,
+        Some((Place2::Unique, 0xfffe, 4)),
+        &[(Place2::Unique, 0x10, 4)],
+    ),
+];
+
+static SECOND: [Row; 2] = [
+    (
+        Code::IntOr,
+        Some((RAM, 0, 4)),
+        &[(Place2::Unique, 0x10, 4), (Place2::Unique, 0xfffe, 4)],
+    ),
+    (Code::IntNegate, Some((RAM, 0, 4)), &[(RAM, 0, 4)]),
+];
+
+#[test]
+fn no_temporary_byte_survives(rt: HostRuntime) -> Result<(), Fail> {
+    let first = listed(rt.alloc(), &FIRST)?;
+    let second = listed(rt.alloc(), &SECOND)?;
+    let mut state = zeros(rt.alloc(), Endian::Big)?;
+    let mut ran = 0;
+    let mut emu = KeepingEmu::new(rt.alloc());
+    let before = emu.run(rt.alloc(), &first, &mut state, &mut ran);
+    let after = emu.run(rt.alloc(), &second, &mut state, &mut ran);
+    assert!(rt; before == Ok(Left::Next) && after == Ok(Left::Next) && emu.count == 4);
+    assert_eq!(rt; number(&state, 0, 4)?, 0xffff_ffff);
     Ok(())
 }

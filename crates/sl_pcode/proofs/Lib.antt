@@ -3,3 +3,4 @@ pub mod InRange
 mod ListLemmas
 pub mod Operands
 pub mod RunLaws
+pub mod StepLaws

@@ -1,11 +1,11 @@
 -- Laws of runs: equations of the machine, and that each run ends.
-use Rattle.std.proofs.Common.{◌≡◌, ℕ, zero, suc, ◌+◌, ◌-◌, ◌*◌, ◌<◌, ◌≤◌, Bool, true, false, List, [], ◌∷◌, length, drop, Option, Some, None, refl, sym, ap, ◌∙◌, subst, add-one, arith}
+use Rattle.std.proofs.Common.{◌≡◌, ℕ, zero, suc, ◌+◌, ◌*◌, ◌≤◌, Bool, true, false, List, [], ◌∷◌, length, drop, Option, Some, None, refl, ap, add-one, arith}
 use Rattle.std.proofs.lemmas.List.{drop_all, length-drop}
 use Rattle.std.specs.Prelude.{if◌then◌else◌, ◌==◌, slice_get}
 use Rattle.sl_word.specs.Memories.{Memory}
 use Rattle.sl_word.specs.declared.word.Endian.{Endian}
 use Rattle.sl_pcode.specs.Effects.{effect_of}
-use Rattle.sl_pcode.specs.Machine.{Temporaries, Ending, at_end, leaves_to, divides_by_zero, calls_user_op, jumps_too_often, Run, ended, whole, jump_limit, has_no_value, at_target, value_of, put_at, does, op_does, ops_run, jump_run, run_from, run_of, ran_of, rest_after, ending_of, memory_of, EndsSo}
+use Rattle.sl_pcode.specs.Machine.{Temporaries, Ending, at_end, jumps_too_often, Run, ended, whole, jump_limit, has_no_value, at_target, value_of, put_at, does, op_does, ops_run, jump_run, run_from, run_of, ran_of, rest_after, EndsSo}
 use Rattle.sl_pcode.specs.Targets.{place_at}
 use Rattle.sl_pcode.specs.declared.effect.Effect.{Effect}
 use Rattle.sl_pcode.specs.declared.effect.Effect.TheVariants.{Unary, Binary, Load, Store, Branch, CBranch, Call, Indirect, UserOp}

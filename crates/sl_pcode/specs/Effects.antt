@@ -1,9 +1,6 @@
 -- meaning: what an operation does with its operands.
-use Rattle.std.specs.Prelude.{ℕ, if◌then◌else◌, List, [], ◌∷◌, Option, Some, None, is_some, option_map, option_and_then}
-use Rattle.sl_word.specs.declared.operation.Op1.{Op1}
-use Rattle.sl_word.specs.declared.operation.Op2.{Op2}
+use Rattle.std.specs.Prelude.{if◌then◌else◌, List, [], ◌∷◌, Option, Some, None, is_some, option_map, option_and_then}
 use Rattle.sl_pcode.specs.Codes.{kind_of}
-use Rattle.sl_pcode.specs.declared.code.Code.{Code}
 use Rattle.sl_pcode.specs.declared.code.Kind.{Kind}
 use Rattle.sl_pcode.specs.declared.code.Kind.TheVariants as kind
 use Rattle.sl_pcode.specs.declared.effect.Effect.{Effect}

@@ -1,5 +1,5 @@
 -- meaning: places of a list, by their distance from one of its operations.
-use Rattle.std.specs.Prelude.{ℕ, ◌+◌, ◌-◌, ◌^◌, ◌<◌, ◌≤◌, if◌then◌else◌, nat_lt}
+use Rattle.std.specs.Prelude.{ℕ, ◌+◌, ◌-◌, ◌^◌, ◌≤◌, if◌then◌else◌, nat_lt}
 use Rattle.sl_pcode.specs.declared.varnode.Place2.{Place2}
 use Rattle.sl_pcode.specs.declared.varnode.Place2.TheVariants.{Const, Unique, In}
 use Rattle.sl_pcode.specs.declared.varnode.Varnode.{Varnode}

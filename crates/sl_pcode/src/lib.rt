@@ -3,6 +3,7 @@
 
 mod code;
 mod effect;
+mod laws;
 mod list;
 mod operation;
 mod print;
@@ -12,6 +13,7 @@ mod varnode;
 
 pub use code::{Code, Kind};
 pub use effect::Effect;
+pub use laws::{lists_have_one_result, runs_are_steps};
 pub use list::OpList;
 pub use operation::Op;
 pub use print::{Names, print_op};

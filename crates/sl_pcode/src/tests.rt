@@ -199,7 +199,7 @@ fn made(
     inputs: &[(Place2, u64, u8)],
 ) -> Result<(Option<Varnode>, Vec<Varnode>), Fail> {
     let out = match out {
-        Some(bytes) => Some(varnode(RAM, 8, bytes)?),
+        Some(bytes) => Some(varnode(RAM, 0, bytes)?),
         None => None,
     };
     let mut list = Vec::new(alloc);
@@ -277,47 +277,52 @@ static TEXTS: [Text; 12] = [
     (
         Code::IntAdd,
         Some(1),
-        &[(RAM, 8, 1), (Place2::Const, 1, 1)],
-        "ram[0008]:1 = INT_ADD ram[0008]:1, 0x1:1",
+        &[(RAM, 0, 1), (Place2::Const, 1, 1)],
+        "register[0000]:1 = INT_ADD register[0000]:1, 0x1:1",
     ),
     (
         Code::Copy,
         Some(16),
         &[(Place2::Const, 0, 16)],
-        "ram[0008]:16 = COPY 0x0:16",
+        "register[0000]:16 = COPY 0x0:16",
     ),
     (
         Code::Int2Comp,
         Some(2),
         &[(SMALL, 0xfe, 2)],
-        "ram[0008]:2 = INT_2COMP small[fe]:2",
+        "register[0000]:2 = INT_2COMP small[fe]:2",
     ),
     (
         Code::IntNotEqual,
         Some(1),
         &[(Place2::Unique, 0x10, 4), (Place2::Const, 0xab, 4)],
-        "ram[0008]:1 = INT_NOTEQUAL unique[00000010]:4, 0xab:4",
+        "register[0000]:1 = INT_NOTEQUAL unique[00000010]:4, 0xab:4",
     ),
     (
         Code::Load,
         Some(2),
         &[(Place2::Const, 1, 8), (RAM, 0x1234, 2)],
-        "ram[0008]:2 = LOAD small, ram[1234]:2",
+        "register[0000]:2 = LOAD small, register[1234]:2",
     ),
     (
         Code::Store,
         None,
         &[(Place2::Const, 0, 8), (SMALL, 0, 1), (RAM, 4, 2)],
-        "STORE ram, small[00]:1, ram[0004]:2",
+        "STORE register, small[00]:1, register[0004]:2",
     ),
     (Code::Branch, None, &[(Place2::Const, 0, 4)], "BRANCH +0"),
     (
         Code::CBranch,
         None,
         &[(Place2::Const, 0xffff_fff4, 4), (RAM, 0, 1)],
-        "CBRANCH -12, ram[0000]:1",
+        "CBRANCH -12, register[0000]:1",
     ),
-    (Code::Branch, None, &[(RAM, 0x10, 2)], "BRANCH ram[0010]:2"),
+    (
+        Code::Branch,
+        None,
+        &[(RAM, 0x10, 2)],
+        "BRANCH register[0010]:2",
+    ),
     (
         Code::BranchInd,
         None,
@@ -345,7 +350,7 @@ static TEXTS: [Text; 12] = [
 
 fn names(alloc: Global) -> Result<Names, Fail> {
     let mut spaces = Vec::new(alloc);
-    spaces.push(String::from_str(alloc, "ram")?)?;
+    spaces.push(String::from_str(alloc, "register")?)?;
     spaces.push(String::from_str(alloc, "small")?)?;
     let mut sizes = Vec::new(alloc);
     sizes.push(address_size(2)?)?;

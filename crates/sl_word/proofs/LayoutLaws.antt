@@ -45,6 +45,11 @@ most-same f g (suc k) same =
     let last : f k ≡ g k = same k (omega arith) in
     rw (high, last)
 
+-- Numbers of the same bytes are the same.
+pub number_of-same : (endian : Endian) (f g : ℕ → ℕ) (k : ℕ) → ((i : ℕ) → i < k → f i ≡ g i) → number_of endian f k ≡ number_of endian g k
+number_of-same Little f g k same = least-same f g k same
+number_of-same Big f g k same = most-same f g k same
+
 -- The bytes of a number make the number.
 pub number_of-byte_of : (endian : Endian) (v size : ℕ) (f : ℕ → ℕ) → v < 256 ^ size → ((i : ℕ) → i < size → f i ≡ byte_of endian size v i) → number_of endian f size ≡ v
 number_of-byte_of Little v size f h is =

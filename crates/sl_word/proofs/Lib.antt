@@ -1,4 +1,5 @@
 pub mod ChangeLists
+pub mod InOnePage
 pub mod InRange
 pub mod LayoutLaws
 pub mod Memory

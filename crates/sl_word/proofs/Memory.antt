@@ -57,10 +57,10 @@ Puts-more m base i a v byte old mid new h at is before e =
           ∙ before.kept offset (λ k less. away k (omega arith));
     }
 
-in_run : (place from count k x y : ℕ) → place ≤ k → k < place + count → (if nat_le place k && nat_lt k (place + count) then x else y) ≡ x
+pub in_run : (place from count k x y : ℕ) → place ≤ k → k < place + count → (if nat_le place k && nat_lt k (place + count) then x else y) ≡ x
 in_run place from count k x y at_least below = grind (arith, nat_tests)
 
-out_of_run : (place from count k x y : ℕ) → (k < place) ⊎ (place + count ≤ k) → (if nat_le place k && nat_lt k (place + count) then x else y) ≡ y
+pub out_of_run : (place from count k x y : ℕ) → (k < place) ⊎ (place + count ≤ k) → (if nat_le place k && nat_lt k (place + count) then x else y) ≡ y
 out_of_run place from count k x y (inl before) = grind (arith, nat_tests)
 out_of_run place from count k x y (inr behind) = grind (arith, nat_tests)
 

@@ -7,12 +7,11 @@ use Rattle.std.proofs.lemmas.Bool.{cases_lt, cases_eq}
 use Rattle.std.proofs.lemmas.List.{length-map}
 use Rattle.std.proofs.lemmas.Bool.Decides.{nat_tests}
 use Rattle.std.proofs.Math.Nat.{add-mod-mod, add-mod_right, mod-lt, mod-add-mod, mod-eq_of_lt}
-use Rattle.sl_word.specs.declared.word.Endian.{Endian}
 use Rattle.sl_word.specs.declared.state.State.{State}
 use Rattle.sl_word.specs.Bytes.{address_size, address_sizes, byte_at, endian_of, IsSame, KeepsOthers, PutsBytes}
 use Rattle.sl_word.specs.Layout.{Puts, byte_of}
-use Rattle.sl_word.specs.Memories.{Memory, distance, with_bytes, stored, offsets_of}
-use Rattle.sl_word.proofs.Powers.{bytes_pos, bytes_mono}
+use Rattle.sl_word.specs.Memories.{distance, with_bytes, stored}
+use Rattle.sl_word.proofs.Powers.{bytes_mono}
 use Rattle.sl_word.proofs.Memory.{apart}
 
 -- an offset lies as far behind a base as it says

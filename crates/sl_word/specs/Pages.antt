@@ -1,4 +1,4 @@
-use Rattle.std.specs.Prelude.{if◌then◌else◌, ◌&&◌, ◌-◌, nat_le, nat_lt, ℕ, ◌+◌, ◌/◌, ◌%◌, ◌^◌, ◌<◌, slice_index, IsSome}
+use Rattle.std.specs.Prelude.{◌≡◌, if◌then◌else◌, ◌&&◌, ◌-◌, nat_le, nat_lt, ℕ, ◌+◌, ◌/◌, ◌%◌, ◌^◌, ◌<◌, ◌≤◌, slice_index, IsSome}
 use Rattle.std.specs.Option.{option_map_or}
 use Rattle.std.specs.BTreeMap.{get}
 use Rattle.std.specs.Ordering.{nat_cmp}
@@ -29,3 +29,9 @@ HasPages space base count = (i : ℕ) → i < count → HasPage space ((base + i
 -- The same of bytes that end at or before the end of the space.
 abbrev pub HasPagesOf : Space → ℕ → ℕ → Type 0
 HasPagesOf space base count = (i : ℕ) → i < count → HasPage space ((base + i) / 4096)
+
+-- So many bytes from a base on lie in one page, from this offset on, and end at or before the end of the space.
+pub record IsInOnePage (space : Space) (base count offset : ℕ) : Type 0 where
+  pub at : offset ≡ base % 256 ^ space.size.bytes
+  pub page : offset % 4096 + count ≤ 4096
+  pub room : offset + count ≤ 256 ^ space.size.bytes

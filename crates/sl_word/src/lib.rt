@@ -2,7 +2,9 @@
 #![tactic(auto)]
 
 mod arithmetic;
+mod layout;
 mod operation;
+mod page;
 mod signed;
 mod space;
 mod state;

@@ -1,44 +1,13 @@
 //! One address space: bytes by their offsets, in pages.
 
-ghost use Rattle.std.specs.Prelude.{◌≡◌, ℕ, ◌+◌, ◌*◌, ◌/◌, ◌%◌, ◌^◌, ◌<◌, ◌≤◌, ◌==◌, if◌then◌else◌, vec_len, IsSome, OnOk, IfOk, slice_index, length, OnErr, ◌⊎◌};
-ghost use Rattle.std.specs.Option.{option_map_or, option_copied};
+ghost use Rattle.std.specs.Prelude.{◌≡◌, ℕ, ◌+◌, ◌*◌, ◌/◌, ◌%◌, ◌^◌, ◌<◌, ◌≤◌, ◌==◌, if◌then◌else◌};
+ghost use Rattle.std.specs.Prelude.{false, length, slice_index, IsTrue, IfSome, OnOk, OnErr, ◌⊎◌};
 ghost use Rattle.sl_word.specs.Layout.{Puts, byte_of, number_of, little_endian, big_endian};
 
+use crate::page::{PAGE_LENGTH, Page, byte_of_page};
 use crate::{AddressSize, Endian, Size, Word};
 use std::alloc::{AllocError, Global};
 use std::collections::BTreeMap;
-
-const PAGE_LENGTH: u64 = 4096;
-
-/// The bytes of one page.
-#[derive(Drop)]
-pub(crate) struct Page {
-    bytes: Vec<u8>,
-    ghost whole: { vec_len bytes ≡ 4096 },
-}
-
-impl Page {
-    ghost use Rattle.sl_word.specs.Pages.{with_run};
-
-    fn zeros(alloc: Global) -> Result<Page, AllocError>
-        ensures { IfOk result (λ page. (place : ℕ) → slice_index page.bytes.items place ≡ 0) }
-    {
-        let bytes = vec![in alloc; 0; PAGE_LENGTH as usize]?;
-        Ok(Page { bytes })
-    }
-
-    // Puts `count` bytes, from the one at `from` on, at a place.
-    fn put(&mut self, place: usize, bytes: &[u8], from: usize, count: usize)
-        requires inside { place + count ≤ 4096 }
-        requires there { from + count ≤ length bytes.now }
-        ensures { (k : ℕ) → slice_index self.new.bytes.items k
-            ≡ with_run place from count (slice_index bytes.now) (slice_index self.old.bytes.items) k }
-    {
-        for i in 0..count {
-            self.bytes[place + i] = bytes[from + i];
-        }
-    }
-}
 
 /// Pages by their numbers; what has no page is 0.
 #[derive(Drop)]
@@ -49,7 +18,7 @@ pub(crate) struct Space {
 }
 
 impl Space {
-    ghost use Rattle.sl_word.specs.Pages.{byte_in, byte_after, HasPage, HasPages, HasPagesOf, with_run};
+    ghost use Rattle.sl_word.specs.Pages.{byte_in, byte_after, HasPage, HasPages, HasPagesOf, IsInOnePage, with_run};
     ghost use Rattle.sl_word.specs.Differences.{IsFirstDifference, IsFirstPage};
 
     pub(crate) fn new(alloc: Global, size: AddressSize) -> Space
@@ -127,6 +96,18 @@ impl Space {
         if let Some(page) = self.pages.get_mut(&number) {
             page.put(place, bytes, from, count);
         }
+    }
+
+    // The offset of `size` bytes from a base on, where they lie in one page, before the end of the space.
+    fn in_one_page(&self, base: u64, size: Size) -> Option<u64>
+        ensures { IfSome result (IsInOnePage self.now base size.bytes) }
+    {
+        let first = self.address(base, 0);
+        let last = self.address(base, u64::from(size.bytes) - 1);
+        if last < first || first / PAGE_LENGTH != last / PAGE_LENGTH {
+            return None;
+        }
+        Some(first)
     }
 
     fn add_pages(&mut self, base: u64, count: u64) -> Result<(), AllocError>
@@ -241,6 +222,54 @@ impl Space {
         ensures put { OnOk result (Puts (256 ^ self.old.size.bytes) base word.size.bytes (byte_of endian word.size.bytes word.bits) (byte_in self.old) (byte_in self.new)) }
         ensures unchanged { OnErr result ((offset : ℕ) → byte_in self.new offset ≡ byte_in self.old offset) }
     {
+        match self.in_one_page(base, word.size) {
+            Some(offset) => self.write_in_page(offset, endian, word),
+            None => self.write_by_bytes(base, endian, word),
+        }
+    }
+
+    // The same, where the bytes lie in one page.
+    fn write_in_page(&mut self, offset: u64, endian: Endian, word: Word) -> Result<(), AllocError>
+        requires { offset % 4096 + word.size.bytes ≤ 4096 }
+        ensures size { self.new.size ≡ self.old.size }
+        ensures bytes { OnOk result ((other : ℕ) → byte_in self.new other
+            ≡ with_run offset 0 word.size.bytes (byte_of endian word.size.bytes word.bits) (byte_in self.old) other) }
+        ensures unchanged { OnErr result ((other : ℕ) → byte_in self.new other ≡ byte_in self.old other) }
+    {
+        if self.set_word_in_page(offset, endian, word) {
+            return Ok(());
+        }
+        self.add_page(offset / PAGE_LENGTH)?;
+        self.set_word_in_page(offset, endian, word);
+        Ok(())
+    }
+
+    // The same, if the page is there. Whether it is.
+    fn set_word_in_page(&mut self, offset: u64, endian: Endian, word: Word) -> bool
+        requires { offset % 4096 + word.size.bytes ≤ 4096 }
+        ensures size { self.new.size ≡ self.old.size }
+        ensures found { HasPage self.old (offset / 4096) → IsTrue result }
+        ensures bytes { IsTrue result → (other : ℕ) → byte_in self.new other
+            ≡ with_run offset 0 word.size.bytes (byte_of endian word.size.bytes word.bits) (byte_in self.old) other }
+        ensures unchanged { result ≡ false → (other : ℕ) → byte_in self.new other ≡ byte_in self.old other }
+    {
+        let number = offset / PAGE_LENGTH;
+        let place = (offset % PAGE_LENGTH) as usize;
+        match self.pages.get_mut(&number) {
+            Some(page) => {
+                page.put_word(place, endian, word);
+                true
+            }
+            None => false,
+        }
+    }
+
+    // The same, byte by byte.
+    fn write_by_bytes(&mut self, base: u64, endian: Endian, word: Word) -> Result<(), AllocError>
+        ensures size { self.new.size ≡ self.old.size }
+        ensures put { OnOk result (Puts (256 ^ self.old.size.bytes) base word.size.bytes (byte_of endian word.size.bytes word.bits) (byte_in self.old) (byte_in self.new)) }
+        ensures unchanged { OnErr result ((offset : ℕ) → byte_in self.new offset ≡ byte_in self.old offset) }
+    {
         self.add_pages(base, u64::from(word.size.bytes))?;
         self.set_word(base, endian, word);
         Ok(())
@@ -260,6 +289,31 @@ impl Space {
 
     // The number that the bytes from the base on make.
     pub(crate) fn number(&self, base: u64, endian: Endian, size: Size) -> u128
+        ensures value { result ≡ number_of endian (byte_after self.now base) size.bytes }
+        ensures below { result < 256 ^ size.bytes }
+    {
+        match self.in_one_page(base, size) {
+            Some(offset) => self.number_in_page(offset, endian, size),
+            None => self.number_by_bytes(base, endian, size),
+        }
+    }
+
+    // The same, where the bytes lie in one page.
+    fn number_in_page(&self, offset: u64, endian: Endian, size: Size) -> u128
+        requires { offset % 4096 + size.bytes ≤ 4096 }
+        ensures value { result ≡ number_of endian (λ i. byte_in self.now (offset + i)) size.bytes }
+        ensures below { result < 256 ^ size.bytes }
+    {
+        let number = offset / PAGE_LENGTH;
+        let place = (offset % PAGE_LENGTH) as usize;
+        match self.pages.get(&number) {
+            Some(page) => page.number(place, endian, size),
+            None => 0,
+        }
+    }
+
+    // The same, byte by byte.
+    fn number_by_bytes(&self, base: u64, endian: Endian, size: Size) -> u128
         ensures value { result ≡ number_of endian (byte_after self.now base) size.bytes }
         ensures below { result < 256 ^ size.bytes }
     {
@@ -298,14 +352,4 @@ fn worth(byte: u8, place: u8) -> u128
     ensures { result ≡ byte * 256 ^ place }
 {
     u128::from(byte) << (8 * u32::from(place))
-}
-
-fn byte_of_page(page: Option<&Page>, place: u64) -> u8
-    requires { place < 4096 }
-    ensures { result ≡ option_map_or (λ one. slice_index one.bytes.items place) (option_copied page.entry) 0 }
-{
-    match page {
-        Some(page) => page.bytes[place as usize],
-        None => 0,
-    }
 }

@@ -1,4 +1,4 @@
-use Rattle.std.proofs.Common.{◌≡◌, ℕ, ◌+◌, ◌-◌, ◌/◌, ◌<◌, subst, arith}
+use Rattle.std.proofs.Common.{◌≡◌, ℕ, ◌+◌, ◌-◌, ◌/◌, subst, arith}
 use Rattle.sl_word.specs.Pages.{HasPage}
 use Rattle.sl_word.proofs.space.Space.add_pages_of.Goals as goal
 

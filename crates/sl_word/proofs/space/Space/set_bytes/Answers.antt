@@ -1,6 +1,6 @@
-use Rattle.std.proofs.Common.{◌≡◌, ◌+◌, ◌%◌, ◌^◌, ◌<◌, ◌≤◌, ◌∙◌, length, get_or, arith}
+use Rattle.std.proofs.Common.{◌^◌, ◌∙◌, get_or, arith}
 use Rattle.sl_word.specs.Pages.{byte_in}
-use Rattle.sl_word.proofs.Memory.{Puts-none, Puts-run}
+use Rattle.sl_word.proofs.Memory.{Puts-run}
 use Rattle.sl_word.proofs.Powers.{bytes_mono}
 use Rattle.sl_word.proofs.space.Space.set_bytes.Goals as goal
 

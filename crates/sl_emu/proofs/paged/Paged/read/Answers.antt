@@ -1,7 +1,7 @@
 use Rattle.std.proofs.Common.{◌≡◌, ℕ, ◌+◌, ◌^◌, ◌≤◌, ◌∙◌, List, ap, get_or}
 use Rattle.sl_word.specs.Bytes.{address_size, byte_at, endian_of}
 use Rattle.sl_emu.proofs.TemporaryLemmas.{number_straight}
-use Rattle.sl_emu.proofs.temporaries.Temporaries.read.Goals as goal
+use Rattle.sl_emu.proofs.paged.Paged.read.Goals as goal
 
 pub returns-clause-value : goal.returns-clause-value
 returns-clause-value c =

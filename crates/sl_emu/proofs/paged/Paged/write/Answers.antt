@@ -3,7 +3,7 @@ use Rattle.std.proofs.lemmas.Result.{on_ok_weaker}
 use Rattle.sl_word.specs.Bytes.{address_size, byte_at, endian_of}
 use Rattle.sl_word.specs.Layout.{byte_of}
 use Rattle.sl_emu.proofs.TemporaryLemmas.{put_straight}
-use Rattle.sl_emu.proofs.temporaries.Temporaries.write.Goals as goal
+use Rattle.sl_emu.proofs.paged.Paged.write.Goals as goal
 
 pub returns-clause-put : goal.returns-clause-put
 returns-clause-put c =

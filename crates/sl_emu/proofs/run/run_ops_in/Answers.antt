@@ -1,12 +1,8 @@
 use Rattle.sl_word.specs.Bytes.{address_sizes, byte_at, endian_of}
 use Rattle.sl_pcode.specs.Operations.{operations}
 use Rattle.sl_emu.proofs.RunLemmas.{first-run_of}
-use Rattle.sl_emu.proofs.run.run_ops.Goals as goal
+use Rattle.sl_emu.proofs.run.run_ops_in.Goals as goal
 
 pub returns-then-ops-gt-MOST_OPERATIONS-clause-effects : goal.returns-then-ops-gt-MOST_OPERATIONS-clause-effects
 returns-then-ops-gt-MOST_OPERATIONS-clause-effects c =
-    first-run_of (endian_of c.args.state.now) (address_sizes c.args.state.now) (operations c.args.ops.now) (byte_at c.args.state.now)
-
-pub returns-in_default-clause-effects : goal.returns-in_default-clause-effects
-returns-in_default-clause-effects c =
     first-run_of (endian_of c.args.state.now) (address_sizes c.args.state.now) (operations c.args.ops.now) (byte_at c.args.state.now)

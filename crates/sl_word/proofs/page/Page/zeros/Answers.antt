@@ -1,7 +1,7 @@
 use Rattle.std.proofs.Common.{◌≡◌, rules}
 use Rattle.std.specs.Prelude.{replicate}
 use Rattle.sl_word.proofs.Memory.{get_or-zeros}
-use Rattle.sl_word.proofs.space.Page.zeros.Goals as goal
+use Rattle.sl_word.proofs.page.Page.zeros.Goals as goal
 
 pub returns : goal.returns
 returns c =
