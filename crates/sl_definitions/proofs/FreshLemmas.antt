@@ -110,7 +110,7 @@ are_free t names new = record {
 
 -- ---- the first name of an item, and the others
 
-differ_less : (x : Name) (xs names : List Name) → differ_behind (x ∷ xs) names ≡ true → differ_behind xs names ≡ true
+pub differ_less : (x : Name) (xs names : List Name) → differ_behind (x ∷ xs) names ≡ true → differ_behind xs names ≡ true
 differ_less x xs [] h = refl
 differ_less x xs (n ∷ names) h =
     let p = and_parts (not (bytes_eq n x || is_among xs n)) (differ_behind (x ∷ xs ++ n ∷ []) names) h in

@@ -1,15 +1,16 @@
 //! Bit ranges: rule 8, and what they add.
 
-ghost use Rattle.std.specs.Prelude.{◌≡◌, ◌≤◌, ◌++◌, true, OnOk, IfOk, map, unwrap_or};
+ghost use Rattle.std.specs.Prelude.{◌≡◌, ◌≤◌, ◌++◌, true, OnOk, IfOk, map};
 ghost use Rattle.std.specs.List.{list_all};
 ghost use Rattle.sl_ast.specs.Views.{bit_range_of as seen};
 ghost use Rattle.sl_rules.specs.Demands.{Gives};
 ghost use Rattle.sl_rules.specs.Names.{differ_behind};
-ghost use Rattle.sl_spec.specs.Named.{index_named, named};
+ghost use Rattle.sl_spec.specs.Named.{named};
 ghost use Rattle.sl_definitions.specs.Fits.{bits_in};
 ghost use Rattle.sl_definitions.specs.RegisterRules.{bit_range_names, bit_range_of, bit_range_step};
 ghost use Rattle.sl_definitions.specs.RegisterRules.{is_bit_range};
 
+use crate::context::register_number;
 use crate::names::are_new;
 use sl_ast::definitions as tree;
 use sl_rules::Fault;
@@ -41,20 +42,6 @@ fn all_bit_ranges<'a>(registers: &Named<'a, Register<'a>>, given: &[tree::BitRan
     given.iter().all(|r| is_bit_range(registers, r))
 }
 
-/// The index of a register; 0 where there is none. 2^32 registers would be want of memory.
-fn register_number<'a>(registers: &Named<'a, Register<'a>>, name: &[u8]) -> Result<u32, AllocError>
-    ensures { IfOk result (λ n.
-        n ≡ unwrap_or (index_named (λ r. r.name) name.now registers.now) 0) }
-{
-    match registers.index_of(name) {
-        Some(index) => match u32::try_from(index) {
-            Ok(number) => Ok(number),
-            Err(_) => Err(AllocError),
-        },
-        None => Ok(0),
-    }
-}
-
 /// Adds bit ranges whose names are new.
 fn add<'a>(
     bitranges: &mut Named<'a, BitRange<'a>>,
@@ -73,7 +60,7 @@ fn add<'a>(
         let number = register_number(registers, of.register)?;
         let added = BitRange {
             name: of.name,
-            register: RegId(number),
+            register: number.unwrap_or(RegId(0)),
             low: of.low as u32,
             count: of.count as u32,
         };

@@ -12,7 +12,7 @@ use crate::names::are_new;
 use crate::tokens::{add, add_names, all_attributes_once, all_in_order};
 use sl_ast::definitions as tree;
 use sl_rules::Fault;
-use sl_spec::{RegId, Register, Tables};
+use sl_spec::{Named, RegId, Register, Tables};
 use std::alloc::{AllocError, Global};
 
 fn all_below(bits: u64, fields: &[tree::Field]) -> bool
@@ -44,10 +44,13 @@ fn is_context(t: &Tables, register: &[u8], fields: &[tree::Field]) -> bool
 }
 
 /// The number of a register. 2^32 registers would be want of memory.
-fn register_number(t: &Tables, name: &[u8]) -> Result<Option<RegId>, AllocError>
-    ensures { IfOk result (λ n. n ≡ index_named (λ r. r.name) name.now t.now.registers) }
+pub fn register_number<'a>(
+    registers: &Named<'a, Register<'a>>,
+    name: &[u8],
+) -> Result<Option<RegId>, AllocError>
+    ensures { IfOk result (λ n. n ≡ index_named (λ r. r.name) name.now registers.now) }
 {
-    match t.registers.index_of(name) {
+    match registers.index_of(name) {
         Some(index) => match u32::try_from(index) {
             Ok(number) => Ok(Some(RegId(number))),
             Err(_) => Err(AllocError),
@@ -89,7 +92,7 @@ pub fn define_context<'a>(
     if !all_attributes_once(fields) {
         return Err(Fault::Rule(12));
     }
-    let number = register_number(t, register)?;
+    let number = register_number(&t.registers, register)?;
     add(&mut t.fields, None, fields)?;
     t.context = number;
     Ok(())

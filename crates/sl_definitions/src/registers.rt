@@ -15,7 +15,7 @@ use sl_word::{Size, SpaceId};
 use std::alloc::{AllocError, Global};
 
 /// Whether the name skips a place.
-fn is_skipped(name: &[u8]) -> bool
+pub fn is_skipped(name: &[u8]) -> bool
     ensures { result ≡ is_skipped name.now }
 {
     name == b"_".as_slice()

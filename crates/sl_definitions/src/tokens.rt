@@ -49,13 +49,22 @@ pub fn all_attributes_once(fields: &[tree::Field]) -> bool
     fields.iter().all(|f| attributes::has_attributes_once(f))
 }
 
+/// The byte order that is written.
+pub fn endian_of(order: ByteOrder) -> Endian
+    ensures { result ≡ endian_of order }
+{
+    match order {
+        ByteOrder::Big => Endian::Big,
+        ByteOrder::Little => Endian::Little,
+    }
+}
+
 /// The token's own byte order, or else that of the specification.
 fn token_order(t: &Tables, own: Option<ByteOrder>) -> Endian
     ensures { result ≡ token_order t.now own }
 {
     match own {
-        Some(ByteOrder::Big) => Endian::Big,
-        Some(ByteOrder::Little) => Endian::Little,
+        Some(own) => endian_of(own),
         None => t.endian,
     }
 }

@@ -5,6 +5,7 @@ mod conflicts;
 mod faults;
 mod limits;
 mod listings;
+mod options;
 mod parser;
 mod refusals;
 mod runs;

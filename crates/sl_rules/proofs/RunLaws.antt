@@ -52,7 +52,8 @@ module _ {S X : Type 0} (step : S → X → Result S ℕ) where
   refused_at s [] e h = absurd (cc)
   refused_at s (x ∷ xs) e h = refused_by s x xs e (step s x) refl (λ t. refused_at t xs e) h
 
-  append_by : (r : Result S ℕ) (xs ys : List X) → ((t : S) → run step t (xs ++ ys) ≡ (run step t xs >>= λ u. run step u ys))
+module _ {S X E : Type 0} (step : S → X → Result S E) where
+  append_by : (r : Result S E) (xs ys : List X) → ((t : S) → run step t (xs ++ ys) ≡ (run step t xs >>= λ u. run step u ys))
       → (r >>= λ t. run step t (xs ++ ys)) ≡ ((r >>= λ t. run step t xs) >>= λ u. run step u ys)
   append_by (Ok t) xs ys rest = rest t
   append_by (Err n) xs ys rest = refl

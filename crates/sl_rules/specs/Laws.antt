@@ -36,6 +36,6 @@ abbrev pub EndsAtFirstRefusal : Type 0 → Type 0 → Type 0
 EndsAtFirstRefusal S X = (step : S → X → Result S ℕ) (s : S) (xs : List X) (e : ℕ)
     → run step s xs ≡ Err e → IsRefusedAt step s xs e
 
-abbrev pub TakesInParts : Type 0 → Type 0 → Type 0
-TakesInParts S X = (step : S → X → Result S ℕ) (s : S) (xs ys : List X)
+abbrev pub TakesInParts : Type 0 → Type 0 → Type 0 → Type 0
+TakesInParts S X E = (step : S → X → Result S E) (s : S) (xs ys : List X)
     → run step s (xs ++ ys) ≡ (run step s xs >>= λ t. run step t ys)

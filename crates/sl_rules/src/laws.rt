@@ -14,6 +14,6 @@ pub fn refusal_is_first<S, X>()
 {}
 
 /// Steps over a list are those over its front and then those over the rest.
-pub fn steps_go_in_parts<S, X>()
-    ensures { TakesInParts S X }
+pub fn steps_go_in_parts<S, X, E>()
+    ensures { TakesInParts S X E }
 {}

@@ -55,18 +55,18 @@ choice_below cubes p i choice = slice_get_within cubes i choice.chosen choice.ch
 pub at_map : {X Y : Type 0} (f : X → Y) (xs : List X) (i : ℕ) (x : X) → i < length xs → x ≡ get_or xs i x → slice_get (map f xs) i ≡ Some (f x)
 at_map f xs i x below is = slice_get-map f xs i ∙ ap (option_map f) (slice_get_read xs (length xs) i x refl below is)
 
-module _ (cubes : List Cube) (sections : List (List Sum)) (address_bytes token_bytes : ℕ) (endian : Endian) where
+module _ (cubes : List Cube) (sections : List (List Sum)) (address_bytes token_bytes : ℕ) (endian : Endian) (from : ℕ) where
   -- What is run from here on is the rest of the run.
   abbrev pub Continues : ℕ → Bytes → ℕ → Bytes → ℕ → Type 0
   Continues steps start ran now counter =
       (left more : ℕ) (after : Bytes) (last : ℕ) (has_stopped : Bool) → ran + left ≡ steps
       → Runs has_cube cubes sections address_bytes token_bytes endian left now counter more after last has_stopped
-      → Runs has_cube cubes sections address_bytes token_bytes endian steps start 0 (ran + more) after last has_stopped
+      → Runs has_cube cubes sections address_bytes token_bytes endian steps start from (ran + more) after last has_stopped
 
-  pub starts : (steps : ℕ) (start : Bytes) → Continues steps start 0 start 0
+  pub starts : (steps : ℕ) (start : Bytes) → Continues steps start 0 start from
   starts steps start = λ left more after last has_stopped e rest.
-      subst (λ n. Runs has_cube cubes sections address_bytes token_bytes endian n start 0 (0 + more) after last has_stopped) (sym (zero-add left) ∙ e)
-      (subst (λ n. Runs has_cube cubes sections address_bytes token_bytes endian left start 0 n after last has_stopped) (sym (zero-add more)) rest)
+      subst (λ n. Runs has_cube cubes sections address_bytes token_bytes endian n start from (0 + more) after last has_stopped) (sym (zero-add left) ∙ e)
+      (subst (λ n. Runs has_cube cubes sections address_bytes token_bytes endian left start from n after last has_stopped) (sym (zero-add more)) rest)
 
   pub continues : (steps : ℕ) (start : Bytes) (ran : ℕ) (now between : Bytes) (counter next : ℕ) (section : List Sum) → ran < steps
       → IsChosenSection has_cube cubes sections (point_from address_bytes now counter) section → RunsSection endian section now between
@@ -77,20 +77,20 @@ module _ (cubes : List Cube) (sections : List (List Sum)) (address_bytes token_b
       let whole : ran + suc left ≡ steps = omega arith in
       let on : Runs has_cube cubes sections address_bytes token_bytes endian left between ((counter + token_bytes) % 256 ^ address_bytes) more after last has_stopped =
       subst (λ n. Runs has_cube cubes sections address_bytes token_bytes endian left between n more after last has_stopped) e rest in
-      subst (λ n. Runs has_cube cubes sections address_bytes token_bytes endian steps start 0 n after last has_stopped) longer
+      subst (λ n. Runs has_cube cubes sections address_bytes token_bytes endian steps start from n after last has_stopped) longer
       (before (suc left) (suc more) after last has_stopped whole (step chosen.choice chosen.section_is runs on))
 
   pub finished : (steps : ℕ) (start : Bytes) (ran : ℕ) (now : Bytes) (counter : ℕ) → ran ≡ steps → Continues steps start ran now counter
-      → Runs has_cube cubes sections address_bytes token_bytes endian steps start 0 steps now counter false
+      → Runs has_cube cubes sections address_bytes token_bytes endian steps start from steps now counter false
   finished steps start ran now counter e before =
       let all : ran + 0 ≡ steps = omega arith in
-      subst (λ n. Runs has_cube cubes sections address_bytes token_bytes endian steps start 0 n now counter false) all
+      subst (λ n. Runs has_cube cubes sections address_bytes token_bytes endian steps start from n now counter false) all
       (before 0 0 now counter false all (all_ran (λ space offset. refl)))
 
   pub halted : (steps : ℕ) (start : Bytes) (ran : ℕ) (now : Bytes) (counter : ℕ) → ran < steps
       → IsUnmatched has_cube cubes (point_from address_bytes now counter) → Continues steps start ran now counter
-      → Runs has_cube cubes sections address_bytes token_bytes endian steps start 0 ran now counter true
+      → Runs has_cube cubes sections address_bytes token_bytes endian steps start from ran now counter true
   halted steps start ran now counter below none before =
       let whole : ran + suc (steps - (ran + 1)) ≡ steps = omega arith in
-      subst (λ n. Runs has_cube cubes sections address_bytes token_bytes endian steps start 0 n now counter true) (add-zero ran)
+      subst (λ n. Runs has_cube cubes sections address_bytes token_bytes endian steps start from n now counter true) (add-zero ran)
       (before (suc (steps - (ran + 1))) 0 now counter true whole (stopped none (λ space offset. refl)))

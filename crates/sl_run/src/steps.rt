@@ -27,8 +27,8 @@ pub struct Outcome {
     pub stopped: bool,
 }
 
-/// Runs at most so many instructions, the first at address 0 of the first space. `sections` has the
-/// section of each constructor, by its place among the cubes that the chooser was built from, and
+/// Runs at most so many instructions, the first at address `start` of the first space. `sections` has
+/// the section of each constructor, by its place among the cubes that the chooser was built from, and
 /// `sizes` the size of addresses for each space of the state. The only error is want of
 /// memory, which may leave some instructions done.
 pub fn run_steps(
@@ -39,6 +39,7 @@ pub fn run_steps(
     address_bytes: u8,
     token_bytes: u8,
     state: &mut State,
+    start: u64,
     steps: u64,
 ) -> Result<Outcome, AllocError>
     requires sizes { byte_counts sizes.now ≡ address_sizes state.old }
@@ -50,9 +51,9 @@ pub fn run_steps(
     ensures sizes { address_sizes state.new ≡ address_sizes state.old }
     ensures endian { endian_of state.new ≡ endian_of state.old }
     ensures runs { IfOk result (λ outcome. Runs has_cube chooser.now (statements sections.now) address_bytes token_bytes (endian_of state.old)
-        steps (byte_at state.old) 0 outcome.ran (byte_at state.new) outcome.counter outcome.stopped) }
+        steps (byte_at state.old) start outcome.ran (byte_at state.new) outcome.counter outcome.stopped) }
 {
-    let mut counter = 0;
+    let mut counter = start;
     'steps: for ran in 0..steps {
         let point = point_at(state, address_bytes, counter);
         let Some(section) = chosen(chooser, sections, &point) else {

@@ -1,13 +1,13 @@
 -- Bits of a field, and its value in 64 bits.
-use Rattle.std.proofs.Common.{◌≡◌, ℕ, zero, suc, ◌+◌, ◌-◌, ◌/◌, ◌%◌, ◌^◌, ◌<◌, ◌≤◌, Bool, true, false, List, [], ◌∷◌, length, Some, bit_and, refl, sym, ap, ◌∙◌, arith}
-use Rattle.std.specs.Prelude.{ℤ, pos, ◌&&◌, slice_get, FitsSigned}
+use Rattle.std.proofs.Common.{◌≡◌, ℕ, suc, ◌+◌, ◌-◌, ◌/◌, ◌%◌, ◌^◌, ◌<◌, ◌≤◌, Bool, true, false, bit_and, sym, ap, ◌∙◌, arith}
+use Rattle.std.specs.Prelude.{ℤ, pos, FitsSigned}
 use Rattle.std.specs.Int.{cast_signed, int_wrap, w64}
 use Rattle.std.proofs.lemmas.Int.{int_wrap_fits}
 use Rattle.std.proofs.lemmas.Nat.{and_mask, pow_pos}
 use Rattle.std.proofs.lemmas.Nat.Bits.{ones_shr}
 use Rattle.std.proofs.Math.Nat.{mod-eq_of_lt}
-use Rattle.sl_spec.specs.Tables.{Field, Token}
-use Rattle.sl_spec.specs.FieldValues.{bits_of, have_tokens, is_none_or_below, read_as, signed_of, value_of, wrapped}
+use Rattle.sl_spec.specs.Tables.{Field}
+use Rattle.sl_spec.specs.FieldValues.{bits_of, read_as, signed_of, value_of, wrapped}
 
 -- the greatest number of so many bits, as it is shifted out of 64
 pub greatest_is : (width : ℕ) → width ≤ 64 → (2 ^ 64 - 1) / 2 ^ (64 - width) + 1 ≡ 2 ^ width
@@ -40,19 +40,3 @@ module _ (f : Field) (n : ℕ) where
   unsigned_value k signed small e =
       let same : k % 2 ^ 64 ≡ k = mod-eq_of_lt small in
       ap (cast_signed w64) (sym same) ∙ ap (λ (j : ℕ). wrapped (pos j)) e ∙ ap read (sym signed)
-
--- ---- the token of a field
-
-and_parts : (a b : Bool) → (a && b) ≡ true → (a ≡ true) × (b ≡ true)
-and_parts true b h = (refl, h)
-and_parts false b h = absurd (cc)
-
--- a field that is there has a token that is there, where all have
-pub has_token : (tokens : List Token) (fields : List Field) (i : ℕ) (f : Field) → have_tokens tokens fields ≡ true → slice_get fields i ≡ Some f
-    → is_none_or_below (length tokens) f.token ≡ true
-has_token tokens [] i f all is = absurd (cc)
-has_token tokens (x ∷ fields) zero f all is =
-    let e : x ≡ f = cc in
-    ap (λ (y : Field). is_none_or_below (length tokens) y.token) (sym e) ∙ (and_parts (is_none_or_below (length tokens) x.token) (have_tokens tokens fields) all).0
-has_token tokens (x ∷ fields) (suc i) f all is =
-    has_token tokens fields i f (and_parts (is_none_or_below (length tokens) x.token) (have_tokens tokens fields) all).1 is

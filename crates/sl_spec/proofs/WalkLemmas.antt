@@ -13,7 +13,7 @@ use Rattle.sl_ast.specs.declared.constructors.Inner.{Inner}
 use Rattle.sl_ast.specs.declared.constructors.Inner.TheFolds.{fold-roll-Inner}
 use Rattle.sl_ast.specs.declared.constructors.Inner.TheOpen.{Inner-F}
 use Rattle.sl_ast.specs.declared.constructors.Inner.TheVariants.{rolls-With}
-use Rattle.sl_spec.specs.Unfolded.{constructor_at, constructors_in, under}
+use Rattle.sl_spec.specs.Unfolded.{constructor_at, constructors_in, under, unfolded_one}
 use Rattle.sl_spec.specs.Walks.{Adds, AddsItem, all_under, inner_before}
 
 -- ---- what a part of a block is, by its shape
@@ -142,14 +142,15 @@ pub adds_single : (number next : ℕ) (item : Item) (old new : List (Placed Cons
     → ((rest : List Item) → unfolded_from number (item ∷ rest) ≡ (number, item) ∷ unfolded_from (1 + number) rest)
     → new ≡ old ++ constructor_at number item → AddsItem number item old next new
 unfolding constructors_in
-adds_single number next item old new e shape is = record {
-  constructors = λ rest.
-      let turn : next ≡ 1 + number = omega arith in
-      ap (λ (l : List (Placed Constructor)). l ++ constructors_in (unfolded_from next rest)) is
-      ∙ append_assoc old (constructor_at number item) (constructors_in (unfolded_from next rest))
-      ∙ ap (λ (k : ℕ). old ++ (constructor_at number item ++ constructors_in (unfolded_from k rest))) turn
-      ∙ ap (λ (l : List (Placed Item)). old ++ constructors_in l) (sym (shape rest));
-}
+adds_single number next item old new e shape is =
+    let turn : 1 + number ≡ next = omega arith in
+    record {
+      constructors = is
+          ∙ ap (λ (l : List (Placed Constructor)). old ++ l) (sym (append-nil (constructor_at number item)) ∙ sym (ap constructors_in (shape [])));
+      rest = λ items. shape items
+          ∙ ap (λ (k : ℕ). (number, item) ∷ unfolded_from k items) turn
+          ∙ ap (λ (l : List (Placed Item)). l ++ unfolded_from next items) (sym (shape []));
+    }
 
 -- an item that is no constructor and no block
 pub adds_other : {E : Type 0} (number : ℕ) (item : Item) (all : List (Placed Constructor)) (r : Result ℕ E)
@@ -166,17 +167,25 @@ adds_own number c old new (Err e) added is = tt
 
 pub adds_outer_block : (h : Head) (number next : ℕ) (parts : List Inner) (old new : List (Placed Constructor))
     → Adds (h ∷ []) (number + 1) (parts_from parts 0) old next new → AddsItem number (block h (inside_of parts)) old next new
-adds_outer_block h number next parts old new walked = record {
-  constructors = λ rest.
-      let mine = all_in_block h (constructors_inside (1 + number) (inside_of parts)) in
-      let behind = unfolded_from (1 + number + count_inside (inside_of parts)) rest in
-      ap (λ (l : List (Placed Constructor)). l ++ constructors_in (unfolded_from next rest)) (block_added [] h number next parts old new walked)
-      ∙ ap (λ (l : List (Placed Constructor)). (old ++ l) ++ constructors_in (unfolded_from next rest)) (all_under_none mine)
-      ∙ append_assoc old mine (constructors_in (unfolded_from next rest))
-      ∙ ap (λ (k : ℕ). old ++ (mine ++ constructors_in (unfolded_from k rest))) (block_number [] h number next parts old new walked)
-      ∙ ap (λ (l : List (Placed Constructor)). old ++ (l ++ constructors_in behind)) (sym (constructors_in-items mine))
-      ∙ ap (λ (l : List (Placed Constructor)). old ++ l) (sym (constructors_in-append (as_items mine) behind));
-}
+adds_outer_block h number next parts old new walked =
+    let mine = all_in_block h (constructors_inside (1 + number) (inside_of parts)) in
+    record {
+      constructors = block_added [] h number next parts old new walked
+          ∙ ap (λ (l : List (Placed Constructor)). old ++ l)
+              (all_under_none mine ∙ sym (constructors_in-items mine) ∙ ap constructors_in (sym (append-nil (as_items mine))));
+      rest = λ items.
+          ap (λ (k : ℕ). as_items mine ++ unfolded_from k items) (sym (block_number [] h number next parts old new walked))
+          ∙ ap (λ (l : List (Placed Item)). l ++ unfolded_from next items) (sym (append-nil (as_items mine)));
+    }
+
+-- the constructors of an item and of those behind it
+constructors_behind : (number next : ℕ) (item : Item) (rest : List Item) (old new : List (Placed Constructor)) → AddsItem number item old next new
+    → new ++ constructors_in (unfolded_from next rest) ≡ old ++ constructors_in (unfolded_from number (item ∷ rest))
+constructors_behind number next item rest old new adds =
+    let one = unfolded_one number item in
+    ap (λ (l : List (Placed Constructor)). l ++ constructors_in (unfolded_from next rest)) adds.constructors
+    ∙ append_assoc old (constructors_in one) (constructors_in (unfolded_from next rest))
+    ∙ ap (λ (l : List (Placed Constructor)). old ++ l) (sym (constructors_in-append one (unfolded_from next rest)) ∙ ap constructors_in (sym (adds.rest rest)))
 
 -- ---- all items
 
@@ -188,7 +197,7 @@ module _ (items : List Item) where
   pub gathers : (now new : List (Placed Constructor)) (number next i : ℕ) (item : Item) → i < length items → item ≡ get_or items i item
       → AddsItem number item now next new → AreGathered now number i → AreGathered new next (i + 1)
   gathers now new number next i item below at adds so_far =
-      adds.constructors (drop (i + 1) items)
+      constructors_behind number next item (drop (i + 1) items) now new adds
       ∙ ap (λ (l : List Item). now ++ constructors_in (unfolded_from number l)) (ap (λ (x : Item). x ∷ drop (i + 1) items) at ∙ sym (drop_more items i item below))
       ∙ so_far
 

@@ -1,9 +1,8 @@
 -- meaning: the values of fields (SLEIGH manual, "Defining Tokens and Fields").
 use Rattle.std.specs.Prelude.{ℕ, ℤ, suc, pos, negsuc, ◌+◌, ◌-◌, ◌*◌, ◌/◌, ◌%◌, ◌^◌, ◌≤◌}
-use Rattle.std.specs.Prelude.{Bool, true, nat_lt, if◌then◌else◌}
+use Rattle.std.specs.Prelude.{Bool, nat_lt, if◌then◌else◌}
 use Rattle.std.specs.Prelude.{Option, None, Some, IfSome, option_and_then}
-use Rattle.std.specs.Prelude.{List, [], ◌∷◌, length, take, drop, reverse, slice_get}
-use Rattle.std.specs.List.{list_all}
+use Rattle.std.specs.Prelude.{List, [], ◌∷◌, take, drop, reverse, slice_get}
 use Rattle.std.specs.Int.{w64, int_wrap}
 use Rattle.sl_word.specs.declared.word.Endian.{Endian}
 use Rattle.sl_word.specs.declared.word.Endian.TheVariants.{Little, Big}
@@ -54,15 +53,6 @@ field_value tokens f bytes at context =
     value_of f (number_in (token_of tokens f) (drop at bytes) context)
 
 -- ---- conditions
-
--- whether a number is one of so many, where there is one
-abbrev pub is_none_or_below : ℕ → Option ℕ → Bool
-is_none_or_below count None = true
-is_none_or_below count (Some k) = nat_lt k count
-
--- whether each field that has a token has one of these
-abbrev pub have_tokens : List Token → List Field → Bool
-have_tokens tokens fields = list_all (λ f. is_none_or_below (length tokens) f.token) fields
 
 -- A token, where there is one, lies within so many bytes from a place on.
 abbrev pub LiesWithin : Option Token → ℕ → ℕ → Type 0

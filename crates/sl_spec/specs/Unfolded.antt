@@ -1,7 +1,7 @@
 -- view: constructors without `with` blocks, as the program keeps them.
 use Rattle.std.specs.Prelude.{ℕ, List, [], ◌∷◌, ◌++◌, map}
 use Rattle.sl_ast.specs.Trees.{Constructor, Head, Item, constructor}
-use Rattle.sl_ast.specs.Unfolding.{Placed, in_block}
+use Rattle.sl_ast.specs.Unfolding.{Placed, in_block, unfolded_from}
 use Rattle.sl_ast.specs.Views.{constructor_of, head_of}
 use Rattle.sl_spec.specs.declared.unfolded.Around.{Around}
 use Rattle.sl_spec.specs.declared.unfolded.Unfolded.{Unfolded}
@@ -27,6 +27,10 @@ all_placed us = map placed us
 abbrev pub constructor_at : ℕ → Item → List (Placed Constructor)
 constructor_at n (constructor c) = (n, c) ∷ []
 constructor_at n _ = []
+
+-- what an item is without `with` blocks: itself, or the constructors of a block
+abbrev pub unfolded_one : ℕ → Item → List (Placed Item)
+unfolded_one n item = unfolded_from n (item ∷ [])
 
 -- the constructors among items
 unfoldable pub constructors_in : List (Placed Item) → List (Placed Constructor)

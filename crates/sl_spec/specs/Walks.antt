@@ -1,10 +1,10 @@
--- step: the constructors of a part of a block, added to those so far.
+-- step: the constructors of a part of a block, or of an item, added to those so far.
 use Rattle.std.specs.Prelude.{◌≡◌, ℕ, ◌+◌, List, ◌∷◌, ◌++◌, map}
 use Rattle.sl_ast.specs.Trees.{Constructor, Head, Inside, Item}
 use Rattle.sl_ast.specs.Unfolding.{Placed, constructors_inside, count_inside, unfolded_from}
 use Rattle.sl_ast.specs.Views.{inner_step}
 use Rattle.sl_ast.specs.declared.constructors.Inner.{Inner, fold-Inner}
-use Rattle.sl_spec.specs.Unfolded.{constructors_in, under}
+use Rattle.sl_spec.specs.Unfolded.{constructors_in, under, unfolded_one}
 
 -- a part of a block before what stands behind it
 abbrev pub inner_before : Inner → Inside → Inside
@@ -22,9 +22,9 @@ pub record Adds (heads : List Head) (number : ℕ) (part : Inside → Inside)
       ≡ old ++ all_under heads (constructors_inside number (part rest))
   pub numbers : (rest : Inside) → next + count_inside rest ≡ number + count_inside (part rest)
 
--- The same of an item, whatever items follow.
+-- The constructors of an item were added to the old ones, and `next` is the number behind it.
 pub record AddsItem (number : ℕ) (item : Item)
     (old : List (Placed Constructor)) (next : ℕ) (new : List (Placed Constructor)) : Type 0 where
-  pub constructors : (rest : List Item)
-      → new ++ constructors_in (unfolded_from next rest)
-      ≡ old ++ constructors_in (unfolded_from number (item ∷ rest))
+  pub constructors : new ≡ old ++ constructors_in (unfolded_one number item)
+  pub rest : (items : List Item)
+      → unfolded_from number (item ∷ items) ≡ unfolded_one number item ++ unfolded_from next items

@@ -4,6 +4,7 @@ use crate::ids::{FieldId, RegId};
 use crate::named::Entry;
 use sl_word::{Endian, Size, SpaceId};
 use std::marker::Model;
+use std::rc::Rc;
 
 /// The kinds of address spaces (SLEIGH manual, "Space Definitions").
 #[derive(Clone, Copy, Debug, PartialEq, Eq)]
@@ -166,11 +167,11 @@ pub enum Entries<'a> {
     Values(Vec<Option<i64>>),
 }
 
-/// A field with what is attached to it.
-#[derive(Debug, Drop)]
+/// A field with what is attached to it. Fields of one list share its entries.
+#[derive(Drop)]
 pub struct Attached<'a> {
     pub field: FieldId,
-    pub entries: Entries<'a>,
+    pub entries: Rc<Entries<'a>>,
 }
 
 impl<'a> Model for Attached<'a> {
@@ -180,5 +181,5 @@ impl<'a> Model for Attached<'a> {
 
     ghost use Rattle.sl_spec.specs.Views.{entries_of};
 
-    ghost view = { λ a. record { field = a.field; entries = entries_of a.entries } };
+    ghost view = { λ a. record { field = a.field; entries = entries_of a.entries.value } };
 }

@@ -1,14 +1,14 @@
 //! The values of fields.
 
 ghost use Rattle.std.specs.Prelude.{◌≡◌, ◌+◌, ◌-◌, ◌/◌, ◌^◌, ◌<◌, ◌≤◌, suc, true};
-ghost use Rattle.std.specs.Prelude.{length, slice_get, take, drop, IfSome};
-ghost use Rattle.sl_spec.specs.FieldValues.{LiesWithin, field_value, is_none_or_below};
+ghost use Rattle.std.specs.Prelude.{length, option_copied, slice_get, take, drop, IfSome};
+ghost use Rattle.sl_spec.specs.FieldValues.{LiesWithin, field_value};
 ghost use Rattle.sl_spec.specs.FieldValues.{bits_of, number_in, signed_of, value_of};
 ghost use Rattle.sl_spec.specs.FieldValues.{token_integer, token_of};
 
-use crate::bound::Bound;
 use crate::definitions::{Field, Token};
 use crate::ids::FieldId;
+use crate::tables::Tables;
 use sl_word::Endian;
 
 /// The number that bytes stand for, the first the least significant.
@@ -105,27 +105,36 @@ impl Field<'_> {
     }
 }
 
-/// The number that a field's bits are read from: its token's integer, or the context.
-fn number_in(bound: &Bound, of: &Field, bytes: &[u8], at: usize, context: u64) -> u64
-    requires known { is_none_or_below (length bound.now.tokens) of.now.token ≡ true }
-    requires within { LiesWithin (token_of bound.now.tokens of.now) at (length bytes.now) }
-    ensures { result ≡ number_in (token_of bound.now.tokens of.now) (drop at bytes.now) context }
+/// The token of a field; none for a field of the context.
+fn token_of<'t, 'a>(t: &'t Tables<'a>, of: &Field) -> Option<&'t Token<'a>>
+    ensures { option_copied result ≡ token_of t.now.tokens of.now }
 {
     match of.token {
-        Some(token) => bound.tokens.member(token as usize).number_at(bytes, at),
+        Some(token) => t.tokens.at(token as usize),
+        None => None,
+    }
+}
+
+/// The number that a field's bits are read from: its token's integer, or the context.
+fn number_in(t: &Tables, of: &Field, bytes: &[u8], at: usize, context: u64) -> u64
+    requires { LiesWithin (token_of t.now.tokens of.now) at (length bytes.now) }
+    ensures { result ≡ number_in (token_of t.now.tokens of.now) (drop at bytes.now) context }
+{
+    match token_of(t, of) {
+        Some(token) => token.number_at(bytes, at),
         None => context,
     }
 }
 
 /// The value of a field in 64-bit two's complement. A field of a token reads it from the bytes, its
 /// token beginning at the index `at`; a field of the context reads the context.
-pub fn field_value(bound: &Bound, field: FieldId, bytes: &[u8], at: usize, context: u64) -> i64
-    requires defined { field < length bound.now.fields }
-    requires within { IfSome (slice_get bound.now.fields field)
-        (λ f. LiesWithin (token_of bound.now.tokens f) at (length bytes.now)) }
-    ensures { IfSome (slice_get bound.now.fields field)
-        (λ f. result ≡ field_value bound.now.tokens f bytes.now at context) }
+pub fn field_value(t: &Tables, field: FieldId, bytes: &[u8], at: usize, context: u64) -> i64
+    requires defined { field < length t.now.fields }
+    requires within { IfSome (slice_get t.now.fields field)
+        (λ f. LiesWithin (token_of t.now.tokens f) at (length bytes.now)) }
+    ensures { IfSome (slice_get t.now.fields field)
+        (λ f. result ≡ field_value t.now.tokens f bytes.now at context) }
 {
-    let of = bound.fields.member(field.number() as usize);
-    of.value_of(number_in(bound, of, bytes, at, context))
+    let of = t.fields.member(field.number() as usize);
+    of.value_of(number_in(t, of, bytes, at, context))
 }

@@ -3,7 +3,6 @@
 #![tactic(auto)]
 
 mod attachments;
-mod bound;
 mod constructors;
 mod definitions;
 mod fields;
@@ -14,7 +13,6 @@ mod tables;
 mod unfolded;
 
 pub use attachments::Attachments;
-pub use bound::Bound;
 pub use constructors::{Ctor, Macro, Means, Operand, Table, UserOp};
 pub use definitions::{Attached, BitRange, Entries, Field, Register, Space, SpaceKind, Token};
 pub use fields::field_value;

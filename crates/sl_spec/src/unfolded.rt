@@ -125,8 +125,8 @@ fn add_block<'s, 'a>(
     Ok(number)
 }
 
-/// Adds the constructors of an item.
-fn add_item<'s, 'a>(
+/// Adds the constructors of an item. The number behind it.
+pub fn add_unfolded<'s, 'a>(
     alloc: Global,
     number: u32,
     item: &'s Item<'a>,
@@ -156,7 +156,7 @@ pub fn unfolded_constructors<'s, 'a>(
     let mut all = Vec::new(alloc);
     let mut number = 0;
     'items: for index in 0..items.len() {
-        number = add_item(alloc, number, &items[index], &mut all)?;
+        number = add_unfolded(alloc, number, &items[index], &mut all)?;
     }
     Ok(all)
 }

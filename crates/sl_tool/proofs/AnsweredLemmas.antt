@@ -85,10 +85,10 @@ rose_more : (a b c : ℕ) → a ≤ b → Rose b c → Rose a c
 rose_more a b c h k = omega (arith, h, k)
 
 -- what was asked for by now is the front of what is due, whatever the verdict
-front_due : (told : Option Folder) (r : Request) (names : List (List ℕ)) (a b : Names) → AsksForText told r.spec names → AsksFront a b names
-    → (q : Result Tables Refusal) × Judges told r.spec q → (due : List (List ℕ)) × AsksFor told r due × AsksFront a b due
+pub front_due : (told : Option Folder) (r : Request) (names : List (List ℕ)) (a b : Names) → AsksForText told r.target.spec names → AsksFront a b names
+    → (q : Result Tables Refusal) × Judges told r.target.spec q → (due : List (List ℕ)) × AsksFor told r due × AsksFront a b due
 front_due told r names a b text front (Err x, j) = (names, refused text j, front)
-front_due told r names a b text front (Ok t, j) = (names ++ r.image ∷ [], accepted text j, front_more a b names (r.image ∷ []) front)
+front_due told r names a b text front (Ok t, j) = (names ++ r.target.image ∷ [], accepted text j, front_more a b names (r.target.image ∷ []) front)
 
 module _ {F : Type 0} (told : F → Option Folder) (faults : F → ℕ) (asked : F → Names) (r : Request) where
   abbrev Uses : F → F → List (List ℕ) → Type 0 → Type 0 → Type 0
@@ -99,15 +99,15 @@ module _ {F : Type 0} (told : F → Option Folder) (faults : F → ℕ) (asked :
 
   -- the names of the text were asked for
   abbrev AsksText : F → F → Type 0 → Type 0 → Type 0
-  AsksText old new early fails = (names : List (List ℕ)) × AsksForText (told old) r.spec names × Uses old new names early fails
+  AsksText old new early fails = (names : List (List ℕ)) × AsksForText (told old) r.target.spec names × Uses old new names early fails
 
   abbrev FrontDue : F → F → Type 0
   FrontDue old new = (due : List (List ℕ)) × AsksFor (told old) r due × AsksFront (asked old) (asked new) due
 
   some_front : (old new : F) (early fails : Type 0) → AsksText old new early fails → (FrontDue old new → ⊥) → ⊥
-  some_front old new early fails u = surely_map (front_due (told old) r u.0 (asked old) (asked new) u.1 u.2.asks_front) (judges_some (told old) r.spec)
+  some_front old new early fails u = surely_map (front_due (told old) r u.0 (asked old) (asked new) u.1 u.2.asks_front) (judges_some (told old) r.target.spec)
 
-  refuses : (old new : F) (early fails f : Type 0) (x : Refusal) → Judges (told old) r.spec (Err x) → AsksText old new early fails → (early → ⊥) → (f → ⊥) → UsesFor old new ⊥ f
+  refuses : (old new : F) (early fails f : Type 0) (x : Refusal) → Judges (told old) r.target.spec (Err x) → AsksText old new early fails → (early → ⊥) → (f → ⊥) → UsesFor old new ⊥ f
   refuses old new early fails f x j u never no_fault = record {
     same_folder = u.2.same_folder;
     never_falls = u.2.never_falls;
@@ -127,7 +127,7 @@ module _ {F : Type 0} (told : F → Option Folder) (faults : F → ℕ) (asked :
 
   -- the text could not be had, or was refused
   pub stop_first : {T B : Type 0} (S : Result B Refusal → Type 0) (view : T → B) (old new : F) (h : Halt)
-      → ((e : Refusal) → S (Err e) → Judges (told old) r.spec (Err e)) → Obtains S view (Err h)
+      → ((e : Refusal) → S (Err e) → Judges (told old) r.target.spec (Err e)) → Obtains S view (Err h)
       → AsksText old new (IsEarly {T = T} (Err h)) (FailsToRead {T = T} (Err h)) → UsesFor old new (IsEarly {T = Ending} (Err h)) (FailsToRead {T = Ending} (Err h))
   stop_first S view old new (Refused x) f g u = refuses old new _ _ _ x (f x g) u (λ e. e) (λ e. e)
   stop_first S view old new ReadFault f g u = stops_early old new _ _ _ u (λ e. u.2.failed e)
@@ -136,7 +136,7 @@ module _ {F : Type 0} (told : F → Option Folder) (faults : F → ℕ) (asked :
 
   -- a stage that reads nothing stopped
   pub stop_pure : {T B : Type 0} (S : Result B Refusal → Type 0) (view : T → B) (old new : F) (early fails : Type 0) (h : Halt)
-      → ((e : Refusal) → S (Err e) → Judges (told old) r.spec (Err e)) → Gives S view (Err h) → AsksText old new early fails → (early → ⊥)
+      → ((e : Refusal) → S (Err e) → Judges (told old) r.target.spec (Err e)) → Gives S view (Err h) → AsksText old new early fails → (early → ⊥)
       → UsesFor old new (IsEarly {T = Ending} (Err h)) (FailsToRead {T = Ending} (Err h))
   stop_pure S view old new early fails (Refused x) f g u never = refuses old new early fails _ x (f x g) u never (λ e. e)
   stop_pure S view old new early fails ReadFault f g u never = absurd g
@@ -146,39 +146,39 @@ module _ {F : Type 0} (told : F → Option Folder) (faults : F → ℕ) (asked :
   -- ---- the image
 
   -- the image was asked for after the text
-  joined : (old mid new : F) (b : Tables) (early fails e f : Type 0) → Judges (told old) r.spec (Ok b) → AsksText old mid early fails → (early → ⊥)
-      → Uses mid new (r.image ∷ []) e f → UsesFor old new e f
+  joined : (old mid new : F) (b : Tables) (early fails e f : Type 0) → Judges (told old) r.target.spec (Ok b) → AsksText old mid early fails → (early → ⊥)
+      → Uses mid new (r.target.image ∷ []) e f → UsesFor old new e f
   joined old mid new b early fails e f j u never v =
       let names : List (List ℕ) = u.0 in
       let all = u.2.asks_all never in
-      let due : AsksFor (told old) r (names ++ r.image ∷ []) = accepted u.1 j in
+      let due : AsksFor (told old) r (names ++ r.target.image ∷ []) = accepted u.1 j in
       record {
         same_folder = v.same_folder ∙ u.2.same_folder;
         never_falls = omega (arith, u.2.never_falls, v.never_falls);
         failed = λ h. rose_more _ _ _ u.2.never_falls (v.failed h);
         asks_front = surely (let p : FrontDue old new = (
-          names ++ r.image ∷ [],
+          names ++ r.target.image ∷ [],
           due,
           (
             length names + v.asks_front.0,
-            subst (λ (l : List (List ℕ)). Asks (asked old) (asked new) l) (sym (take-append-add names (r.image ∷ []) v.asks_front.0))
-                (Asks-trans _ _ _ names (take v.asks_front.0 (r.image ∷ [])) all v.asks_front.1),
+            subst (λ (l : List (List ℕ)). Asks (asked old) (asked new) l) (sym (take-append-add names (r.target.image ∷ []) v.asks_front.0))
+                (Asks-trans _ _ _ names (take v.asks_front.0 (r.target.image ∷ [])) all v.asks_front.1),
           ),
         ) in p);
-        asks_all = λ n. (names ++ r.image ∷ [], due, Asks-trans _ _ _ names (r.image ∷ []) all (v.asks_all n));
+        asks_all = λ n. (names ++ r.target.image ∷ [], due, Asks-trans _ _ _ names (r.target.image ∷ []) all (v.asks_all n));
       }
 
   -- the image could not be had, or was refused
-  pub stop_second : (old mid new : F) (b : Tables) (early fails : Type 0) (h : Halt) → Judges (told old) r.spec (Ok b) → AsksText old mid early fails → (early → ⊥)
-      → Uses mid new (r.image ∷ []) (StopsEarly h) (IsReadFault h) → UsesFor old new (StopsEarly h) (IsReadFault h)
+  pub stop_second : (old mid new : F) (b : Tables) (early fails : Type 0) (h : Halt) → Judges (told old) r.target.spec (Ok b) → AsksText old mid early fails → (early → ⊥)
+      → Uses mid new (r.target.image ∷ []) (StopsEarly h) (IsReadFault h) → UsesFor old new (StopsEarly h) (IsReadFault h)
   stop_second old mid new b early fails (Refused x) j u never v = joined old mid new b early fails _ _ j u never v
   stop_second old mid new b early fails ReadFault j u never v = joined old mid new b early fails _ _ j u never v
   stop_second old mid new b early fails WriteFault j u never v = joined old mid new b early fails _ _ j u never v
   stop_second old mid new b early fails NoMemory j u never v = joined old mid new b early fails _ _ j u never v
 
   -- all files were read
-  pub read_all : (old mid new : F) (b : Tables) (early fails e f : Type 0) (due : Due) (x y : Option (List ℕ)) (q : Result Ending Halt) → Judges (told old) r.spec (Ok b)
-      → AsksText old mid early fails → (early → ⊥) → Uses mid new (r.image ∷ []) e f → (e → ⊥) → Streams due x y q → UsesFor old new (IsEarly q) (FailsToRead q)
+  pub read_all : (old mid new : F) (b : Tables) (early fails e f : Type 0) (due : Due) (x y : Option (List ℕ)) (q : Result Ending Halt) → Judges (told old) r.target.spec (Ok b)
+      → AsksText old mid early fails → (early → ⊥) → Uses mid new (r.target.image ∷ []) e f → (e → ⊥) → Streams due x y q → UsesFor old new (IsEarly q) (FailsToRead q)
   read_all old mid new b early fails e f due x y q j u never v also s =
       let w = joined old mid new b early fails e f j u never v in
       record {

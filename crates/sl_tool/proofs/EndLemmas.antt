@@ -1,10 +1,15 @@
 -- What stands written at the end of a call, and the files that it asked for.
-use Rattle.std.proofs.Common.{◌≡◌, ℕ, ◌⊎◌, inl, inr, List, [], Option, Some, None, Result, Ok, Err, refl, sym, subst, ◌∙◌, take, append-nil, arith}
+use Rattle.std.proofs.Common.{◌≡◌, ℕ, ◌⊎◌, inl, inr, List, [], ◌∷◌, Option, Some, None, Result, Ok, Err, refl, sym, ap, subst, ◌∙◌, take, append-nil, arith}
 use Rattle.std.specs.Io.KnownBytes.{Appends}
 use Rattle.std.proofs.KnownBytes.{Appends-trans}
+use Rattle.sl_description.proofs.EachLemmas.{some_is}
 use Rattle.sl_outside.specs.Folder.{Folder}
-use Rattle.sl_outside.specs.Uses.{Names, Asks}
-use Rattle.sl_tool.specs.Answers.{Answers, text_of, status_of}
+use Rattle.sl_outside.specs.Uses.{Names, Asks, AsksFront}
+use Rattle.sl_preproc.specs.Asks.{AsksFor as AsksForText}
+use Rattle.sl_preproc.specs.Expanded.{asked_by}
+use Rattle.sl_preproc.proofs.MainLemmas.{asked_first}
+use Rattle.sl_sets.proofs.Surely.{Surely, surely_map}
+use Rattle.sl_tool.specs.Answers.{Answers, AsksFor, UsesFilesFor, text_of, status_of}
 use Rattle.sl_tool.specs.Endings.{ended}
 use Rattle.sl_tool.specs.Ends.{Means, WritesWhole, WritesFirst, Ends, RunsFor}
 use Rattle.sl_tool.specs.Ends.Means.{answer}
@@ -19,6 +24,8 @@ use Rattle.sl_tool.specs.declared.status.Ending.{Ending}
 use Rattle.sl_tool.specs.declared.status.Ending.TheVariants as ending
 use Rattle.sl_tool.specs.declared.status.Status.{Status}
 use Rattle.sl_tool.specs.declared.status.Status.TheVariants.{Done, Refused, Usage, ReadFault, WriteFault, NoMemory, Stopped}
+use Rattle.sl_tool.proofs.AnsweredLemmas.{front_due}
+use Rattle.sl_tool.proofs.StageLemmas.{judges_some, none_is}
 
 -- a status that says that the whole text was written
 abbrev pub IsWhole : Status → Type 0
@@ -101,4 +108,44 @@ module _ {F : Type 0} (told : F → Option Folder) (faults : F → ℕ) (asked :
     failed = λ e. absurd (h e);
     asks_front = (0, Asks-nil (asked old));
     asks_all = λ e. Asks-nil (asked old);
+  }
+
+-- what the text of a specification asks for
+some_names : (told : Option Folder) (spec : List ℕ) → (names : List (List ℕ)) × AsksForText told spec names
+some_names None spec = (spec ∷ [], record { others = []; first = refl; defined = λ folder e. absurd (none_is folder e) })
+some_names (Some folder) spec = (
+  asked_by folder spec,
+  record {
+    others = (asked_first folder spec).0;
+    first = (asked_first folder spec).1;
+    defined = λ other e. ap (λ (f : Folder). asked_by f spec) (some_is folder other e);
+  },
+)
+
+-- nothing was asked for, which is the front of what is due
+none_due : (told : Option Folder) (r : Request) (a : Names) → Surely ((due : List (List ℕ)) × AsksFor told r due × AsksFront a a due)
+none_due told r a =
+    let names = some_names told r.target.spec in
+    surely_map (front_due told r names.0 a a names.1 (0, Asks-nil a)) (judges_some told r.target.spec)
+
+module _ {F : Type 0} (told : F → Option Folder) (faults : F → ℕ) (asked : F → Names) where
+  -- memory ran out before any file was read
+  pub unread : (old : F) (r : Option Request) → RunsFor told faults asked r old old NoMemory
+  unread old None = unused told faults asked old NoMemory (λ e. absurd (cc))
+  unread old (Some r) = record {
+    same_folder = refl;
+    never_falls = omega arith;
+    failed = λ e. absurd (cc);
+    asks_front = none_due (told old) r (asked old);
+    asks_all = λ e. absurd (e (inr refl));
+  }
+
+  -- a refusal was written, after all files had been read
+  pub refused_uses : (old new : F) (r : Request) (q : Status) → (q ≡ ReadFault → ⊥) → UsesFilesFor told faults asked r old new ⊥ ⊥ → RunsFor told faults asked (Some r) old new q
+  refused_uses old new r q never u = record {
+    same_folder = u.same_folder;
+    never_falls = u.never_falls;
+    failed = λ e. absurd (never e);
+    asks_front = u.asks_front;
+    asks_all = λ e. u.asks_all (λ n. n);
   }

@@ -1,6 +1,5 @@
 pub mod TextLemmas
 pub mod LineLemmas
-pub mod RequestLemmas
 pub mod WritingLemmas
 pub mod SetLemmas
 pub mod ListingLemmas
@@ -11,7 +10,7 @@ pub mod RunningLemmas
 pub mod Thens
 pub mod ExpandLemmas
 pub mod PlaceLemmas
-pub mod FetchLemmas
+pub mod ImageLemmas
 pub mod SomeListing
 pub mod SomeRunning
 pub mod SomeFault

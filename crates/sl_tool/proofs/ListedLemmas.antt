@@ -70,15 +70,15 @@ point_in_range image at h =
 -- ---- listings
 
 module _ {X Y : Type 0} (f : X → Point → Type 0) (g : Y → Point → Type 0) (xs : List X) (ys : List Y) (h : AreAlike f g xs ys) where
-  pub listed_alike : (texts : List (List ℕ)) (address_bytes token_bytes : ℕ) (image : List ℕ) (at : ℕ) (text : List ℕ) → All IsByte image
-      → Lists f xs texts address_bytes token_bytes image at text → Lists g ys texts address_bytes token_bytes image at text
-  listed_alike texts address_bytes token_bytes image at text bytes (ended past) = ended past
-  listed_alike texts address_bytes token_bytes image at text bytes (instruction {i = i} {rest = rest} within choice is more) =
+  pub listed_alike : (texts : List (List ℕ)) (address_bytes token_bytes base : ℕ) (image : List ℕ) (at : ℕ) (text : List ℕ) → All IsByte image
+      → Lists f xs texts address_bytes token_bytes base image at text → Lists g ys texts address_bytes token_bytes base image at text
+  listed_alike texts address_bytes token_bytes base image at text bytes (ended past) = ended past
+  listed_alike texts address_bytes token_bytes base image at text bytes (instruction {i = i} {rest = rest} within choice is more) =
       instruction within (choice_alike f g xs ys h (point_at image at) i (point_in_range image at bytes) choice) is
-      (listed_alike texts address_bytes token_bytes image (at + token_bytes) rest bytes more)
-  listed_alike texts address_bytes token_bytes image at text bytes (unmatched {rest = rest} within none more) =
+      (listed_alike texts address_bytes token_bytes base image (at + token_bytes) rest bytes more)
+  listed_alike texts address_bytes token_bytes base image at text bytes (unmatched {rest = rest} within none more) =
       unmatched within (unmatched_alike f g xs ys h (point_at image at) (point_in_range image at bytes) none)
-      (listed_alike texts address_bytes token_bytes image (at + 1) rest bytes more)
+      (listed_alike texts address_bytes token_bytes base image (at + 1) rest bytes more)
 
 pub mnemonics_seen : (cs : List Constructor) → map (λ c. c.mnemonic) (constructors cs) ≡ map (λ c. c.mnemonic.now) cs
 mnemonics_seen [] = refl

@@ -69,36 +69,36 @@ text_at text_of xs i x below is =
 -- ---- one more line
 
 -- what the texts say from this place on, so far and then the rest
-abbrev pub ListsFrom : List Cube → List (List ℕ) → ℕ → ℕ → List ℕ → ℕ → List ℕ → Type 0
-ListsFrom cubes texts address_bytes token_bytes image at out =
-    (rest : List ℕ) → Lists has_cube cubes texts address_bytes token_bytes image at rest
-    → Lists has_cube cubes texts address_bytes token_bytes image 0 (out ++ rest)
+abbrev pub ListsFrom : List Cube → List (List ℕ) → ℕ → ℕ → ℕ → List ℕ → ℕ → List ℕ → Type 0
+ListsFrom cubes texts address_bytes token_bytes base image at out =
+    (rest : List ℕ) → Lists has_cube cubes texts address_bytes token_bytes base image at rest
+    → Lists has_cube cubes texts address_bytes token_bytes base image 0 (out ++ rest)
 
-one_line : (cubes : List Cube) (texts : List (List ℕ)) (address_bytes token_bytes : ℕ) (image : List ℕ) (at count : ℕ) (text rest : List ℕ)
+one_line : (cubes : List Cube) (texts : List (List ℕ)) (address_bytes token_bytes base : ℕ) (image : List ℕ) (at count : ℕ) (text rest : List ℕ)
     → at < length image → IsShown cubes texts token_bytes (point_at image at) count text
-    → Lists has_cube cubes texts address_bytes token_bytes image (at + count) rest
-    → Lists has_cube cubes texts address_bytes token_bytes image at (listed_line address_bytes at (bytes_at image at count) text ++ rest)
-one_line cubes texts address_bytes token_bytes image at count text rest below (inl at_choice) more =
-    subst (λ (n : ℕ). Lists has_cube cubes texts address_bytes token_bytes image at (listed_line address_bytes at (bytes_at image at n) text ++ rest)) (sym at_choice.0)
+    → Lists has_cube cubes texts address_bytes token_bytes base image (at + count) rest
+    → Lists has_cube cubes texts address_bytes token_bytes base image at (listed_line address_bytes (base + at) (bytes_at image at count) text ++ rest)
+one_line cubes texts address_bytes token_bytes base image at count text rest below (inl at_choice) more =
+    subst (λ (n : ℕ). Lists has_cube cubes texts address_bytes token_bytes base image at (listed_line address_bytes (base + at) (bytes_at image at n) text ++ rest)) (sym at_choice.0)
     (instruction below at_choice.1.choice at_choice.1.text_is
-    (subst (λ (n : ℕ). Lists has_cube cubes texts address_bytes token_bytes image (at + n) rest) at_choice.0 more))
-one_line cubes texts address_bytes token_bytes image at count text rest below (inr mark) more =
-    subst (λ (shown : List ℕ). Lists has_cube cubes texts address_bytes token_bytes image at (listed_line address_bytes at (bytes_at image at count) shown ++ rest)) (sym mark.mark)
-    (subst (λ (n : ℕ). Lists has_cube cubes texts address_bytes token_bytes image at (listed_line address_bytes at (bytes_at image at n) (codes "??") ++ rest)) (sym mark.one)
+    (subst (λ (n : ℕ). Lists has_cube cubes texts address_bytes token_bytes base image (at + n) rest) at_choice.0 more))
+one_line cubes texts address_bytes token_bytes base image at count text rest below (inr mark) more =
+    subst (λ (shown : List ℕ). Lists has_cube cubes texts address_bytes token_bytes base image at (listed_line address_bytes (base + at) (bytes_at image at count) shown ++ rest)) (sym mark.mark)
+    (subst (λ (n : ℕ). Lists has_cube cubes texts address_bytes token_bytes base image at (listed_line address_bytes (base + at) (bytes_at image at n) (codes "??") ++ rest)) (sym mark.one)
     (unmatched below mark.unmatched
-    (subst (λ (n : ℕ). Lists has_cube cubes texts address_bytes token_bytes image (at + n) rest) mark.one more)))
+    (subst (λ (n : ℕ). Lists has_cube cubes texts address_bytes token_bytes base image (at + n) rest) mark.one more)))
 
-pub one_more : (cubes : List Cube) (texts : List (List ℕ)) (address_bytes token_bytes : ℕ) (image : List ℕ) (at count : ℕ) (text shown before after : List ℕ)
+pub one_more : (cubes : List Cube) (texts : List (List ℕ)) (address_bytes token_bytes base : ℕ) (image : List ℕ) (at count : ℕ) (text shown before after : List ℕ)
     → at < length image → IsShown cubes texts token_bytes (point_at image at) count text → shown ≡ bytes_at image at count
-    → after ≡ before ++ listed_line address_bytes at shown text
-    → ListsFrom cubes texts address_bytes token_bytes image at before → ListsFrom cubes texts address_bytes token_bytes image (at + count) after
-one_more cubes texts address_bytes token_bytes image at count text shown before after below is bytes joined so_far = λ rest more.
-    let line : List ℕ = listed_line address_bytes at (bytes_at image at count) text in
-    let whole : after ≡ before ++ line = joined ∙ ap (λ (xs : List ℕ). before ++ listed_line address_bytes at xs text) bytes in
-    subst (λ (xs : List ℕ). Lists has_cube cubes texts address_bytes token_bytes image 0 xs) (sym (ap (λ (xs : List ℕ). xs ++ rest) whole ∙ append_assoc before line rest))
-    (so_far (line ++ rest) (one_line cubes texts address_bytes token_bytes image at count text rest below is more))
+    → after ≡ before ++ listed_line address_bytes (base + at) shown text
+    → ListsFrom cubes texts address_bytes token_bytes base image at before → ListsFrom cubes texts address_bytes token_bytes base image (at + count) after
+one_more cubes texts address_bytes token_bytes base image at count text shown before after below is bytes joined so_far = λ rest more.
+    let line : List ℕ = listed_line address_bytes (base + at) (bytes_at image at count) text in
+    let whole : after ≡ before ++ line = joined ∙ ap (λ (xs : List ℕ). before ++ listed_line address_bytes (base + at) xs text) bytes in
+    subst (λ (xs : List ℕ). Lists has_cube cubes texts address_bytes token_bytes base image 0 xs) (sym (ap (λ (xs : List ℕ). xs ++ rest) whole ∙ append_assoc before line rest))
+    (so_far (line ++ rest) (one_line cubes texts address_bytes token_bytes base image at count text rest below is more))
 
-pub all_listed : (cubes : List Cube) (texts : List (List ℕ)) (address_bytes token_bytes : ℕ) (image : List ℕ) (at : ℕ) (out : List ℕ) → length image ≤ at
-    → ListsFrom cubes texts address_bytes token_bytes image at out → Lists has_cube cubes texts address_bytes token_bytes image 0 out
-all_listed cubes texts address_bytes token_bytes image at out past so_far =
-    subst (λ (xs : List ℕ). Lists has_cube cubes texts address_bytes token_bytes image 0 xs) (append-nil out) (so_far [] (ended past))
+pub all_listed : (cubes : List Cube) (texts : List (List ℕ)) (address_bytes token_bytes base : ℕ) (image : List ℕ) (at : ℕ) (out : List ℕ) → length image ≤ at
+    → ListsFrom cubes texts address_bytes token_bytes base image at out → Lists has_cube cubes texts address_bytes token_bytes base image 0 out
+all_listed cubes texts address_bytes token_bytes base image at out past so_far =
+    subst (λ (xs : List ℕ). Lists has_cube cubes texts address_bytes token_bytes base image 0 xs) (append-nil out) (so_far [] (ended past))

@@ -10,7 +10,7 @@ use Rattle.sl_tool.specs.declared.refusal.Refusal.{Refusal}
 use Rattle.sl_tool.specs.declared.status.Ending.{Ending}
 use Rattle.sl_tool.proofs.OneListing.{listing_is_one}
 use Rattle.sl_tool.proofs.RunningLemmas.{run_is_told_once}
-use Rattle.sl_tool.proofs.StageLemmas.{images_one, judges_one}
+use Rattle.sl_tool.proofs.StageLemmas.{loads_one, judges_one}
 use Rattle.sl_tool.proofs.Thens.{then_one}
 
 shown_is : (s t : Shown) → s.ending ≡ t.ending → s.text ≡ t.text → s ≡ t
@@ -19,9 +19,9 @@ shown_is s t e f = ap (λ (x : Ending). shown x s.text) e ∙ ap (λ (x : List �
 shows_one : (c : Command) → HasOneResult (Shows c)
 shows_one ListImage i (Ok s) (Ok t) h g =
     let d = i.tables.description in
-    ap Ok (shown_is s t (h.0 ∙ sym g.0) (listing_is_one (Matches d) d.constructors (mnemonics d) d.address_bytes (d.token_bits / 8) i.image 0 s.text t.text h.1 g.1))
+    ap Ok (shown_is s t (h.0 ∙ sym g.0) (listing_is_one (Matches d) d.constructors (mnemonics d) d.address_bytes (d.token_bits / 8) i.base i.image 0 s.text t.text h.1 g.1))
 shows_one (RunImage n) i (Ok s) (Ok t) h g =
-    let one = run_is_told_once i.tables.description i.image n s.ending t.ending s.text t.text h g in
+    let one = run_is_told_once i.tables.description i.base i.image n s.ending t.ending s.text t.text h g in
     ap Ok (shown_is s t one.0 one.1)
 shows_one ListImage i (Err x) q h g = absurd h
 shows_one (RunImage n) i (Err x) q h g = absurd h
@@ -29,4 +29,4 @@ shows_one ListImage i (Ok s) (Err x) h g = absurd g
 shows_one (RunImage n) i (Ok s) (Err x) h g = absurd g
 
 pub answer_one : (folder : Folder) (r : Request) (x y : Result Shown Refusal) → Answers (Some folder) r x → Answers (Some folder) r y → x ≡ y
-answer_one folder r x y h g = then_one _ _ (judges_one folder) (then_one _ _ (images_one folder r.image) (shows_one r.command)) r.spec x y h g
+answer_one folder r x y h g = then_one _ _ (judges_one folder) (then_one _ _ (loads_one folder r.target) (shows_one r.command)) r.target.spec x y h g

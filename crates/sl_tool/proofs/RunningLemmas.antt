@@ -1,5 +1,5 @@
 -- A run is told in one way, and what the program tells is the run.
-use Rattle.std.proofs.Common.{◌≡◌, ◌≢◌, ℕ, zero, suc, ◌+◌, ◌/◌, ◌%◌, ◌^◌, ◌<◌, ◌≤◌, inl, inr, Bool, List, [], ◌∷◌, ◌++◌, length, get_or, Option, Some, refl, sym, ap, subst, ◌∙◌, arith}
+use Rattle.std.proofs.Common.{◌≡◌, ◌≢◌, ℕ, zero, suc, ◌+◌, ◌-◌, ◌/◌, ◌%◌, ◌^◌, ◌<◌, ◌≤◌, inl, inr, Bool, List, [], ◌∷◌, ◌++◌, length, get_or, Option, Some, refl, sym, ap, subst, ◌∙◌, arith}
 use Rattle.std.specs.Prelude.{codes, slice_index}
 use Rattle.std.specs.List.{All, AllByRecursion}
 use Rattle.std.proofs.Math.Nat.{mod-eq_of_lt}
@@ -34,9 +34,18 @@ use Rattle.sl_tool.proofs.ChangeLemmas.{IsOf, AreAll, tells, told_is_one, told_s
 
 -- ---- one run
 
-start_same : (image : List ℕ) (a b : Bytes) → HasImage image a → HasImage image b → AreSame a b
-start_same image a b h g = λ space offset. elim (eqb_tells space 0) [
-  | inl memory ↦ ap (λ k. a k offset) memory.1 ∙ h.memory offset ∙ sym (g.memory offset) ∙ ap (λ k. b k offset) (sym memory.1)
+-- a byte of the memory lies before an image or within it
+memory_same : (base : ℕ) (image : List ℕ) (a b : Bytes) (offset : ℕ) → HasImage base image a → HasImage base image b → a 0 offset ≡ b 0 offset
+memory_same base image a b offset h g = elim (cases_lt offset base) [
+  | inl less ↦ h.before offset less ∙ sym (g.before offset less)
+  | inr most ↦
+      let at : base + (offset - base) ≡ offset = omega (arith, most) in
+      ap (a 0) (sym at) ∙ h.memory (offset - base) ∙ sym (g.memory (offset - base)) ∙ ap (b 0) at
+]
+
+start_same : (base : ℕ) (image : List ℕ) (a b : Bytes) → HasImage base image a → HasImage base image b → AreSame a b
+start_same base image a b h g = λ space offset. elim (eqb_tells space 0) [
+  | inl memory ↦ ap (λ k. a k offset) memory.1 ∙ memory_same base image a b offset h g ∙ ap (λ k. b k offset) (sym memory.1)
   | inr other ↦ h.others space offset other.1 ∙ sym (g.others space offset other.1)
 ]
 
@@ -46,13 +55,13 @@ registers_same endian a b (r ∷ rs) same =
     ap (λ (n : ℕ). (r.name ++ (codes " " ++ (number_text r.storage.size n ++ codes "\n"))) ++ register_lines endian a rs) (value_same endian a b r.storage same)
     ∙ ap (λ (t : List ℕ). register_line endian b r ++ t) (registers_same endian a b rs same)
 
-pub run_is_told_once : (d : Description) (image : List ℕ) (steps : ℕ) (s t : Ending) (x y : List ℕ) → IsRun d image steps s x → IsRun d image steps t y → (s ≡ t) × (x ≡ y)
-run_is_told_once d image steps s t x y h g =
+pub run_is_told_once : (d : Description) (base : ℕ) (image : List ℕ) (steps : ℕ) (s t : Ending) (x y : List ℕ) → IsRun d base image steps s x → IsRun d base image steps t y → (s ≡ t) × (x ≡ y)
+run_is_told_once d base image steps s t x y h g =
     let meaning : h.meaning ≡ g.meaning = some_is h.meaning g.meaning (sym h.resolves ∙ g.resolves) in
-    let runs : RunsFrom d h.meaning.sections steps g.start g.ran g.end g.counter g.has_stopped =
-    subst (λ (m : Resolution). RunsFrom d m.sections steps g.start g.ran g.end g.counter g.has_stopped) (sym meaning) g.runs in
-    let begin = start_same image h.start g.start h.opens g.opens in
-    let one = run_is_one (Matches d) d.constructors h.meaning.sections d.address_bytes (d.token_bits / 8) d.endian steps h.start g.start h.end g.end 0 h.ran g.ran h.counter g.counter
+    let runs : RunsFrom d h.meaning.sections base steps g.start g.ran g.end g.counter g.has_stopped =
+    subst (λ (m : Resolution). RunsFrom d m.sections base steps g.start g.ran g.end g.counter g.has_stopped) (sym meaning) g.runs in
+    let begin = start_same base image h.start g.start h.opens g.opens in
+    let one = run_is_one (Matches d) d.constructors h.meaning.sections d.address_bytes (d.token_bits / 8) d.endian steps h.start g.start h.end g.end base h.ran g.ran h.counter g.counter
     h.has_stopped g.has_stopped begin h.runs runs in
     let there = told_same d.space d.address_bytes (256 ^ d.address_bytes) (g.start 0) (g.end 0) (h.start 0) (h.end 0) 0 g.changes
     (λ k. sym (begin 0 k)) (λ k. sym (one.bytes 0 k)) g.changed in
@@ -71,15 +80,16 @@ run_is_told_once d image steps s t x y h g =
 
 -- ---- the machine before its first step
 
-pub image_loaded : (image : List ℕ) (old new : State) (size : ℕ) → address_size old 0 ≡ size → length image ≤ 256 ^ size → ((space offset : ℕ) → byte_at old space offset ≡ 0)
-    → PutsBytes old new 0 0 (length image) (slice_index image) → KeepsOthers old new 0 → HasImage image (byte_at new)
-image_loaded image old new size is fits zeros puts keeps =
-    let whole : (i : ℕ) → i < length image → (0 + i) % 256 ^ address_size old 0 ≡ i = λ i below.
-    ap (λ (k : ℕ). (0 + i) % 256 ^ k) is ∙ mod-eq_of_lt (omega (arith, below, fits)) ∙ (omega arith) in
+pub image_loaded : (base : ℕ) (image : List ℕ) (old new : State) (size : ℕ) → address_size old 0 ≡ size → base + length image ≤ 256 ^ size → ((space offset : ℕ) → byte_at old space offset ≡ 0)
+    → PutsBytes old new 0 base (length image) (slice_index image) → KeepsOthers old new 0 → HasImage base image (byte_at new)
+image_loaded base image old new size is fits zeros puts keeps =
+    let whole : (i : ℕ) → i < length image → (base + i) % 256 ^ address_size old 0 ≡ base + i = λ i below.
+    ap (λ (k : ℕ). (base + i) % 256 ^ k) is ∙ mod-eq_of_lt (omega (arith, below, fits)) in
     record {
-      memory = λ offset. elim (cases_lt offset (length image)) [
-        | inl below ↦ ap (byte_at new 0) (sym (whole offset below)) ∙ puts.put offset below
-        | inr past ↦ puts.kept offset (λ i below same. omega (arith, whole i below, same, past, below)) ∙ zeros 0 offset ∙ sym (get_or_past image offset 0 past)
+      before = λ offset less. puts.kept offset (λ i below same. omega (arith, whole i below, same, less)) ∙ zeros 0 offset;
+      memory = λ place. elim (cases_lt place (length image)) [
+        | inl below ↦ ap (byte_at new 0) (sym (whole place below)) ∙ puts.put place below
+        | inr past ↦ puts.kept (base + place) (λ i below same. omega (arith, whole i below, same, past, below)) ∙ zeros 0 (base + place) ∙ sym (get_or_past image place 0 past)
       ];
       others = λ space offset other. keeps.bytes space offset other ∙ zeros space offset;
     }
@@ -122,17 +132,22 @@ length-each f (x ∷ xs) ys e =
 pub sections_counted : (d : Description) (m : Resolution) → resolution_of d ≡ Some m → length m.sections ≡ length d.constructors
 sections_counted d m e = length-each (λ (c : Constructor). section_of m.registers c.section) d.constructors m.sections (resolved_parts d m e).1
 
-pub image_bytes : (image : List ℕ) (bytes : Bytes) → HasImage image bytes → ((i : ℕ) → slice_index image i < 256) → HoldsBytes bytes
-image_bytes image bytes h small = λ offset. subst (λ (b : ℕ). b < 256) (sym (h.memory offset)) (small offset)
+pub image_bytes : (base : ℕ) (image : List ℕ) (bytes : Bytes) → HasImage base image bytes → ((i : ℕ) → slice_index image i < 256) → HoldsBytes bytes
+image_bytes base image bytes h small = λ offset. elim (cases_lt offset base) [
+  | inl less ↦ omega (arith, h.before offset less)
+  | inr most ↦
+      let at : base + (offset - base) ≡ offset = omega (arith, most) in
+      subst (λ (b : ℕ). b < 256) (sym (ap (bytes 0) (sym at) ∙ h.memory (offset - base))) (small (offset - base))
+]
 
 -- the run of a machine that was opened is a run of the description
-pub ran_is : (d : Description) (m : Resolution) (image : List ℕ) (steps : ℕ) (opening state : State) (outcome : Outcome) (text : List ℕ) → resolution_of d ≡ Some m → d.address_bytes ≤ 8
-    → IsOpened d image opening → HasRun d m.sections image steps state outcome → TellsRun d m.registers opening state outcome text
-    → IsRun d image steps (ending_of outcome.stopped) text
-ran_is d m image steps opening state outcome text resolves small opened run told =
-    let same = start_same image (byte_at opening) run.start opened.image run.image in
+pub ran_is : (d : Description) (m : Resolution) (base : ℕ) (image : List ℕ) (steps : ℕ) (opening state : State) (outcome : Outcome) (text : List ℕ) → resolution_of d ≡ Some m → d.address_bytes ≤ 8
+    → IsOpened d base image opening → HasRun d m.sections base image steps state outcome → TellsRun d m.registers opening state outcome text
+    → IsRun d base image steps (ending_of outcome.stopped) text
+ran_is d m base image steps opening state outcome text resolves small opened run told =
+    let same = start_same base image (byte_at opening) run.start opened.image run.image in
     let beyond : (k : ℕ) → 256 ^ d.address_bytes ≤ k → byte_at state 0 k ≡ byte_at opening 0 k = λ k past.
-    run_keeps (Matches d) d.constructors m.sections d.address_bytes (d.token_bits / 8) d.endian (address_sizes_of d) steps k run.start (byte_at state) 0 outcome.ran outcome.counter outcome.stopped
+    run_keeps (Matches d) d.constructors m.sections d.address_bytes (d.token_bits / 8) d.endian (address_sizes_of d) steps k run.start (byte_at state) base outcome.ran outcome.counter outcome.stopped
     (sections_are_sound d m resolves) past run.runs ∙ sym (same 0 k) in
     let changed = changes_told d.space d.address_bytes opening state told.changes small beyond told.listed in
     record {

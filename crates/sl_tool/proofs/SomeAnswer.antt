@@ -36,17 +36,17 @@ judged told name b (goes e (goes k (goes p (goes {b = c} t s)))) =
 shows_some : (c : Command) (i : Input) → IsAccepted i.tables → HasSomeResult (Shows c) i
 shows_some ListImage i is =
     let d : Description = i.tables.description in
-    surely_map (λ (t : (text : List ℕ) × Lists (Matches d) d.constructors (mnemonics d) d.address_bytes (d.token_bits / 8) i.image 0 text).
+    surely_map (λ (t : (text : List ℕ) × Lists (Matches d) d.constructors (mnemonics d) d.address_bytes (d.token_bits / 8) i.base i.image 0 text).
     let p : (r : Result Shown Refusal) × Shows ListImage i r = (Ok (shown Done t.0), (refl, t.1)) in p)
-    (some_listing_of d i.image is.sound is.clear)
+    (some_listing_of d i.base i.image is.sound is.clear)
 shows_some (RunImage n) i is =
     let d : Description = i.tables.description in
-    surely_map (λ (t : (has_stopped : Bool) × (text : List ℕ) × IsRun d i.image n (ending_of has_stopped) text).
+    surely_map (λ (t : (has_stopped : Bool) × (text : List ℕ) × IsRun d i.base i.image n (ending_of has_stopped) text).
     let p : (r : Result Shown Refusal) × Shows (RunImage n) i r = (Ok (shown (ending_of t.0) t.1), t.2) in p)
-    (some_running d i.image n is.sound is.clear)
+    (some_running d i.base i.image n is.sound is.clear)
 
-pub answer_some : (told : Option Folder) (r : Request) → HasSomeResult (Then (Judges told) (Then (Loads told r.image) (Shows r.command))) r.spec
+pub answer_some : (told : Option Folder) (r : Request) → HasSomeResult (Then (Judges told) (Then (Loads told r.target) (Shows r.command))) r.target.spec
 answer_some told r =
-    then_some _ _ r.spec (judges_some told r.spec) (λ b j.
-    then_some _ _ b (loads_some told r.image b) (λ i l.
-    shows_some r.command i (subst IsAccepted (sym l.0) (judged told r.spec b j))))
+    then_some _ _ r.target.spec (judges_some told r.target.spec) (λ b j.
+    then_some _ _ b (loads_some told r.target b) (λ i l.
+    shows_some r.command i (subst IsAccepted (sym l.0) (judged told r.target.spec b j))))

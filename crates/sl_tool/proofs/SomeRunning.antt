@@ -1,5 +1,5 @@
 -- An image runs to something.
-use Rattle.std.proofs.Common.{◌≡◌, ◌≢◌, ℕ, zero, suc, ◌+◌, ◌/◌, ◌^◌, ◌<◌, ◌≤◌, inl, inr, Bool, List, [], ◌++◌, Some, refl, sym, ap, ◌∙◌, arith}
+use Rattle.std.proofs.Common.{◌≡◌, ◌≢◌, ℕ, zero, suc, ◌+◌, ◌-◌, ◌/◌, ◌^◌, ◌<◌, ◌≤◌, inl, inr, Bool, List, [], ◌++◌, Some, refl, sym, ap, ◌∙◌, arith}
 use Rattle.std.specs.Prelude.{slice_index}
 use Rattle.std.proofs.lemmas.Bool.{cases_lt}
 use Rattle.std.proofs.lemmas.Bool.Decides.{eqb_tells}
@@ -19,22 +19,35 @@ use Rattle.sl_tool.proofs.RunningLemmas.{sections_counted}
 
 -- ---- the memory before the first step
 
--- the byte of an image at an offset of a space
-abbrev IsLoaded : List ℕ → ℕ → ℕ → ℕ → Type 0
-IsLoaded image space offset byte = (space ≡ 0 → byte ≡ slice_index image offset) × (space ≢ 0 → byte ≡ 0)
+-- the byte at an offset of a space
+record IsLoaded (base : ℕ) (image : List ℕ) (space offset byte : ℕ) : Type 0 where
+  before : space ≡ 0 → offset < base → byte ≡ 0
+  within : (place : ℕ) → space ≡ 0 → offset ≡ base + place → byte ≡ slice_index image place
+  apart : space ≢ 0 → byte ≡ 0
 
-loaded_at : (image : List ℕ) (space offset : ℕ) → (byte : ℕ) × IsLoaded image space offset byte
-loaded_at image space offset = elim (eqb_tells space 0) [
-  | inl memory ↦ (slice_index image offset, (λ here. refl, λ other. absurd (other memory.1)))
-  | inr other ↦ (0, (λ here. absurd (other.1 here), λ apart. refl))
+loaded_at : (base : ℕ) (image : List ℕ) (space offset : ℕ) → (byte : ℕ) × IsLoaded base image space offset byte
+loaded_at base image space offset = elim (eqb_tells space 0) [
+  | inl memory ↦ elim (cases_lt offset base) [
+    | inl less ↦ (0, record { before = λ here below. refl; within = λ place here at. absurd (omega (arith, less, at)); apart = λ away. absurd (away memory.1) })
+    | inr most ↦ (
+      slice_index image (offset - base),
+      record {
+        before = λ here below. absurd (omega (arith, most, below));
+        within = λ place here at. let same : offset - base ≡ place = omega (arith, at) in ap (slice_index image) same;
+        apart = λ away. absurd (away memory.1);
+      },
+    )
+  ]
+  | inr other ↦ (0, record { before = λ here below. refl; within = λ place here at. absurd (other.1 here); apart = λ away. refl })
 ]
 
-some_start : (image : List ℕ) → (bytes : Bytes) × HasImage image bytes
-some_start image = (
-  λ space offset. (loaded_at image space offset).0,
+some_start : (base : ℕ) (image : List ℕ) → (bytes : Bytes) × HasImage base image bytes
+some_start base image = (
+  λ space offset. (loaded_at base image space offset).0,
   record {
-    memory = λ offset. (loaded_at image 0 offset).1.0 refl;
-    others = λ space offset other. (loaded_at image space offset).1.1 other;
+    before = λ offset less. (loaded_at base image 0 offset).1.before refl less;
+    memory = λ place. (loaded_at base image 0 (base + place)).1.within place refl refl;
+    others = λ space offset other. (loaded_at base image space offset).1.apart other;
   },
 )
 
@@ -84,17 +97,17 @@ module _ (name : List ℕ) (address_bytes top : ℕ) (old new : ℕ → ℕ) whe
 
 -- ---- the run
 
-module _ (d : Description) (meaning : Resolution) (image : List ℕ) (steps : ℕ) (start : Bytes) where
+module _ (d : Description) (meaning : Resolution) (base : ℕ) (image : List ℕ) (steps : ℕ) (start : Bytes) where
   -- Some steps from these bytes.
   abbrev Steps : Type 0
-  Steps = SomeSteps (Matches d) d.constructors meaning.sections d.address_bytes (d.token_bits / 8) d.endian steps start 0
+  Steps = SomeSteps (Matches d) d.constructors meaning.sections d.address_bytes (d.token_bits / 8) d.endian steps start base
 
   -- what is told of them, with these lines of changes
   abbrev told_of : Steps → List ℕ → List ℕ
   told_of s changes =
       steps_line s.ran ++ (counter_line d.address_bytes s.last ++ (register_lines d.endian s.after meaning.registers ++ (changes ++ fault_line s.has_stopped)))
 
-  run_of : resolution_of d ≡ Some meaning → HasImage image start → (s : Steps) → (text : List ℕ) × IsRun d image steps (ending_of s.has_stopped) text
+  run_of : resolution_of d ≡ Some meaning → HasImage base image start → (s : Steps) → (text : List ℕ) × IsRun d base image steps (ending_of s.has_stopped) text
   run_of resolves opens s =
       let changes = some_changes d.space d.address_bytes (256 ^ d.address_bytes) (start 0) (s.after 0) 0 in (
         told_of s changes.0,
@@ -115,13 +128,13 @@ module _ (d : Description) (meaning : Resolution) (image : List ℕ) (steps : �
         },
       )
 
-pub some_running : (d : Description) (image : List ℕ) (steps : ℕ) → IsSound d → HasNoConflict (Matches d) d.constructors
-    → Surely ((has_stopped : Bool) × (text : List ℕ) × IsRun d image steps (ending_of has_stopped) text)
-some_running d image steps sound clear =
+pub some_running : (d : Description) (base : ℕ) (image : List ℕ) (steps : ℕ) → IsSound d → HasNoConflict (Matches d) d.constructors
+    → Surely ((has_stopped : Bool) × (text : List ℕ) × IsRun d base image steps (ending_of has_stopped) text)
+some_running d base image steps sound clear =
     let meaning = sound.machine.resolution in
     let resolves = sound.machine.resolves in
-    let start = some_start image in
-    surely_map (λ (s : Steps d meaning image steps start.0).
-    let run = run_of d meaning image steps start.0 resolves start.1 s in (s.has_stopped, run.0, run.1))
+    let start = some_start base image in
+    surely_map (λ (s : Steps d meaning base image steps start.0).
+    let run = run_of d meaning base image steps start.0 resolves start.1 s in (s.has_stopped, run.0, run.1))
     (some_run (Matches d) d.constructors meaning.sections d.address_bytes (d.token_bits / 8) d.endian (some_constructor d clear)
-    (sections_counted d meaning resolves) steps start.0 0)
+    (sections_counted d meaning resolves) steps start.0 base)

@@ -1,5 +1,5 @@
 -- Each stage has one result, and it can't be that it has none.
-use Rattle.std.proofs.Common.{◌≡◌, ℕ, ◌<◌, ◌≤◌, ◌⊎◌, inl, inr, List, Option, Some, None, Result, Ok, Err, refl, sym, ap, subst, ◌∙◌, length, arith}
+use Rattle.std.proofs.Common.{◌≡◌, ℕ, ◌+◌, ◌<◌, ◌≤◌, ◌⊎◌, inl, inr, List, Option, Some, None, Result, Ok, Err, refl, sym, ap, subst, ◌∙◌, length, arith}
 use Rattle.std.proofs.lemmas.Bool.{cases_lt}
 use Rattle.std.specs.Prelude.{slice_get}
 use Rattle.sl_ast.specs.Spelling.{spell}
@@ -20,26 +20,25 @@ use Rattle.sl_lex.proofs.SomeReading.{each_text_reads}
 use Rattle.sl_outside.specs.Folder.{Folder, IsTooLong, size_limit}
 use Rattle.sl_parse.specs.Parsing.{TellsFault}
 use Rattle.sl_preproc.specs.Expanded.{expanded}
+use Rattle.sl_request.specs.Requests.{Target}
 use Rattle.sl_sets.specs.Reports.{IsReport}
 use Rattle.sl_sets.specs.Sets.{HasNoConflict, IsFirstConflict}
 use Rattle.sl_sets.specs.declared.conflicts.Report.{Report}
 use Rattle.sl_sets.proofs.SomeSets.{some_first_conflict, some_report}
-use Rattle.sl_sets.proofs.Surely.{surely, surely_either, surely_map, surely_then}
+use Rattle.sl_sets.proofs.Surely.{Surely, surely, surely_either, surely_map, surely_then}
 use Rattle.sl_sets.proofs.UniqueSets.{first_is_one, report_is_one}
 use Rattle.sl_symbols.specs.Symbols.{symbols_of}
-use Rattle.sl_tool.specs.Places.{place_of_byte, place_of_token, refusal_at}
-use Rattle.sl_tool.specs.Problems.{refusal}
+use Rattle.sl_tool.specs.Places.{place_of_byte, place_of_token}
+use Rattle.sl_tool.specs.Problems.{refusal, refusal_at}
 use Rattle.sl_tool.specs.Stage.{HasOneResult, HasSomeResult}
-use Rattle.sl_tool.specs.Stages.{Expands, Tokenizes, Parses, Tabulates, Settles, Loads, RefusesImage, IsImage, Judges, addresses_of, problem_of_fault, problem_of_reason, source_of}
-use Rattle.sl_tool.specs.Stages.RefusesImage.{absent, too_long, beyond}
+use Rattle.sl_tool.specs.Stages.{Expands, Tokenizes, Parses, Tabulates, Settles, Fetches, Decodes, Fits, SetsContext, Images, Loads, Judges, addresses_of, decoded, image_in, problem_of_fault, problem_of_reason, source_of, with_context}
 use Rattle.sl_tool.specs.Values.{Source, Tokens, Tree, Tables, Input, input, tables, tokens, tree}
-use Rattle.sl_tool.specs.declared.problem.Problem.{Problem}
 use Rattle.sl_tool.specs.declared.problem.Problem.TheVariants.{Ambiguous, NoFile, NotYet, TooLong}
 use Rattle.sl_tool.specs.declared.refusal.Refusal.{Refusal}
 use Rattle.sl_tool.proofs.SomeFault.{some_tree_or_fault}
-use Rattle.sl_tool.proofs.Thens.{then_one, then_some}
+use Rattle.sl_tool.proofs.Thens.{err_is, not_both, ok_is, then_one, then_some}
 
-none_is : {A : Type 0} (x : A) → None ≡ Some x → ⊥
+pub none_is : {A : Type 0} (x : A) → None ≡ Some x → ⊥
 none_is x e = absurd (cc)
 
 -- ---- values by their parts
@@ -53,8 +52,9 @@ tree_is t u e f = ap (λ (k : Tokens). tree k t.items) e ∙ ap (λ (xs : List I
 tables_is : (b c : Tables) → b.tree ≡ c.tree → b.description ≡ c.description → b ≡ c
 tables_is b c e f = ap (λ (t : Tree). tables t b.description) e ∙ ap (λ (d : Description). tables c.tree d) f
 
-input_is : (i j : Input) → i.tables ≡ j.tables → i.image ≡ j.image → i ≡ j
-input_is i j e f = ap (λ (b : Tables). input b i.image) e ∙ ap (λ (bs : List ℕ). input j.tables bs) f
+input_is : (i j : Input) → i.tables ≡ j.tables → i.base ≡ j.base → i.image ≡ j.image → i ≡ j
+input_is i j e k f =
+    ap (λ (b : Tables). input b i.base i.image) e ∙ ap (λ (n : ℕ). input j.tables n i.image) k ∙ ap (λ (bs : List ℕ). input j.tables j.base bs) f
 
 -- ---- 1: expansions
 
@@ -167,54 +167,87 @@ held_long folder name bytes e within h =
     let more : size_limit < length bytes = subst IsTooLong e h in
     absurd (omega (arith, within, more))
 
-not_refused : (folder : Folder) (name : List ℕ) (n : ℕ) (bytes : List ℕ) (p : Problem) → IsImage (Some folder) name n bytes → RefusesImage (Some folder) name n p → ⊥
-not_refused folder name n bytes p h (absent lacks) = absurd (none_is bytes (sym lacks ∙ h.has))
-not_refused folder name n bytes p h (too_long long) = absurd (held_long folder name bytes h.has h.within long)
-not_refused folder name n bytes p h (beyond b has within more) =
-    let same : b ≡ bytes = some_is b bytes (sym has ∙ h.has) in
-    absurd (omega (arith, more, h.fits, ap length same))
+fetches_one : (folder : Folder) → HasOneResult (Fetches (Some folder))
+fetches_one folder name (Ok xs) (Ok ys) h g = ap Ok (some_is xs ys (sym h.0 ∙ g.0))
+fetches_one folder name (Ok xs) (Err x) h (inl g) = absurd (none_is xs (sym g.0 ∙ h.0))
+fetches_one folder name (Ok xs) (Err x) h (inr g) = absurd (held_long folder name xs h.0 h.1 g.0)
+fetches_one folder name (Err x) (Ok ys) (inl h) g = absurd (none_is ys (sym h.0 ∙ g.0))
+fetches_one folder name (Err x) (Ok ys) (inr h) g = absurd (held_long folder name ys g.0 g.1 h.0)
+fetches_one folder name (Err x) (Err y) (inl h) (inl g) = ap Err (h.1 ∙ sym g.1)
+fetches_one folder name (Err x) (Err y) (inr h) (inr g) = ap Err (h.1 ∙ sym g.1)
+fetches_one folder name (Err x) (Err y) (inl h) (inr g) = absurd (no_long folder name h.0 g.0)
+fetches_one folder name (Err x) (Err y) (inr h) (inl g) = absurd (no_long folder name g.0 h.0)
 
-problem_one : (folder : Folder) (name : List ℕ) (n : ℕ) (p q : Problem) → RefusesImage (Some folder) name n p → RefusesImage (Some folder) name n q → p ≡ q
-problem_one folder name n p q (absent a) (absent b) = refl
-problem_one folder name n p q (absent a) (too_long b) = absurd (no_long folder name a b)
-problem_one folder name n p q (absent a) (beyond b has w m) = absurd (none_is b (sym a ∙ has))
-problem_one folder name n p q (too_long a) (absent b) = absurd (no_long folder name b a)
-problem_one folder name n p q (too_long a) (too_long b) = refl
-problem_one folder name n p q (too_long a) (beyond b has w m) = refl
-problem_one folder name n p q (beyond b has w m) (absent a) = absurd (none_is b (sym a ∙ has))
-problem_one folder name n p q (beyond b has w m) (too_long long) = refl
-problem_one folder name n p q (beyond b has w m) (beyond c also v k) = refl
+abbrev Fetched : Option Folder → List ℕ → Type 0
+Fetched told name = (r : Result (List ℕ) Refusal) × Fetches told name r
 
-loads_one : (folder : Folder) (name : List ℕ) → HasOneResult (Loads (Some folder) name)
-loads_one folder name b (Ok i) (Ok j) h g = ap Ok (input_is i j (h.0 ∙ sym g.0) (some_is i.image j.image (sym h.1.has ∙ g.1.has)))
-loads_one folder name b (Ok i) (Err x) h g = absurd (not_refused folder name (addresses_of b) i.image g.0 h.1 g.1)
-loads_one folder name b (Err x) (Ok i) h g = absurd (not_refused folder name (addresses_of b) i.image h.0 g.1 h.1)
-loads_one folder name b (Err x) (Err y) h g =
-    ap Err (h.2 ∙ ap (λ (p : Problem). refusal name 0 p) (problem_one folder name (addresses_of b) h.0 g.0 h.1 g.1) ∙ sym g.2)
+held_by : (folder : Folder) (name bytes : List ℕ) → folder name ≡ Some bytes → (size_limit < length bytes) ⊎ (length bytes ≤ size_limit) → Fetched (Some folder) name
+held_by folder name bytes e (inl long) = (Err (refusal name 0 TooLong), inr (subst IsTooLong (sym e) long, refl))
+held_by folder name bytes e (inr within) = (Ok bytes, (e, within))
 
-abbrev Loaded : Option Folder → List ℕ → Tables → Type 0
-Loaded told name b = (r : Result Input Refusal) × Loads told name b r
+held : (folder : Folder) (name : List ℕ) (o : Option (List ℕ)) → folder name ≡ o → Fetched (Some folder) name
+held folder name None e = (Err (refusal name 0 NoFile), inl (e, refl))
+held folder name (Some bytes) e = held_by folder name bytes e (cases_lt size_limit (length bytes))
 
-held_fits : (folder : Folder) (name bytes : List ℕ) (b : Tables) → folder name ≡ Some bytes → length bytes ≤ size_limit
-    → (addresses_of b < length bytes) ⊎ (length bytes ≤ addresses_of b) → Loaded (Some folder) name b
-held_fits folder name bytes b e within (inl more) = (Err (refusal name 0 TooLong), (TooLong, beyond bytes e within more, refl))
-held_fits folder name bytes b e within (inr fits) = (Ok (input b bytes), (refl, record { has = e; within = within; fits = fits }))
+fetches_by : (told : Option Folder) (name : List ℕ) → Fetched told name
+fetches_by None name = (Err (refusal name 0 NoFile), inl (tt, refl))
+fetches_by (Some folder) name = held folder name (folder name) refl
 
-held_by : (folder : Folder) (name bytes : List ℕ) (b : Tables) → folder name ≡ Some bytes → (size_limit < length bytes) ⊎ (length bytes ≤ size_limit)
-    → Loaded (Some folder) name b
-held_by folder name bytes b e (inl long) = (Err (refusal name 0 TooLong), (TooLong, too_long (subst IsTooLong (sym e) long), refl))
-held_by folder name bytes b e (inr within) = held_fits folder name bytes b e within (cases_lt (addresses_of b) (length bytes))
+decodes_one : (t : Target) → HasOneResult (Decodes t)
+decodes_one t bytes r q h g = h ∙ sym g
 
-held : (folder : Folder) (name : List ℕ) (b : Tables) (o : Option (List ℕ)) → folder name ≡ o → Loaded (Some folder) name b
-held folder name b None e = (Err (refusal name 0 NoFile), (NoFile, absent e, refl))
-held folder name b (Some bytes) e = held_by folder name bytes b e (cases_lt size_limit (length bytes))
+decodes_some : (t : Target) (bytes : List ℕ) → HasSomeResult (Decodes t) bytes
+decodes_some t bytes = surely (let p : (r : Result (List ℕ) Refusal) × Decodes t bytes r = (decoded t.image (image_in t.is_hex bytes), refl) in p)
 
-pub loads_by : (told : Option Folder) (name : List ℕ) (b : Tables) → Loaded told name b
-loads_by None name b = (Err (refusal name 0 NoFile), (NoFile, absent tt, refl))
-loads_by (Some folder) name b = held folder name b (folder name) refl
+fits_one : (addresses : ℕ) (t : Target) → HasOneResult (Fits addresses t)
+fits_one addresses t image (Ok xs) (Ok ys) h g = ap Ok (h.0 ∙ sym g.0)
+fits_one addresses t image (Ok xs) (Err x) h g = absurd (g.0 h.1)
+fits_one addresses t image (Err x) (Ok ys) h g = absurd (h.0 g.1)
+fits_one addresses t image (Err x) (Err y) h g = ap Err (h.1 ∙ sym g.1)
 
-pub loads_some : (told : Option Folder) (name : List ℕ) (b : Tables) → HasSomeResult (Loads told name) b
-loads_some told name b = surely (loads_by told name b)
+fits_by : (addresses : ℕ) (t : Target) (image : List ℕ) → (base : (addresses ≤ t.base) ⊎ (t.base < addresses)) → (end : (addresses < t.base + length image) ⊎ (t.base + length image ≤ addresses))
+    → (r : Result (List ℕ) Refusal) × Fits addresses t image r
+fits_by addresses t image (inr begins) (inr ends) = (Ok image, (refl, record { begins = begins; ends = ends }))
+fits_by addresses t image (inl past) end = (Err (refusal t.image 0 TooLong), (λ room. omega (arith, past, room.begins), refl))
+fits_by addresses t image (inr begins) (inl past) = (Err (refusal t.image 0 TooLong), (λ room. omega (arith, past, room.ends), refl))
+
+base_by : (addresses base : ℕ) → (addresses ≤ base) ⊎ (base < addresses)
+base_by addresses base = elim (cases_lt base addresses) [
+  | inl less ↦ inr less
+  | inr most ↦ inl most
+]
+
+fits_some : (addresses : ℕ) (t : Target) (image : List ℕ) → HasSomeResult (Fits addresses t) image
+fits_some addresses t image = surely (fits_by addresses t image (base_by addresses t.base) (cases_lt addresses (t.base + length image)))
+
+context_one : (t : Target) → HasOneResult (SetsContext t)
+context_one t image r q h g = h ∙ sym g
+
+context_some : (t : Target) (image : List ℕ) → HasSomeResult (SetsContext t) image
+context_some t image = surely (let p : (r : Result (List ℕ) Refusal) × SetsContext t image r = (with_context t.context image, refl) in p)
+
+images_one : (folder : Folder) (addresses : ℕ) (t : Target) (r q : Result (List ℕ) Refusal) → Images (Some folder) addresses t r → Images (Some folder) addresses t q → r ≡ q
+images_one folder addresses t = then_one _ _ (fetches_one folder) (then_one _ _ (decodes_one t) (then_one _ _ (fits_one addresses t) (context_one t))) t.image
+
+images_some : (told : Option Folder) (addresses : ℕ) (t : Target) → Surely ((r : Result (List ℕ) Refusal) × Images told addresses t r)
+images_some told addresses t =
+    then_some _ _ t.image (surely (fetches_by told t.image)) (λ bytes h.
+    then_some _ _ bytes (decodes_some t bytes) (λ image i.
+    then_some _ _ image (fits_some addresses t image) (λ same j. context_some t same)))
+
+pub loads_one : (folder : Folder) (t : Target) → HasOneResult (Loads (Some folder) t)
+loads_one folder t b (Ok i) (Ok j) h g =
+    ap Ok (input_is i j (h.0 ∙ sym g.0) (h.1 ∙ sym g.1) (ok_is Refusal i.image j.image (images_one folder (addresses_of b) t _ _ h.2 g.2)))
+loads_one folder t b (Ok i) (Err x) h g = absurd (not_both x i.image (images_one folder (addresses_of b) t _ _ g h.2))
+loads_one folder t b (Err x) (Ok i) h g = absurd (not_both x i.image (images_one folder (addresses_of b) t _ _ h g.2))
+loads_one folder t b (Err x) (Err y) h g = ap Err (err_is (List ℕ) x y (images_one folder (addresses_of b) t _ _ h g))
+
+loads_by : (told : Option Folder) (t : Target) (b : Tables) → (r : Result (List ℕ) Refusal) × Images told (addresses_of b) t r → (r : Result Input Refusal) × Loads told t b r
+loads_by told t b (Ok image, h) = (Ok (input b t.base image), (refl, refl, h))
+loads_by told t b (Err x, h) = (Err x, h)
+
+pub loads_some : (told : Option Folder) (t : Target) (b : Tables) → HasSomeResult (Loads told t) b
+loads_some told t b = surely_map (loads_by told t b) (images_some told (addresses_of b) t)
 
 -- ---- the verdict
 
@@ -227,6 +260,3 @@ judges_some told name =
     then_some _ _ s (tokenizes_some s) (λ k i.
     then_some _ _ k (parses_some k) (λ t j.
     then_some _ _ t (tabulates_some t) (λ b l. settles_some b))))
-
-pub images_one : (folder : Folder) (name : List ℕ) → HasOneResult (Loads (Some folder) name)
-images_one = loads_one

@@ -4,13 +4,13 @@ use Rattle.sl_sets.proofs.Surely.{surely, surely_map, surely_then}
 use Rattle.sl_tool.specs.Stage.{Stage, Then, HasOneResult, HasSomeResult}
 use Rattle.sl_tool.specs.Stage.Then.{stops, goes}
 
-err_is : {E : Type 0} (B : Type 0) (e d : E) → ◌≡◌ {A = Result B E} (Err e) (Err d) → e ≡ d
+pub err_is : {E : Type 0} (B : Type 0) (e d : E) → ◌≡◌ {A = Result B E} (Err e) (Err d) → e ≡ d
 err_is B e d h = cc
 
-ok_is : {B : Type 0} (E : Type 0) (a b : B) → ◌≡◌ {A = Result B E} (Ok a) (Ok b) → a ≡ b
+pub ok_is : {B : Type 0} (E : Type 0) (a b : B) → ◌≡◌ {A = Result B E} (Ok a) (Ok b) → a ≡ b
 ok_is E a b h = cc
 
-not_both : {E B : Type 0} (e : E) (b : B) → ◌≡◌ {A = Result B E} (Err e) (Ok b) → ⊥
+pub not_both : {E B : Type 0} (e : E) (b : B) → ◌≡◌ {A = Result B E} (Err e) (Ok b) → ⊥
 not_both e b h = absurd (cc)
 
 module _ {E A B C : Type 0} (S : Stage E A B) (T : Stage E B C) where

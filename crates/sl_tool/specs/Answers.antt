@@ -29,12 +29,12 @@ Due = Ending → List ℕ → Type 0
 abbrev pub mnemonics : Description → List (List ℕ)
 mnemonics d = map (λ c. c.mnemonic) d.constructors
 
-abbrev pub listing_of : Description → List ℕ → Due
-listing_of d image ending text = (ending ≡ Done) × Lists (Matches d) d.constructors (mnemonics d) d.address_bytes (d.token_bits / 8) image 0 text
+abbrev pub listing_of : Description → ℕ → List ℕ → Due
+listing_of d base image ending text = (ending ≡ Done) × Lists (Matches d) d.constructors (mnemonics d) d.address_bytes (d.token_bits / 8) base image 0 text
 
 abbrev pub due_of : Command → Input → Due
-due_of ListImage i = listing_of i.tables.description i.image
-due_of (RunImage steps) i = IsRun i.tables.description i.image steps
+due_of ListImage i = listing_of i.tables.description i.base i.image
+due_of (RunImage steps) i = IsRun i.tables.description i.base i.image steps
 
 -- A command shows what is due, and refuses nothing.
 abbrev pub Shows : Command → Stage Refusal Input Shown
@@ -45,7 +45,7 @@ Shows command i (Err x) = ⊥
 
 -- What becomes of a request: an ending and a text, or a refusal.
 abbrev pub Answers : Option Folder → Request → Result Shown Refusal → Type 0
-Answers told r = Then (Judges told) (Then (Loads told r.image) (Shows r.command)) r.spec
+Answers told r = Then (Judges told) (Then (Loads told r.target) (Shows r.command)) r.target.spec
 
 abbrev pub text_of : Result Shown Refusal → List ℕ
 text_of (Ok s) = s.text
@@ -59,8 +59,8 @@ status_of (Err x) = Refused
 
 -- The names that a request asks for: those of the specification's text, and that of the image where the specification isn't refused.
 pub data AsksFor (told : Option Folder) (r : Request) : List (List ℕ) → Type 0 where
-  refused : {names : List (List ℕ)} {x : Refusal} → AsksForText told r.spec names → Judges told r.spec (Err x) → AsksFor told r names
-  accepted : {names : List (List ℕ)} {b : Tables} → AsksForText told r.spec names → Judges told r.spec (Ok b) → AsksFor told r (names ++ r.image ∷ [])
+  refused : {names : List (List ℕ)} {x : Refusal} → AsksForText told r.target.spec names → Judges told r.target.spec (Err x) → AsksFor told r names
+  accepted : {names : List (List ℕ)} {b : Tables} → AsksForText told r.target.spec names → Judges told r.target.spec (Ok b) → AsksFor told r (names ++ r.target.image ∷ [])
 
 -- A call asks for the names of the request: for all of them, or, where it stops early, for the first of them. It fails only where
 -- the count of faults rose. The folder stays as it is.

@@ -19,7 +19,6 @@ pub mod TokensView
 pub mod StageViews
 pub mod Halts
 pub mod Compiled
-pub mod Fetches
 pub mod Inputs
 pub mod Writing
 pub mod Shown

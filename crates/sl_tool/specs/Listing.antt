@@ -13,13 +13,13 @@ bytes_at image at count = take count (drop at image ++ replicate count 0)
 abbrev pub point_at : List ℕ → ℕ → Point
 point_at image at = record { bytes = from_be_bytes w128 (bytes_at image at 16); context = 0 }
 
--- What the listing of an image says from a place on. An instruction shows as many bytes as the token has, and the text of
+-- What the listing of an image says from a place on, where the image's first byte has this address. An instruction shows as many bytes as the token has, and the text of
 -- the constructor that is chosen there; where no constructor matches, one byte is shown with the mark.
-pub data Lists {X : Type 0} (has : X → Point → Type 0) (xs : List X) (texts : List (List ℕ)) (address_bytes token_bytes : ℕ) (image : List ℕ) : ℕ → List ℕ → Type 0 where
-  ended : {at : ℕ} → length image ≤ at → Lists has xs texts address_bytes token_bytes image at []
+pub data Lists {X : Type 0} (has : X → Point → Type 0) (xs : List X) (texts : List (List ℕ)) (address_bytes token_bytes base : ℕ) (image : List ℕ) : ℕ → List ℕ → Type 0 where
+  ended : {at : ℕ} → length image ≤ at → Lists has xs texts address_bytes token_bytes base image at []
   instruction : {at i : ℕ} {text rest : List ℕ} → at < length image → IsChoice has xs (point_at image at) i → slice_get texts i ≡ Some text
-      → Lists has xs texts address_bytes token_bytes image (at + token_bytes) rest
-      → Lists has xs texts address_bytes token_bytes image at (listed_line address_bytes at (bytes_at image at token_bytes) text ++ rest)
+      → Lists has xs texts address_bytes token_bytes base image (at + token_bytes) rest
+      → Lists has xs texts address_bytes token_bytes base image at (listed_line address_bytes (base + at) (bytes_at image at token_bytes) text ++ rest)
   unmatched : {at : ℕ} {rest : List ℕ} → at < length image → IsUnmatched has xs (point_at image at)
-      → Lists has xs texts address_bytes token_bytes image (at + 1) rest
-      → Lists has xs texts address_bytes token_bytes image at (listed_line address_bytes at (bytes_at image at 1) (codes "??") ++ rest)
+      → Lists has xs texts address_bytes token_bytes base image (at + 1) rest
+      → Lists has xs texts address_bytes token_bytes base image at (listed_line address_bytes (base + at) (bytes_at image at 1) (codes "??") ++ rest)

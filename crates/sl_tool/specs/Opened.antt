@@ -14,10 +14,10 @@ use Rattle.sl_tool.specs.RunLines.{counter_line, fault_line, register_lines, ste
 use Rattle.sl_tool.specs.Running.{HasImage, RunsFrom}
 
 -- The machine has the description's spaces and byte order, and the image in its memory.
-pub record IsOpened (d : Description) (loaded : List ℕ) (state : State) : Type 0 where
+pub record IsOpened (d : Description) (base : ℕ) (loaded : List ℕ) (state : State) : Type 0 where
   pub sizes : address_sizes state ≡ address_sizes_of d
   pub endian : endian_of state ≡ d.endian
-  pub image : HasImage loaded (byte_at state)
+  pub image : HasImage base loaded (byte_at state)
 
 -- The text of what is told: the lines of a list of the changes between the states among them.
 pub record TellsRun (d : Description) (registers : List Register) (opening state : State) (outcome : Outcome) (text : List ℕ) : Type 0 where
@@ -27,9 +27,9 @@ pub record TellsRun (d : Description) (registers : List Register) (opening state
       ++ (register_lines (endian_of state) (byte_at state) registers ++ (memory_lines d.space d.address_bytes changes ++ fault_line outcome.stopped)))
 
 -- The machine has the description's spaces and byte order, and the bytes after some steps from the image in its memory.
-pub record HasRun (d : Description) (sections : List (List Sum)) (loaded : List ℕ) (steps : ℕ) (state : State) (outcome : Outcome) : Type 0 where
+pub record HasRun (d : Description) (sections : List (List Sum)) (base : ℕ) (loaded : List ℕ) (steps : ℕ) (state : State) (outcome : Outcome) : Type 0 where
   pub start : Bytes
   pub sizes : address_sizes state ≡ address_sizes_of d
   pub endian : endian_of state ≡ d.endian
-  pub image : HasImage loaded start
-  pub runs : RunsFrom d sections steps start outcome.ran (byte_at state) outcome.counter outcome.stopped
+  pub image : HasImage base loaded start
+  pub runs : RunsFrom d sections base steps start outcome.ran (byte_at state) outcome.counter outcome.stopped

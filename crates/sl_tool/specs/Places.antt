@@ -1,11 +1,9 @@
--- meaning: the places of bytes and tokens, and refusals there.
+-- meaning: the places of bytes and tokens.
 use Rattle.std.specs.Prelude.{ℕ, List, [], length, Option, Some, None, slice_get, slice_index_or}
 use Rattle.sl_lex.specs.Reading.{Token}
 use Rattle.sl_preproc.specs.Expanded.{Text, place_at}
 use Rattle.sl_tool.specs.Values.{Tokens}
 use Rattle.sl_tool.specs.declared.place.Place.{Place}
-use Rattle.sl_tool.specs.declared.problem.Problem.{Problem}
-use Rattle.sl_tool.specs.declared.refusal.Refusal.{Refusal}
 
 -- the file and the line from which the line of this byte comes
 abbrev pub file_at : Text → ℕ → List ℕ
@@ -27,6 +25,3 @@ start_of k index = from_or (length k.source.text.bytes) (slice_get k.tokens inde
 
 abbrev pub place_of_token : Tokens → ℕ → Place
 place_of_token k index = place_of_byte k.source.text (start_of k index)
-
-abbrev pub refusal_at : Place → Problem → Refusal
-refusal_at place problem = record { place = place; problem = problem }

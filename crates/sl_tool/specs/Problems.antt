@@ -8,8 +8,11 @@ use Rattle.sl_sets.specs.declared.conflicts.Apart.TheVariants.{Same, Two}
 use Rattle.sl_sets.specs.declared.conflicts.Report.{Report}
 use Rattle.sl_tool.specs.Lines.{place_text, point_text}
 use Rattle.sl_tool.specs.declared.problem.Problem.{Problem}
-use Rattle.sl_tool.specs.declared.problem.Problem.TheVariants.{NoFile, TooLong, IncludeDepth, UndefinedName, ReplaceDepth, BadDirective, Unbalanced, BadByte, OpenString, WideInteger, Syntax, Nesting, NotSupported, NotYet, Ambiguous}
+use Rattle.sl_tool.specs.declared.problem.Problem.TheVariants.{NoFile, TooLong, IncludeDepth, UndefinedName, ReplaceDepth, BadDirective, Unbalanced, BadByte, OpenString, WideInteger, Syntax, Nesting, NotSupported, NotYet, Ambiguous, BadHex, NoContextField}
+use Rattle.sl_tool.specs.declared.place.Place.{Place}
 use Rattle.sl_tool.specs.declared.refusal.Refusal.{Refusal}
+use Rattle.sl_tool.specs.declared.refusal.Subject.{Subject}
+use Rattle.sl_tool.specs.declared.refusal.Subject.TheVariants.{Line, Field}
 
 -- ---- words
 
@@ -44,6 +47,8 @@ words_of Nesting = codes "nesting too deep"
 words_of (NotSupported form) = codes "not supported: " ++ feature_words form
 words_of NotYet = codes "not yet"
 words_of (Ambiguous conflict) = codes "ambiguous in instruction with " ++ place_text conflict.other.file conflict.other.line
+words_of BadHex = codes "bad hex"
+words_of NoContextField = codes "no such context field"
 
 -- ---- the report of a conflict
 
@@ -67,10 +72,22 @@ abbrev pub lines_after : Problem → List ℕ
 lines_after (Ambiguous conflict) = report_lines conflict.report
 lines_after problem = []
 
--- the place, the problem's words, and what is printed after that line
+-- a line of a file, or the name of a context field
+abbrev pub subject_text : Subject → List ℕ
+subject_text (Line place) = place_text place.file place.line
+subject_text (Field name) = name
+
+-- the subject, the problem's words, and what is printed after that line
 abbrev pub refusal_text : Refusal → List ℕ
-refusal_text x = place_text x.place.file x.place.line ++ (codes ": " ++ (words_of x.problem ++ (codes "\n" ++ lines_after x.problem)))
+refusal_text x = subject_text x.subject ++ (codes ": " ++ (words_of x.problem ++ (codes "\n" ++ lines_after x.problem)))
+
+abbrev pub refusal_at : Place → Problem → Refusal
+refusal_at place problem = record { subject = Line place; problem = problem }
 
 -- the refusal of a line of a file; line 0 is the whole file
 abbrev pub refusal : List ℕ → ℕ → Problem → Refusal
-refusal file line problem = record { place = record { file = file; line = line }; problem = problem }
+refusal file line problem = refusal_at (record { file = file; line = line }) problem
+
+-- the refusal of a context field of this name
+abbrev pub refusal_of_field : List ℕ → Problem → Refusal
+refusal_of_field name problem = record { subject = Field name; problem = problem }

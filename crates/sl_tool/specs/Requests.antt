@@ -1,4 +1,5 @@
 -- view: a request as the program keeps it.
+use Rattle.sl_request.specs.Views.{target}
 use Rattle.sl_tool.specs.Request as spec
 use Rattle.sl_tool.specs.declared.request.Command.{Command}
 use Rattle.sl_tool.specs.declared.request.Command.TheVariants.{List, Run}
@@ -9,4 +10,4 @@ command List = spec.ListImage
 command (Run steps) = spec.RunImage steps
 
 abbrev pub request : Request → spec.Request
-request r = record { command = command r.command; spec = r.spec.now; image = r.image.now }
+request r = spec.request (command r.command) (target r.target)

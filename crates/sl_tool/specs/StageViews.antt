@@ -18,4 +18,4 @@ abbrev pub checked_view : Checked → values.Tables
 checked_view c = tables_view c.tables
 
 abbrev pub input_view : Input → values.Input
-input_view i = values.input (checked_view i.checked) i.image.items
+input_view i = values.input (checked_view i.checked) i.base i.image.items

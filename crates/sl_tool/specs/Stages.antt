@@ -1,5 +1,5 @@
 -- meaning: the stages from the name of a specification to what a command works on.
-use Rattle.std.specs.Prelude.{◌≡◌, ℕ, ◌^◌, ◌<◌, ◌≤◌, List, length, Option, Some, None, Result, Ok, Err, ⊤}
+use Rattle.std.specs.Prelude.{◌≡◌, ℕ, ◌+◌, ◌^◌, ◌<◌, ◌≤◌, ◌⊎◌, List, [], ◌∷◌, length, Option, Some, None, Bool, if◌then◌else◌, Result, Ok, Err, ⊤}
 use Rattle.sl_ast.specs.Spelling.{spell}
 use Rattle.sl_ast.specs.Unfolding.{firsts}
 use Rattle.sl_ast.specs.Validity.{AreItems}
@@ -17,16 +17,18 @@ use Rattle.sl_parse.specs.Parsing.{TellsFault}
 use Rattle.sl_preproc.specs.Expanded.{Text, expanded}
 use Rattle.sl_preproc.specs.Expansion as preproc
 use Rattle.sl_preproc.specs.Sound.{IsSound}
+use Rattle.sl_request.specs.Images.{image_of}
+use Rattle.sl_request.specs.Requests.{Field, Target}
 use Rattle.sl_sets.specs.Reports.{IsReport}
 use Rattle.sl_sets.specs.Sets.{IsFirstConflict, HasNoConflict}
 use Rattle.sl_sets.specs.declared.conflicts.Report.{Report}
 use Rattle.sl_symbols.specs.Symbols.{symbols_of}
-use Rattle.sl_tool.specs.Places.{place_of_byte, place_of_token, refusal_at}
-use Rattle.sl_tool.specs.Problems.{refusal}
+use Rattle.sl_tool.specs.Places.{place_of_byte, place_of_token}
+use Rattle.sl_tool.specs.Problems.{refusal, refusal_at, refusal_of_field}
 use Rattle.sl_tool.specs.Stage.{Stage, Then}
 use Rattle.sl_tool.specs.Values.{Source, Tokens, Tree, Tables, Input, source}
 use Rattle.sl_tool.specs.declared.problem.Problem.{Problem}
-use Rattle.sl_tool.specs.declared.problem.Problem.TheVariants.{NoFile, TooLong, IncludeDepth, UndefinedName, ReplaceDepth, BadDirective, Unbalanced, BadByte, OpenString, WideInteger, Syntax, Nesting, NotSupported, NotYet, Ambiguous}
+use Rattle.sl_tool.specs.declared.problem.Problem.TheVariants.{NoFile, TooLong, IncludeDepth, UndefinedName, ReplaceDepth, BadDirective, Unbalanced, BadByte, OpenString, WideInteger, Syntax, Nesting, NotSupported, NotYet, Ambiguous, BadHex, NoContextField}
 use Rattle.sl_tool.specs.declared.refusal.Refusal.{Refusal}
 
 -- ---- 1: the name of the main file to its expanded text
@@ -105,25 +107,55 @@ Settles b (Err x) = IsAmbiguous b x
 
 -- ---- 6: the image beside it
 
--- The name holds these bytes, which aren't too many for a file, nor for the addresses.
-pub record IsImage (told : Option Folder) (name : List ℕ) (addresses : ℕ) (bytes : List ℕ) : Type 0 where
-  pub has : Holds told name bytes
-  pub within : length bytes ≤ size_limit
-  pub fits : length bytes ≤ addresses
+-- The file of this name has these bytes, which aren't too many for a file; or there is no such file.
+abbrev pub Fetches : Option Folder → Stage Refusal (List ℕ) (List ℕ)
+Fetches told name (Ok bytes) = Holds told name bytes × (length bytes ≤ size_limit)
+Fetches told name (Err x) = (Lacks told name × (x ≡ refusal name 0 NoFile)) ⊎ (HoldsTooLong told name × (x ≡ refusal name 0 TooLong))
 
--- The name holds no image for so many addresses, for this reason.
-pub data RefusesImage (told : Option Folder) (name : List ℕ) (addresses : ℕ) : Problem → Type 0 where
-  absent : Lacks told name → RefusesImage told name addresses NoFile
-  too_long : HoldsTooLong told name → RefusesImage told name addresses TooLong
-  beyond : (bytes : List ℕ) → Holds told name bytes → length bytes ≤ size_limit → addresses < length bytes → RefusesImage told name addresses TooLong
+-- the image that the bytes of a file are, or that they spell as hexadecimal text
+abbrev pub image_in : Bool → List ℕ → Option (List ℕ)
+image_in is_hex bytes = if is_hex then image_of bytes else Some bytes
+
+abbrev pub decoded : List ℕ → Option (List ℕ) → Result (List ℕ) Refusal
+decoded name (Some image) = Ok image
+decoded name None = Err (refusal name 0 BadHex)
+
+abbrev pub Decodes : Target → Stage Refusal (List ℕ) (List ℕ)
+Decodes t bytes r = r ≡ decoded t.image (image_in t.is_hex bytes)
+
+-- The base is an address, and so many bytes from it on have addresses.
+pub record HasRoom (addresses base count : ℕ) : Type 0 where
+  pub begins : base < addresses
+  pub ends : base + count ≤ addresses
+
+-- The image fits the memory, or it is too long.
+abbrev pub Fits : ℕ → Target → Stage Refusal (List ℕ) (List ℕ)
+Fits addresses t image (Ok same) = (same ≡ image) × HasRoom addresses t.base (length image)
+Fits addresses t image (Err x) = (HasRoom addresses t.base (length image) → ⊥) × (x ≡ refusal t.image 0 TooLong)
+
+-- The values that the words give to context fields, in their order. So far no specification has a context, so that the first
+-- word names no field of it.
+abbrev pub with_context : List Field → List ℕ → Result (List ℕ) Refusal
+with_context [] image = Ok image
+with_context (f ∷ fs) image = Err (refusal_of_field f.name NoContextField)
+
+abbrev pub SetsContext : Target → Stage Refusal (List ℕ) (List ℕ)
+SetsContext t image r = r ≡ with_context t.context image
+
+-- What the bytes of the file are as an image for so many addresses.
+abbrev pub Prepares : ℕ → Target → Stage Refusal (List ℕ) (List ℕ)
+Prepares addresses t = Then (Decodes t) (Then (Fits addresses t) (SetsContext t))
+
+abbrev pub Images : Option Folder → ℕ → Target → Result (List ℕ) Refusal → Type 0
+Images told addresses t = Then (Fetches told) (Prepares addresses t) t.image
 
 abbrev pub addresses_of : Tables → ℕ
 addresses_of b = 256 ^ b.description.address_bytes
 
--- The image of this name fits the memory, or there is none that does.
-abbrev pub Loads : Option Folder → List ℕ → Stage Refusal Tables Input
-Loads told name b (Ok i) = (i.tables ≡ b) × IsImage told name (addresses_of b) i.image
-Loads told name b (Err x) = (problem : Problem) × RefusesImage told name (addresses_of b) problem × (x ≡ refusal name 0 problem)
+-- The image of the file beside the tables, from the base on.
+abbrev pub Loads : Option Folder → Target → Stage Refusal Tables Input
+Loads told t b (Ok i) = (i.tables ≡ b) × (i.base ≡ t.base) × Images told (addresses_of b) t (Ok i.image)
+Loads told t b (Err x) = Images told (addresses_of b) t (Err x)
 
 -- ---- the verdict on a specification
 

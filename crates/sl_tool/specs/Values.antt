@@ -23,8 +23,10 @@ pub record Tables : Type 0 where
   pub tree : Tree
   pub description : Description
 
+-- an image beside what it is read by, and the address of its first byte
 pub record Input : Type 0 where
   pub tables : Tables
+  pub base : ℕ
   pub image : List ℕ
 
 -- how a command ends, and what it writes
@@ -46,8 +48,8 @@ tree k items = record { tokens = k; items = items }
 abbrev pub tables : Tree → Description → Tables
 tables t d = record { tree = t; description = d }
 
-abbrev pub input : Tables → List ℕ → Input
-input b image = record { tables = b; image = image }
+abbrev pub input : Tables → ℕ → List ℕ → Input
+input b base image = record { tables = b; base = base; image = image }
 
 abbrev pub shown : Ending → List ℕ → Shown
 shown ending text = record { ending = ending; text = text }

@@ -23,22 +23,22 @@ use std::alloc::Global;
 /// `Input::read` is the last stage that has the files, and `show` the only one that has the sink.
 pub fn answered<F: Files, K: Sink>(
     alloc: Global,
-    request: Request<'_>,
+    request: &Request<'_>,
     files: &mut F,
     out: &mut K,
 ) -> Result<Ending, Halt>
-    ensures writes { Writes (Answers (F.told files.old) (request_view request.entry))
+    ensures writes { Writes (Answers (F.told files.old) (request_view request.now))
         (K.taken out.old) (K.taken out.new) result }
-    ensures files { UsesFilesFor F.told F.faults F.asked (request_view request.entry) files.old files.new
+    ensures files { UsesFilesFor F.told F.faults F.asked (request_view request.now) files.old files.new
         (IsEarly result) (FailsToRead result) }
     ensures sink { UsesSink K.faults K.calls out.old out.new (FailsToWrite result) }
     ensures unwritten { FailsToRead result → K.calls out.new ≡ K.calls out.old }
 {
-    let source = Source::read(alloc, request.spec, files)?;
+    let source = Source::read(alloc, request.target.spec, files)?;
     let tokens = Tokens::read(alloc, &source)?;
     let tree = Tree::read(alloc, tokens)?;
     let tables = Tables::read(alloc, tree)?;
     let checked = Checked::check(alloc, tables)?;
-    let input = Input::read(alloc, request.image, checked, files)?;
+    let input = Input::read(alloc, &request.target, checked, files)?;
     show(alloc, request.command, &input, out)
 }

@@ -2,7 +2,7 @@
 
 use crate::halt::Halt;
 use crate::problem::{Conflict, Problem};
-use crate::refusal::Refusal;
+use crate::refusal::{Refusal, Subject};
 use crate::tables::Tables;
 use sl_sets::{first_conflict, report_on};
 use std::alloc::{AllocError, Global};
@@ -54,6 +54,7 @@ impl<'s, 'r> Checked<'s, 'r> {
         let place = tables.constructor_place(alloc, first)?;
         let other = tables.constructor_place(alloc, second)?;
         let problem = Problem::Ambiguous(Conflict { other, report });
-        Ok(Refusal { place, problem })
+        let subject = Subject::Line(place);
+        Ok(Refusal { subject, problem })
     }
 }

@@ -2,8 +2,8 @@
 
 ghost use Rattle.std.specs.Prelude.{[], ◌∷◌};
 ghost use Rattle.sl_outside.specs.Uses.{UsesFiles};
-ghost use Rattle.sl_tool.specs.Fetches.{IsFetched};
-ghost use Rattle.sl_tool.specs.Outcomes.{FailsToRead, IsEarly};
+ghost use Rattle.sl_tool.specs.Outcomes.{FailsToRead, IsEarly, Obtains};
+ghost use Rattle.sl_tool.specs.Stages.{Fetches};
 
 use crate::halt::Halt;
 use crate::problem::Problem;
@@ -13,7 +13,7 @@ use std::alloc::Global;
 
 /// The bytes of the file of this name.
 pub fn fetched<F: Files>(alloc: Global, name: &str, files: &mut F) -> Result<Vec<u8>, Halt>
-    ensures gives { IsFetched (F.told files.old) name.now result }
+    ensures gives { Obtains (Fetches (F.told files.old) name.now) (λ bytes. bytes.items) result }
     ensures files { UsesFiles F.told F.faults F.asked files.old files.new (name.now ∷ [])
         (IsEarly result) (FailsToRead result) }
 {

@@ -1,8 +1,9 @@
 //! The tool as one call: [`run_tool`] takes the words of a command line, reads the files that they
 //! name, writes one text and gives a [`Status`].
 //!
-//! `list SPEC IMAGE` prints a listing, and `run SPEC IMAGE [--steps N]` runs instructions and prints
-//! registers, changed memory and the fault. For both, the specification's main file is expanded, the
+//! The words are read by `sl_words`. `list SPEC IMAGE` prints a listing, and `run SPEC IMAGE` runs
+//! instructions and prints registers, changed memory and the fault; the image may be hexadecimal text,
+//! and begin at a base. For both, the specification's main file is expanded, the
 //! text is split into tokens, and the tokens are parsed. The tree has to be a description: one space, one
 //! token, registers, and constructors that test fields for equality and may add to registers. Each
 //! constructor becomes a set of points, a cube. Where two sets are in conflict the specification is refused as ambiguous;
@@ -18,6 +19,7 @@ mod checked;
 mod commands;
 mod fetched;
 mod halt;
+mod image;
 mod input;
 mod laws;
 mod lines;

@@ -1,17 +1,17 @@
-//! Lines of files, as refusals name them.
+//! Names and lines of files, as refusals tell them.
 
 ghost use Rattle.std.specs.Prelude.{◌≡◌, IfOk};
 
 use std::alloc::{AllocError, Global};
 use std::marker::Model;
 
-/// The name of a file as it was fetched. Contracts see its bytes.
+/// The name of a file as it was fetched, or of a context field. Contracts see its bytes.
 #[derive(Debug, Drop)]
-pub struct FileName {
+pub struct Name {
     text: String,
 }
 
-impl Model for FileName {
+impl Model for Name {
     ghost use Rattle.std.specs.Prelude.{ℕ, List, string_bytes};
 
     ghost Value = { List ℕ };
@@ -19,14 +19,14 @@ impl Model for FileName {
     ghost view = { λ name. string_bytes name.text };
 }
 
-impl FileName {
+impl Name {
     ghost use Rattle.std.specs.Prelude.{◌≡◌, IfOk, string_bytes};
 
     /// The name of this text.
     pub fn of(text: String) -> Self
         ensures { result ≡ string_bytes text }
     {
-        FileName { text }
+        Name { text }
     }
 
     /// A copy of the name.
@@ -34,7 +34,7 @@ impl FileName {
         ensures { IfOk result (λ name. name ≡ text.now) }
     {
         let text = String::from_str(alloc, text)?;
-        Ok(FileName { text })
+        Ok(Name { text })
     }
 
     /// The bytes of the name.
@@ -48,6 +48,6 @@ impl FileName {
 /// A line of a file, counted from 1; line 0 is the whole file.
 #[derive(Debug, Drop)]
 pub struct Place {
-    pub file: FileName,
+    pub file: Name,
     pub line: u64,
 }

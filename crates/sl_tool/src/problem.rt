@@ -16,12 +16,13 @@ pub struct Conflict {
     pub report: Report,
 }
 
-/// Why a specification, or an image, is refused.
+/// Why a specification, an image or a word is refused.
 #[derive(Debug, Drop)]
 pub enum Problem {
     /// There is no file of this name.
     NoFile,
-    /// A file or the expanded text has more bytes than it may have, or an image more than there are addresses.
+    /// A file or the expanded text has more bytes than it may have, or an image
+    /// more than there are addresses from its base on.
     TooLong,
     /// A file would be included at depth 17.
     IncludeDepth,
@@ -49,6 +50,10 @@ pub enum Problem {
     NotYet,
     /// Two constructors that are in conflict.
     Ambiguous(Conflict),
+    /// An image is to be hexadecimal text, and spells no bytes.
+    BadHex,
+    /// No field of the context has this name.
+    NoContextField,
 }
 
 /// Appends the words of the form.
@@ -96,5 +101,7 @@ pub fn push_words(out: &mut Vec<u8>, problem: &Problem) -> Result<(), AllocError
             out.extend_from_slice(b"ambiguous in instruction with ")?;
             push_place(out, &conflict.other)
         }
+        Problem::BadHex => out.extend_from_slice(b"bad hex"),
+        Problem::NoContextField => out.extend_from_slice(b"no such context field"),
     }
 }

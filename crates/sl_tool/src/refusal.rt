@@ -1,33 +1,51 @@
 //! Refusals, and the text that is printed of them.
 
 ghost use Rattle.std.specs.Prelude.{◌≡◌, ◌++◌, IfOk, OnOk};
-ghost use Rattle.sl_tool.specs.Problems.{apart_lines, lines_after, point_line, report_lines};
+ghost use Rattle.sl_tool.specs.Problems.{apart_lines, lines_after, point_line, report_lines, subject_text};
 
 use crate::lines::{push_place, push_point};
-use crate::place::{FileName, Place};
+use crate::place::{Name, Place};
 use crate::problem::{Problem, push_words};
 use sl_cube::Point;
 use sl_sets::{Apart, Report};
 use std::alloc::{AllocError, Global};
 
-/// What is refused: the place, and the problem there.
+/// What a refusal speaks of.
+#[derive(Debug, Drop)]
+pub enum Subject {
+    /// A line of a file.
+    Line(Place),
+    /// A context field that a word names.
+    Field(Name),
+}
+
+/// What is refused: the place or the field, and the problem there.
 #[derive(Debug, Drop)]
 pub struct Refusal {
-    pub place: Place,
+    pub subject: Subject,
     pub problem: Problem,
 }
 
 impl Refusal {
     ghost use Rattle.std.specs.Prelude.{◌≡◌, IfOk};
-    ghost use Rattle.sl_tool.specs.Problems.{refusal, refusal_text};
+    ghost use Rattle.sl_tool.specs.Problems.{refusal, refusal_of_field, refusal_text};
 
     /// The refusal of a whole file.
     pub fn of_file(alloc: Global, file: &str, problem: Problem) -> Result<Self, AllocError>
         ensures { IfOk result (λ x. x ≡ refusal file.now 0 problem) }
     {
-        let file = FileName::copied(alloc, file)?;
-        let place = Place { file, line: 0 };
-        Ok(Refusal { place, problem })
+        let file = Name::copied(alloc, file)?;
+        let subject = Subject::Line(Place { file, line: 0 });
+        Ok(Refusal { subject, problem })
+    }
+
+    /// The refusal of the context field of this name.
+    pub fn of_field(alloc: Global, name: &str, problem: Problem) -> Result<Self, AllocError>
+        ensures { IfOk result (λ x. x ≡ refusal_of_field name.now problem) }
+    {
+        let name = Name::copied(alloc, name)?;
+        let subject = Subject::Field(name);
+        Ok(Refusal { subject, problem })
     }
 
     /// The text that is printed of it.
@@ -35,12 +53,22 @@ impl Refusal {
         ensures { IfOk result (λ text. text.items ≡ refusal_text self.now) }
     {
         let mut out = Vec::new(alloc);
-        push_place(&mut out, &self.place)?;
+        push_subject(&mut out, &self.subject)?;
         out.extend_from_slice(b": ")?;
         push_words(&mut out, &self.problem)?;
         out.extend_from_slice(b"\n")?;
         push_after(&mut out, &self.problem)?;
         Ok(out)
+    }
+}
+
+/// Appends a line of a file, or the name of a context field.
+fn push_subject(out: &mut Vec<u8>, subject: &Subject) -> Result<(), AllocError>
+    ensures { OnOk result (out.new.items ≡ out.old.items ++ subject_text subject.now) }
+{
+    match subject {
+        Subject::Line(place) => push_place(out, place),
+        Subject::Field(name) => out.extend_from_slice(name.as_bytes()),
     }
 }
 

@@ -1,12 +1,12 @@
-//! What the words of the command line ask for.
+//! What the words of the command line ask for, of the commands that are there.
 
-ghost use Rattle.std.specs.Prelude.{◌≡◌, ◌≤◌, map, option_map, string_bytes};
-ghost use Rattle.sl_tool.specs.Request.{begins_with_plus, command_of, is_positional, number_of, numeral, request_of};
-ghost use Rattle.sl_tool.specs.Requests.{command, request};
+ghost use Rattle.std.specs.Prelude.{◌≡◌, IfOk, map, option_map, string_bytes};
+ghost use Rattle.sl_request.specs.Views.{request as asked_view};
+ghost use Rattle.sl_tool.specs.Request.{answerable, request_of};
+ghost use Rattle.sl_tool.specs.Requests.{request};
 
-/// The usage line.
-pub const USAGE: &str =
-    "usage: sleigh check SPEC | list SPEC IMAGE | pcode SPEC IMAGE | run SPEC IMAGE | gen NUMBER\n";
+use sl_request::{Request as Asked, Target};
+use std::alloc::{AllocError, Global};
 
 /// What is done with an image.
 #[derive(Clone, Copy, Debug)]
@@ -17,83 +17,36 @@ pub enum Command {
     Run(u64),
 }
 
-/// A request: what is done, the file of the specification and that of the image.
-#[derive(Clone, Copy, Debug)]
+/// What is done, and with which specification and image.
+#[derive(Debug, Drop)]
 pub struct Request<'a> {
     pub command: Command,
-    pub spec: &'a str,
-    pub image: &'a str,
+    pub target: Target<'a>,
 }
 
-/// Whether the word may name a file.
-fn is_positional(word: &str) -> bool
-    ensures { result ≡ is_positional word.now }
+/// What is asked for, where its command is there.
+fn answerable(asked: Asked<'_>) -> Option<Request<'_>>
+    ensures { option_map request result ≡ answerable (asked_view asked.entry) }
 {
-    !matches!(word.as_bytes(), [b'-', ..])
-}
-
-/// Whether a plus stands first, which no number has.
-fn begins_with_plus(digits: &str) -> bool
-    ensures { result ≡ begins_with_plus digits.now }
-{
-    matches!(digits.as_bytes(), [b'+', ..])
-}
-
-/// The number that digits spell, of which there are some, if it has at most 64 bits.
-fn numeral(digits: &str, radix: u32) -> Option<u64>
-    requires least { 2 ≤ radix }
-    requires greatest { radix ≤ 36 }
-    ensures { result ≡ numeral radix digits.now }
-{
-    if begins_with_plus(digits) {
-        return None;
-    }
-    u64::from_str_radix(digits, radix).ok()
-}
-
-/// A number: decimal digits, or `0x` and hexadecimal digits.
-fn number_of(word: &str) -> Option<u64>
-    ensures { result ≡ number_of word.now }
-{
-    match word.strip_prefix("0x") {
-        Some(digits) => numeral(digits, 16),
-        None => numeral(word, 10),
-    }
-}
-
-/// What a command is, with the words behind the two files.
-fn command_of(name: &str, rest: &[String]) -> Option<Command>
-    ensures { option_map command result ≡ command_of name.now (map string_bytes rest.now) }
-{
-    match rest {
-        [] if name == "list" => Some(Command::List),
-        [] if name == "run" => Some(Command::Run(1)),
-        [option, number] if name == "run" && option.as_str() == "--steps" => {
-            let steps = number_of(number.as_str())?;
-            Some(Command::Run(steps))
-        }
-        _ => None,
+    match asked {
+        Asked::List(target) => Some(Request {
+            command: Command::List,
+            target,
+        }),
+        Asked::Run(target, steps) => Some(Request {
+            command: Command::Run(steps),
+            target,
+        }),
+        Asked::Check(_) | Asked::Pcode(_) | Asked::Gen(_) => None,
     }
 }
 
 /// What the words, the program's name first, ask for.
-pub fn request_of(words: &[String]) -> Option<Request<'_>>
-    ensures { option_map request result ≡ request_of (map string_bytes words.now) }
+pub fn request_of<'a>(alloc: Global, words: &'a [String]) -> Result<Option<Request<'a>>, AllocError>
+    ensures { IfOk result (λ r. option_map request r ≡ request_of (map string_bytes words.entry.now)) }
 {
-    match words {
-        [_program, name, spec, image, rest @ ..] => {
-            let spec = spec.as_str();
-            let image = image.as_str();
-            if !is_positional(spec) || !is_positional(image) {
-                return None;
-            }
-            let command = command_of(name.as_str(), rest)?;
-            Some(Request {
-                command,
-                spec,
-                image,
-            })
-        }
-        _ => None,
+    match sl_words::request_of(alloc, words)? {
+        Some(asked) => Ok(answerable(asked)),
+        None => Ok(None),
     }
 }

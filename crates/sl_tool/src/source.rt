@@ -7,9 +7,9 @@ ghost use Rattle.sl_tool.specs.Halts.{halt_of};
 ghost use Rattle.sl_tool.specs.Problems.{refusal};
 
 use crate::halt::Halt;
-use crate::place::{FileName, Place};
+use crate::place::{Name, Place};
 use crate::problem::Problem;
-use crate::refusal::Refusal;
+use crate::refusal::{Refusal, Subject};
 use sl_outside::Files;
 use sl_preproc::{Expanded, PreError, expand};
 use std::alloc::{AllocError, Global};
@@ -26,10 +26,11 @@ pub struct Source<'r> {
 fn refused(file: String, line: u32, problem: Problem) -> Halt
     ensures { result ≡ Halt.Refused (refusal (string_bytes file) line problem) }
 {
-    let file = FileName::of(file);
+    let file = Name::of(file);
     let line = u64::from(line);
     let place = Place { file, line };
-    Halt::Refused(Refusal { place, problem })
+    let subject = Subject::Line(place);
+    Halt::Refused(Refusal { subject, problem })
 }
 
 /// Why there is no text, for an error of the expansion.
@@ -86,7 +87,7 @@ impl<'r> Source<'r> {
     {
         let place = self.expanded.place_of(byte);
         let name = self.expanded.files[place.file as usize].as_str();
-        let file = FileName::copied(alloc, name)?;
+        let file = Name::copied(alloc, name)?;
         let line = u64::from(place.line);
         Ok(Place { file, line })
     }

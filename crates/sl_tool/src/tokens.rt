@@ -8,7 +8,7 @@ ghost use Rattle.sl_tool.specs.Halts.{bad_place};
 use crate::halt::Halt;
 use crate::place::Place;
 use crate::problem::Problem;
-use crate::refusal::Refusal;
+use crate::refusal::{Refusal, Subject};
 use crate::source::Source;
 use sl_lex::{LexError, Tok, lex};
 use std::alloc::{AllocError, Global};
@@ -52,7 +52,8 @@ impl<'s, 'r> Tokens<'s, 'r> {
                     return Err(Halt::NoMemory);
                 };
                 let place = source.place(alloc, at)?;
-                Err(Halt::Refused(Refusal { place, problem }))
+                let subject = Subject::Line(place);
+                Err(Halt::Refused(Refusal { subject, problem }))
             }
         }
     }

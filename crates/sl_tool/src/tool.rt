@@ -10,10 +10,11 @@ ghost use Rattle.sl_tool.specs.Writing.{IsWritten};
 use crate::answer::answered;
 use crate::halt::Halt;
 use crate::refusal::Refusal;
-use crate::request::{USAGE, request_of};
+use crate::request::request_of;
 use crate::status::{Status, ended};
 use crate::writing::write_all;
 use sl_outside::{Files, Sink};
+use sl_request::USAGE;
 use std::alloc::Global;
 
 /// Answers the words of a command line, the program's name first, from these files, and writes the
@@ -35,10 +36,13 @@ pub fn run_tool<F: Files, K: Sink>(
     ensures sink { UsesSink K.faults K.calls out.old out.new (result ≡ Status.WriteFault) }
     ensures unwritten { result ≡ Status.ReadFault → K.calls out.new ≡ K.calls out.old }
 {
-    let Some(request) = request_of(words) else {
+    let Ok(asked) = request_of(alloc, words) else {
+        return Status::NoMemory;
+    };
+    let Some(request) = asked else {
         return written(out, USAGE.as_bytes(), Status::Usage);
     };
-    match answered(alloc, request, files, out) {
+    match answered(alloc, &request, files, out) {
         Ok(ending) => ended(ending),
         Err(Halt::Refused(refusal)) => refused(alloc, &refusal, out),
         Err(Halt::ReadFault) => Status::ReadFault,

@@ -5,7 +5,7 @@ ghost use Rattle.sl_tool.specs.Halts.{first_fault};
 
 use crate::halt::Halt;
 use crate::problem::Problem;
-use crate::refusal::Refusal;
+use crate::refusal::{Refusal, Subject};
 use crate::tokens::Tokens;
 use sl_ast::items::Spec;
 use sl_parse::{ParseError, parse};
@@ -53,7 +53,8 @@ impl<'s, 'r> Tree<'s, 'r> {
                     return Err(Halt::NoMemory);
                 };
                 let place = tokens.place(alloc, at)?;
-                Err(Halt::Refused(Refusal { place, problem }))
+                let subject = Subject::Line(place);
+                Err(Halt::Refused(Refusal { subject, problem }))
             }
         }
     }

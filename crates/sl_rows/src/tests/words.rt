@@ -8,15 +8,20 @@ use std::test::Fail;
 const USAGE: &str =
     "usage: sleigh check SPEC | list SPEC IMAGE | pcode SPEC IMAGE | run SPEC IMAGE | gen NUMBER\n";
 
-static WORDS: [&[&str]; 39] = [
+static WORDS: [&[&str]; 44] = [
     &[],
     &["list"],
     &["list", "s"],
     &["list", "s", "i", "x"],
     &["list", "s", "i", "--steps", "1"],
+    &["list", "s", "i", "--hex", "--hex"],
+    &["list", "s", "i", "--base", "-1"],
+    &["list", "s", "i", "--", "--hex"],
+    &["list", "s", "i", "a=b=1"],
+    &["list", "s", "i", "=1"],
+    &["--hex", "list", "s", "i"],
     &["list", "-s", "i"],
     &["list", "s", "-i"],
-    &["list", "s", "-"],
     &["list", "--", "s"],
     &["List", "s", "i"],
     &["list ", "s", "i"],
@@ -26,11 +31,11 @@ static WORDS: [&[&str]; 39] = [
     &["check", "s", "t"],
     &["check", "s", "i"],
     &["pcode", "s", "i"],
+    &["pcode", "s", "i", "--hex", "a=1"],
     &["run", "s"],
     &["run", "s", "-i"],
     &["run", "s", "i", "--steps"],
     &["run", "s", "i", "--step", "1"],
-    &["run", "s", "i", "--steps=1"],
     &["run", "s", "i", "--steps", ""],
     &["run", "s", "i", "--steps", "0x"],
     &["run", "s", "i", "--steps", "1a"],

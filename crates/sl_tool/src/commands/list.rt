@@ -1,9 +1,8 @@
 //! `list`: the listing of an image.
 
-ghost use Rattle.std.specs.Prelude.{◌≡◌, ◌<◌, ◌≤◌, ◌^◌, IfOk, MatchOption, length};
+ghost use Rattle.std.specs.Prelude.{◌≡◌, ◌+◌, ◌<◌, ◌≤◌, ◌^◌, IfOk, MatchOption, length};
 ghost use Rattle.std.specs.Int.{w128, from_be_bytes};
 ghost use Rattle.sl_description.specs.Views.{description};
-ghost use Rattle.sl_outside.specs.Folder.{size_limit};
 ghost use Rattle.sl_outside.specs.Uses.{UsesSink};
 ghost use Rattle.sl_sets.specs.Cubes.{has_cube};
 ghost use Rattle.sl_sets.specs.Sets.{HasNoConflict, IsUnmatched};
@@ -13,6 +12,7 @@ ghost use Rattle.sl_tool.specs.Inputs.{IsReady};
 ghost use Rattle.sl_tool.specs.Listing.{Lists, bytes_at};
 ghost use Rattle.sl_tool.specs.Outcomes.{FailsToWrite, Streams};
 ghost use Rattle.sl_tool.specs.Shown.{IsChosenText, IsShown, mnemonics};
+ghost use Rattle.sl_tool.specs.Stages.{HasRoom};
 
 use crate::halt::Halt;
 use crate::input::Input;
@@ -31,22 +31,28 @@ const MARK: &[u8] = b"??";
 /// Writes the listing of the image.
 pub fn list<K: Sink>(alloc: Global, input: &Input<'_, '_>, out: &mut K) -> Result<Ending, Halt>
     requires { IsReady input.now }
-    ensures streams { Streams (listing_of (description input.now.checked.tables.compiled.description) input.now.image.items)
+    ensures streams { Streams (listing_of (description input.now.checked.tables.compiled.description) input.now.base input.now.image.items)
         (K.taken out.old) (K.taken out.new) result }
     ensures sink { UsesSink K.faults K.calls out.old out.new (FailsToWrite result) }
 {
     let compiled = &input.checked.tables.compiled;
-    let lines = list_image(alloc, compiled, input.image.as_slice())?;
+    let lines = list_image(alloc, compiled, input.base, input.image.as_slice())?;
     write_all(out, lines.as_slice())?;
     Ok(Ending::Done)
 }
 
 /// The lines of the listing.
-fn list_image(alloc: Global, compiled: &Compiled, image: &[u8]) -> Result<Vec<u8>, AllocError>
+fn list_image(
+    alloc: Global,
+    compiled: &Compiled,
+    base: u64,
+    image: &[u8],
+) -> Result<Vec<u8>, AllocError>
     requires compiled { HasCompiled compiled.now }
     requires clear { HasNoConflict has_cube compiled.now.sets.items }
-    requires within { length image.now ≤ size_limit }
-    ensures { IfOk result (λ lines. listing_of (description compiled.now.description) image.now Ending.Done lines.items) }
+    requires image { length image.now < 2 ^ 63 }
+    requires room { HasRoom (256 ^ compiled.now.description.address_bytes) base (length image.now) }
+    ensures { IfOk result (λ lines. listing_of (description compiled.now.description) base image.now Ending.Done lines.items) }
 {
     let chooser = Chooser::build(alloc, compiled.sets.as_slice())?;
     let lines = listing(
@@ -55,12 +61,13 @@ fn list_image(alloc: Global, compiled: &Compiled, image: &[u8]) -> Result<Vec<u8
         compiled.description.constructors.as_slice(),
         compiled.description.address_bytes as usize,
         (compiled.description.token_bits / 8) as usize,
+        base,
         image,
     )?;
     Ok(lines)
 }
 
-/// The listing of the image, whose first byte has address 0. Zeros follow the image, both where a
+/// The listing of the image, whose first byte has the address `base`. Zeros follow the image, both where a
 /// constructor is chosen and in the bytes that are shown. The only error is want of memory.
 fn listing(
     alloc: Global,
@@ -68,15 +75,17 @@ fn listing(
     constructors: &[Constructor<'_>],
     address_bytes: usize,
     token_bytes: usize,
+    base: u64,
     image: &[u8],
 ) -> Result<Vec<u8>, AllocError>
     requires address_bytes { address_bytes ≤ 8 }
     requires some_token { 1 ≤ token_bytes }
     requires token_bytes { token_bytes ≤ 8 }
     requires image { length image.now < 2 ^ 63 }
+    requires room { base + length image.now ≤ 2 ^ 64 }
     requires counted { length chooser.now ≡ length constructors.now }
     ensures { IfOk result (λ text. Lists has_cube chooser.now (mnemonics constructors.now)
-        address_bytes token_bytes image.now 0 text.items) }
+        address_bytes token_bytes base image.now 0 text.items) }
 {
     let mut out = Vec::new(alloc);
     let mut at = 0;
@@ -84,7 +93,13 @@ fn listing(
         let window = window_at(image, at);
         let point = point_of(window);
         let (count, text) = shown(chooser, constructors, token_bytes, &point);
-        push_listed(&mut out, address_bytes, at as u64, &window[..count], text)?;
+        push_listed(
+            &mut out,
+            address_bytes,
+            base + at as u64,
+            &window[..count],
+            text,
+        )?;
         at += count;
     }
     Ok(out)

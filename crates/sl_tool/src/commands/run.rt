@@ -1,6 +1,6 @@
 //! `run`: the run of an image.
 
-ghost use Rattle.std.specs.Prelude.{◌≡◌, ◌≤◌, ◌^◌, IfOk, length};
+ghost use Rattle.std.specs.Prelude.{◌≡◌, ◌+◌, ◌≤◌, ◌^◌, IfOk, length};
 ghost use Rattle.std.specs.List.{AllByRecursion};
 ghost use Rattle.sl_description.specs.Registers.{address_sizes_of};
 ghost use Rattle.sl_description.specs.Rules.{IsSound};
@@ -38,12 +38,18 @@ pub fn run<K: Sink>(
     out: &mut K,
 ) -> Result<Ending, Halt>
     requires { IsReady input.now }
-    ensures streams { Streams (IsRun (description input.now.checked.tables.compiled.description) input.now.image.items steps)
+    ensures streams { Streams (IsRun (description input.now.checked.tables.compiled.description) input.now.base input.now.image.items steps)
         (K.taken out.old) (K.taken out.new) result }
     ensures sink { UsesSink K.faults K.calls out.old out.new (FailsToWrite result) }
 {
     let compiled = &input.checked.tables.compiled;
-    let (lines, has_stopped) = run_image(alloc, compiled, input.image.as_slice(), steps)?;
+    let (lines, has_stopped) = run_image(
+        alloc,
+        compiled,
+        input.base,
+        input.image.as_slice(),
+        steps,
+    )?;
     write_all(out, lines.as_slice())?;
     Ok(ending_of(has_stopped))
 }
@@ -61,39 +67,41 @@ fn address_sizes(alloc: Global, d: &Description) -> Result<Vec<AddressSize>, All
     Ok(sizes)
 }
 
-/// A machine with the image in its memory, before the first step.
+/// A machine with the image in its memory from the address `base` on, before the first step.
 fn opened(
     alloc: Global,
     d: &Description,
     sizes: &[AddressSize],
+    base: u64,
     image: &[u8],
 ) -> Result<State, AllocError>
     requires sound { IsSound (description d.now) }
     requires sizes { byte_counts sizes.now ≡ address_sizes_of (description d.now) }
-    requires fits { length image.now ≤ 256 ^ d.now.address_bytes }
-    ensures { IfOk result (IsOpened (description d.now) image.now) }
+    requires fits { base + length image.now ≤ 256 ^ d.now.address_bytes }
+    ensures { IfOk result (IsOpened (description d.now) base image.now) }
 {
     let mut state = State::new(alloc, d.endian, sizes)?;
-    state.load_image(SpaceId(0), 0, image)?;
+    state.load_image(SpaceId(0), base, image)?;
     Ok(state)
 }
 
-/// The machine after at most so many steps from the image, and how they ended.
+/// The machine after at most so many steps from the image's first byte, and how they ended.
 fn machine_after(
     alloc: Global,
     compiled: &Compiled,
     sizes: &[AddressSize],
+    base: u64,
     image: &[u8],
     steps: u64,
 ) -> Result<(State, Outcome), AllocError>
     requires compiled { HasCompiled compiled.now }
     requires clear { HasNoConflict has_cube compiled.now.sets.items }
     requires sizes { byte_counts sizes.now ≡ address_sizes_of (description compiled.now.description) }
-    requires fits { length image.now ≤ 256 ^ compiled.now.description.address_bytes }
-    ensures { IfOk result (λ r. HasRun (description compiled.now.description) (statements compiled.now.resolution.sections.items) image.now steps r.0 r.1) }
+    requires fits { base + length image.now ≤ 256 ^ compiled.now.description.address_bytes }
+    ensures { IfOk result (λ r. HasRun (description compiled.now.description) (statements compiled.now.resolution.sections.items) base image.now steps r.0 r.1) }
 {
     let d = &compiled.description;
-    let mut state = opened(alloc, d, sizes, image)?;
+    let mut state = opened(alloc, d, sizes, base, image)?;
     let chooser = Chooser::build(alloc, compiled.sets.as_slice())?;
     let outcome = run_steps(
         alloc,
@@ -103,6 +111,7 @@ fn machine_after(
         d.address_bytes as u8,
         (d.token_bits / 8) as u8,
         &mut state,
+        base,
         steps,
     )?;
     Ok((state, outcome))
@@ -139,18 +148,19 @@ fn run_text(
 fn run_image(
     alloc: Global,
     compiled: &Compiled,
+    base: u64,
     image: &[u8],
     steps: u64,
 ) -> Result<(Vec<u8>, bool), AllocError>
     requires compiled { HasCompiled compiled.now }
     requires clear { HasNoConflict has_cube compiled.now.sets.items }
-    requires fits { length image.now ≤ 256 ^ compiled.now.description.address_bytes }
-    ensures { IfOk result (λ r. IsRun (description compiled.now.description) image.now steps (ending_of r.1) r.0.items) }
+    requires fits { base + length image.now ≤ 256 ^ compiled.now.description.address_bytes }
+    ensures { IfOk result (λ r. IsRun (description compiled.now.description) base image.now steps (ending_of r.1) r.0.items) }
 {
     let d = &compiled.description;
     let sizes = address_sizes(alloc, d)?;
-    let opening = opened(alloc, d, sizes.as_slice(), image)?;
-    let (state, outcome) = machine_after(alloc, compiled, sizes.as_slice(), image, steps)?;
+    let opening = opened(alloc, d, sizes.as_slice(), base, image)?;
+    let (state, outcome) = machine_after(alloc, compiled, sizes.as_slice(), base, image, steps)?;
     let lines = run_text(alloc, compiled, &opening, &state, outcome)?;
     Ok((lines, outcome.stopped))
 }

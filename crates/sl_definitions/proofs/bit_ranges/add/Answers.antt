@@ -40,7 +40,7 @@ places-preserved c =
     let below = c.places-test.true in
     let at = read_map seen ranges c.places.index _ below in
     let rest = ap bit_range_names (rest_at given c.places.index _ (below_map seen ranges c.places.index below) at) in
-    rw (c.in_ok-add.ensures.added, c.in_ok-number.ensures) (record {
+    rw (c.in_ok-add.ensures.added, c.unwrap_or.ensures, c.in_ok-number.ensures) (record {
       made = made_goes (bit_range_of registers) c.args.bitranges.now given c.places.bitranges c.places.index _ (below_map seen ranges c.places.index below) at c.places.invariant.made;
       left = rest_is_left (λ (r : BitRange). r.name) c.places.bitranges _ (bit_range_names (drop (c.places.index + 1) given)) (bit_range_names (drop c.places.index given)) rest c.places.invariant.left
           _ refl;

@@ -19,7 +19,7 @@ steps-init c = record {
   endian = search rules;
   counter = omega arith;
   runs = starts c.args.chooser.now (statements c.args.sections.now) c.args.address_bytes c.args.token_bytes (endian_of c.args.state.now)
-      c.args.steps (byte_at c.args.state.now);
+      c.args.start c.args.steps (byte_at c.args.state.now);
 }
 
 pub steps-preserved : goal.steps-preserved
@@ -36,7 +36,7 @@ steps-preserved c =
       endian = c.run_section.ensures.endian ∙ c.steps.invariant.endian;
       counter = c.wrapped-counter.type_inv;
       runs = continues c.args.chooser.now (statements c.args.sections.now) c.args.address_bytes c.args.token_bytes (endian_of c.args.state.now)
-          c.args.steps start c.steps.ran now between c.steps.counter c.wrapped-counter.result section c.steps-test.true
+          c.args.start c.args.steps start c.steps.ran now between c.steps.counter c.wrapped-counter.result section c.steps-test.true
           (subst (λ (p : Point). IsChosenSection has_cube c.args.chooser.now (statements c.args.sections.now) p section) c.point_at-point.ensures
           (c.in-Some.ensures.chosen))
           runs (rw (c.from.ensures, c.from-in-steps.ensures) at c.wrapped-counter.ensures) (c.steps.invariant.runs);
@@ -45,7 +45,7 @@ steps-preserved c =
 pub returns-in_default-clause-runs : goal.returns-in_default-clause-runs
 returns-in_default-clause-runs c =
     halted c.args.chooser.now (statements c.args.sections.now) c.args.address_bytes c.args.token_bytes (endian_of c.args.state.now)
-    c.args.steps (byte_at c.args.state.now) c.steps.ran (byte_at c.steps.state) c.steps.counter c.steps-test.true
+    c.args.start c.args.steps (byte_at c.args.state.now) c.steps.ran (byte_at c.steps.state) c.steps.counter c.steps-test.true
     (subst (λ (p : Point). IsUnmatched has_cube c.args.chooser.now p) c.point_at-point.ensures (c.in_default.ensures.chosen))
     (c.steps.invariant.runs)
 
@@ -62,4 +62,4 @@ pub returns-clause-runs : goal.returns-clause-runs
 returns-clause-runs c =
     let all : c.steps.ran ≡ c.args.steps = omega arith in
     finished c.args.chooser.now (statements c.args.sections.now) c.args.address_bytes c.args.token_bytes (endian_of c.args.state.now)
-    c.args.steps (byte_at c.args.state.now) c.steps.ran (byte_at c.steps.state) c.steps.counter all (c.steps.invariant.runs)
+    c.args.start c.args.steps (byte_at c.args.state.now) c.steps.ran (byte_at c.steps.state) c.steps.counter all (c.steps.invariant.runs)

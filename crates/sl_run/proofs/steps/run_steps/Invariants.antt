@@ -11,5 +11,5 @@ invariant-steps l = record {
   sizes : address_sizes l.state ≡ address_sizes l.fn.state;
   endian : endian_of l.state ≡ endian_of l.fn.state;
   counter : l.counter < 2 ^ 64;
-  runs : Continues l.chooser (statements l.sections) l.address_bytes l.token_bytes (endian_of l.fn.state) l.steps (byte_at l.fn.state) l.ran (byte_at l.state) l.counter;
+  runs : Continues l.chooser (statements l.sections) l.address_bytes l.token_bytes (endian_of l.fn.state) l.start l.steps (byte_at l.fn.state) l.ran (byte_at l.state) l.counter;
 }

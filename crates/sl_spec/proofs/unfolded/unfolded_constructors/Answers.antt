@@ -10,7 +10,7 @@ pub items-preserved : goal.items-preserved
 items-preserved c =
     let items = c.args.items.now in
     let item = c.index-items-index.result in
-    gathers (map item_of items) (map placed c.items.all.items) (map placed c.add_item.new.all.items) c.items.number c.in_ok-number.number c.items.index (item_of item)
+    gathers (map item_of items) (map placed c.items.all.items) (map placed c.add_unfolded.new.all.items) c.items.number c.in_ok-number.number c.items.index (item_of item)
     (omega (arith, length-map items item_of, c.items-test.true)) (seen_map item_of items c.items.index item c.items-test.true c.index-items-index.is) c.in_ok-number.ensures c.items.invariant
 
 pub returns : goal.returns

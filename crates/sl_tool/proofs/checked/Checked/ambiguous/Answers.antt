@@ -6,7 +6,8 @@ use Rattle.sl_sets.specs.Cubes.{has_cube}
 use Rattle.sl_sets.proofs.AlikeLemmas.{first_conflict_alike, report_alike, alike_there}
 use Rattle.sl_description.specs.Fields.{Matches}
 use Rattle.sl_description.specs.Views.{description}
-use Rattle.sl_tool.specs.Places.{place_of_token, refusal_at}
+use Rattle.sl_tool.specs.Places.{place_of_token}
+use Rattle.sl_tool.specs.Problems.{refusal_at}
 use Rattle.sl_tool.specs.TokensView.{tokens_view}
 use Rattle.sl_tool.specs.declared.place.Place.{Place}
 use Rattle.sl_tool.specs.declared.problem.Problem.TheVariants.{Ambiguous}

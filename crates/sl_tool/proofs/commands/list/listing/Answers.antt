@@ -16,7 +16,7 @@ lines-preserved c =
     let text : List ℕ = c.shown-count.result.1.now in
     let point : c.point_of-point.result ≡ point_at c.args.image.now c.lines.at =
     c.point_of-point.ensures ∙ ap (λ (xs : List ℕ). point_of xs) c.window_at-window.ensures in
-    one_more c.args.chooser.now texts c.args.address_bytes c.args.token_bytes c.args.image.now c.lines.at count text
+    one_more c.args.chooser.now texts c.args.address_bytes c.args.token_bytes c.args.base c.args.image.now c.lines.at count text
     (take count c.window_at-window.result) c.lines.out.items c.push_listed.new.out.items c.lines-test.true
     (subst (λ (p : Point). IsShown c.args.chooser.now texts c.args.token_bytes p count text) point c.shown-count.ensures.shown)
     (ap (λ (xs : List ℕ). take count xs) c.window_at-window.ensures ∙ shown_bytes c.args.image.now c.lines.at count (omega arith))
@@ -24,5 +24,5 @@ lines-preserved c =
 
 pub returns : goal.returns
 returns c =
-    all_listed c.args.chooser.now (mnemonics c.args.constructors.now) c.args.address_bytes c.args.token_bytes c.args.image.now c.lines.at c.lines.out.items c.lines-test.false
+    all_listed c.args.chooser.now (mnemonics c.args.constructors.now) c.args.address_bytes c.args.token_bytes c.args.base c.args.image.now c.lines.at c.lines.out.items c.lines-test.false
     c.lines.invariant

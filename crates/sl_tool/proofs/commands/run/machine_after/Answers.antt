@@ -45,11 +45,11 @@ returns c =
     let cubes = compiled.sets.items in
     let start = byte_at c.in_ok-state.state in
     let o = c.in_ok-outcome.outcome in
-    let ran = subst (λ (ks : List Cube). Runs has_cube ks (statements c.as_slice-2.result.now) d.address_bytes (d.token_bits / 8) (endian_of c.in_ok-state.state) c.args.steps start 0 o.ran
+    let ran = subst (λ (ks : List Cube). Runs has_cube ks (statements c.as_slice-2.result.now) d.address_bytes (d.token_bits / 8) (endian_of c.in_ok-state.state) c.args.steps start c.args.base o.ran
     (byte_at c.run_steps.new.state) o.counter o.stopped) (c.in_ok-chooser.ensures ∙ c.as_slice.ensures.value) c.in_ok-outcome.ensures.runs in
-    let with_endian = subst (λ (e : Endian). Runs has_cube cubes (statements c.as_slice-2.result.now) d.address_bytes (d.token_bits / 8) e c.args.steps start 0 o.ran
+    let with_endian = subst (λ (e : Endian). Runs has_cube cubes (statements c.as_slice-2.result.now) d.address_bytes (d.token_bits / 8) e c.args.steps start c.args.base o.ran
     (byte_at c.run_steps.new.state) o.counter o.stopped) c.in_ok-state.ensures.endian ran in
-    let with_sections = subst (λ (xs : List (Vec Sum Global)). Runs has_cube cubes (statements xs) d.address_bytes (d.token_bits / 8) d.endian c.args.steps start 0 o.ran
+    let with_sections = subst (λ (xs : List (Vec Sum Global)). Runs has_cube cubes (statements xs) d.address_bytes (d.token_bits / 8) d.endian c.args.steps start c.args.base o.ran
     (byte_at c.run_steps.new.state) o.counter o.stopped) c.as_slice-2.ensures.value with_endian in
     record {
       start = start;
@@ -57,5 +57,5 @@ returns c =
       endian = c.in_ok-outcome.ensures.endian ∙ c.in_ok-state.ensures.endian;
       image = c.in_ok-state.ensures.image;
       runs = run_alike has_cube (Matches d) cubes d.constructors (alike_sets d d.constructors cubes c.requires.compiled.1.sets) m.sections d.address_bytes (d.token_bits / 8) d.endian c.args.steps
-          start (byte_at c.run_steps.new.state) 0 o.ran o.counter o.stopped (image_bytes c.args.image.now start c.in_ok-state.ensures.image (λ i. let fits = c.type_inv.image i in omega arith)) with_sections;
+          start (byte_at c.run_steps.new.state) c.args.base o.ran o.counter o.stopped (image_bytes c.args.base c.args.image.now start c.in_ok-state.ensures.image (λ i. let fits = c.type_inv.image i in omega arith)) with_sections;
     }

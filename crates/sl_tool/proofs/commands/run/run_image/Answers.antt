@@ -18,5 +18,5 @@ pub returns : goal.returns
 returns c =
     let d = description c.args.compiled.now.description in
     let m = resolution c.args.compiled.now.resolution in
-    ran_is d m c.args.image.now c.args.steps c.in_ok-opening.opening c.in_ok-state.state c.in_ok-state.outcome c.in_ok-lines.lines.items c.requires.compiled.1.resolved
+    ran_is d m c.args.base c.args.image.now c.args.steps c.in_ok-opening.opening c.in_ok-state.state c.in_ok-state.outcome c.in_ok-lines.lines.items c.requires.compiled.1.resolved
     c.requires.compiled.1.are.sound.definitions.greatest_address c.in_ok-opening.ensures c.in_ok-state.ensures c.in_ok-lines.ensures

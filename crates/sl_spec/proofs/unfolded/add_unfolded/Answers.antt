@@ -6,7 +6,7 @@ use Rattle.sl_ast.specs.declared.items.ItemKind.TheVariants as kind
 use Rattle.sl_spec.specs.Unfolded.{placed}
 use Rattle.sl_spec.specs.Walks.{AddsItem}
 use Rattle.sl_spec.proofs.WalkLemmas.{adds_other, adds_own}
-use Rattle.sl_spec.proofs.unfolded.add_item.Goals as goal
+use Rattle.sl_spec.proofs.unfolded.add_unfolded.Goals as goal
 
 pub returns-in-Constructor : goal.returns-in-Constructor
 returns-in-Constructor c =
