@@ -7,6 +7,11 @@ use Rattle.sl_levels.specs.Levels.{MeetEquations, TakesSuccessors, level, value}
 use Rattle.sl_levels.specs.Orders.{IsOrder}
 use Rattle.sl_levels.specs.Reaching.{Graph, successors}
 
+-- The values of the nodes before a place of the order are right up to a cap.
+pub record AreRight {C : Type 0} (graph : Graph) (step : (ℕ → ℕ) → C → ℕ) (node : ℕ → C) (order : List ℕ) (cap : ℕ) (values : List ℕ) (i : ℕ) : Type 0 where
+  pub long : length values ≡ length graph
+  pub right : (j : ℕ) → j < i → get_or values (get_or order j 0) 0 ≡ min (value graph step node (get_or order j 0)) cap
+
 module _ {C : Type 0} (graph : Graph) (step : (ℕ → ℕ) → C → ℕ) (node : ℕ → C) (takes : TakesSuccessors graph step node)
     (order : List ℕ) (is : IsOrder graph order) where
   outside_level : (k v : ℕ) → length graph ≤ v → level step node k v ≡ 0
@@ -38,28 +43,23 @@ module _ {C : Type 0} (graph : Graph) (step : (ℕ → ℕ) → C → ℕ) (node
   -- ---- values up to a cap, one after another in the order
 
   module _ (cap : ℕ) (caps : (v : ℕ) (f g : ℕ → ℕ) → ((w : ℕ) → Contains (successors graph v) w → f w ≡ min (g w) cap) → min (step f (node v)) cap ≡ min (step g (node v)) cap) where
-    -- the values of the nodes before a place of the order are right
-    pub record AreRight (values : List ℕ) (i : ℕ) : Type 0 where
-      pub long : length values ≡ length graph
-      pub right : (j : ℕ) → j < i → get_or values (get_or order j 0) 0 ≡ min (value graph step node (get_or order j 0)) cap
-
     pub outside : (values : List ℕ) (w : ℕ) → length values ≡ length graph → length graph ≤ w → get_or values w 0 ≡ min (value graph step node w) cap
     outside values w long past = get_or_past values w 0 (omega arith) ∙ (let e = outside_level (length graph) w past in omega arith)
 
-    before : (values : List ℕ) (i : ℕ) → i < length order → AreRight values i → (w : ℕ) → Contains (successors graph (get_or order i 0)) w → get_or values w 0 ≡ min (value graph step node w) cap
+    before : (values : List ℕ) (i : ℕ) → i < length order → AreRight graph step node order cap values i → (w : ℕ) → Contains (successors graph (get_or order i 0)) w → get_or values w 0 ≡ min (value graph step node w) cap
     before values i at are w c = elim (cases_lt w (length graph)) [
       | inl inside ↦ let s = is.behind i at w c inside in subst (λ (x : ℕ). get_or values x 0 ≡ min (value graph step node x) cap) s.2 (are.right s.0 s.1)
       | inr past ↦ outside values w are.long past
     ]
 
-    reckoned : (values : List ℕ) (i : ℕ) → i < length order → AreRight values i
+    reckoned : (values : List ℕ) (i : ℕ) → i < length order → AreRight graph step node order cap values i
         → min (step (λ w. get_or values w 0) (node (get_or order i 0))) cap ≡ min (value graph step node (get_or order i 0)) cap
     reckoned values i at are =
         caps (get_or order i 0) (λ w. get_or values w 0) (value graph step node) (before values i at are) ∙ ap (λ n. min n cap) (sym (meets_at i at))
 
     -- one node more
     pub one_right : (values : List ℕ) (i v n : ℕ) → i < length order → v ≡ get_or order i 0 → n ≡ min (step (λ w. get_or values w 0) (node v)) cap
-        → length (set values v n) ≡ length values → AreRight values i → AreRight (set values v n) (i + 1)
+        → length (set values v n) ≡ length values → AreRight graph step node order cap values i → AreRight graph step node order cap (set values v n) (i + 1)
     one_right values i v n at is_v is_n same are = record {
       long = same ∙ are.long;
       right = λ j below. by j below (cases_eq (get_or order j 0) v);
@@ -79,7 +79,7 @@ module _ {C : Type 0} (graph : Graph) (step : (ℕ → ℕ) → C → ℕ) (node
         ])
 
     -- and so all are
-    pub all_right : (values : List ℕ) → AreRight values (length order) → (v : ℕ) → get_or values v 0 ≡ min (value graph step node v) cap
+    pub all_right : (values : List ℕ) → AreRight graph step node order cap values (length order) → (v : ℕ) → get_or values v 0 ≡ min (value graph step node v) cap
     all_right values are v = elim (cases_lt v (length graph)) [
       | inl inside ↦ let s = is.all v inside in subst (λ (x : ℕ). get_or values x 0 ≡ min (value graph step node x) cap) s.2 (are.right s.0 s.1)
       | inr past ↦ outside values v are.long past
