@@ -1,0 +1,13 @@
+//! Rules over the tables and constructors of a whole text: a default space, constructors of
+//! `instruction`, tables that reach themselves, and the lengths and nodes of instructions.
+#![tactic(auto)]
+
+mod faults;
+mod judge;
+mod lengths;
+mod quantities;
+mod rows;
+mod rules;
+
+pub use faults::{LateFault, Place};
+pub use judge::judge_tables;
