@@ -3,6 +3,12 @@ use Rattle.std.specs.Prelude.{Bool, true, false, ◌||◌, List, [], ◌∷◌, 
 use Rattle.sl_ast.specs.Trees.{Name, Pattern, bare, constraint, group, ellipsis, joined}
 use Rattle.sl_ast.specs.declared.patterns.PatternOp.{PatternOp}
 use Rattle.sl_ast.specs.declared.patterns.PatternOp.TheVariants.{And, Then, Or}
+use Rattle.sl_spec.specs.Named.{has_name}
+use Rattle.sl_spec.specs.Tables.{Table}
+
+-- whether one of the tables has the name
+abbrev pub is_table : List Table → Name → Bool
+is_table tables name = has_name (λ b. b.name) name tables
 
 -- a name: whether it stands alone, inside `|`, and right of a `;` whose left side holds a table
 pub record Part : Type 0 where
@@ -40,3 +46,7 @@ parts is_table in_choice behind (ellipsis p) = parts is_table in_choice behind p
 parts is_table in_choice behind (joined op l r) =
     parts is_table (is_in_choice op in_choice) behind l
     ++ parts is_table (is_in_choice op in_choice) (is_behind op behind (holds_table is_table l)) r
+
+-- the parts of a whole pattern
+abbrev pub parts_of : List Table → Pattern → List Part
+parts_of tables p = parts (is_table tables) false false p

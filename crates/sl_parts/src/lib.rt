@@ -2,5 +2,7 @@
 #![tactic(auto)]
 
 mod part;
+mod walk;
 
 pub use part::Part;
+pub use walk::{is_table, parts_of};
