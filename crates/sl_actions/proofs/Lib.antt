@@ -1,0 +1,5 @@
+pub mod Arguments
+pub mod Folds
+pub mod HoldingLemmas
+pub mod StandingLemmas
+pub mod WrittenLemmas

@@ -1,0 +1,84 @@
+//! The names that actions set.
+
+ghost use Rattle.std.specs.Prelude.{◌≡◌, OnOk, IfOk};
+ghost use Rattle.sl_ast.specs.Views.{action_of};
+ghost use Rattle.sl_actions.specs.ActionNames.{action_names, is_context_field, is_token_field};
+ghost use Rattle.sl_actions.specs.ActionNames.{with_action, with_name};
+ghost use Rattle.sl_actions.specs.SeenActions.{seen_actions};
+
+use sl_ast::patterns::Action;
+use sl_rules::NameSet;
+use sl_spec::Tables;
+use std::alloc::{AllocError, Global};
+
+/// An action of a constructor or of a block round it.
+#[derive(Clone, Copy)]
+pub struct ActionRef<'s, 'a> {
+    pub action: &'s Action<'a>,
+}
+
+/// Whether a field of the context has this name.
+pub(crate) fn is_context_field(t: &Tables, name: &[u8]) -> bool
+    ensures { result ≡ is_context_field t.now name.now }
+{
+    match t.fields.get(name) {
+        Some(field) => field.token.is_none(),
+        None => false,
+    }
+}
+
+/// Whether a field of a token has this name.
+pub(crate) fn is_token_field(t: &Tables, name: &[u8]) -> bool
+    ensures { result ≡ is_token_field t.now name.now }
+{
+    match t.fields.get(name) {
+        Some(field) => field.token.is_some(),
+        None => false,
+    }
+}
+
+/// Adds a name, which stands once.
+pub(crate) fn add_once<'a>(names: &mut NameSet<'a>, name: &'a [u8]) -> Result<(), AllocError>
+    ensures { OnOk result (names.new ≡ with_name names.old name.now) }
+{
+    if !names.has(name) {
+        names.add(name)?;
+    }
+    Ok(())
+}
+
+/// Adds the name that an action sets, where it is no field of the context.
+pub(crate) fn add_action<'a>(
+    t: &Tables<'a>,
+    names: &mut NameSet<'a>,
+    action: &Action<'a>,
+) -> Result<(), AllocError>
+    ensures { OnOk result (names.new ≡ with_action t.now names.old (action_of action.now)) }
+{
+    match action {
+        Action::Assign(name, _) => {
+            if !is_context_field(t, name) {
+                add_once(names, name)?;
+            }
+        }
+        Action::GlobalSet(_, _) => {}
+    }
+    Ok(())
+}
+
+/// The names that actions set, each once, in the text's order. Fields of the context are none of
+/// them.
+pub fn action_names<'s, 'a>(
+    alloc: Global,
+    t: &Tables<'a>,
+    actions: &[ActionRef<'s, 'a>],
+) -> Result<NameSet<'a>, AllocError>
+    ensures { IfOk result (λ names. names
+        ≡ action_names t.now (seen_actions actions.now)) }
+{
+    let mut names = NameSet::new(alloc);
+    'actions: for index in 0..actions.len() {
+        add_action(t, &mut names, actions[index].action)?;
+    }
+    Ok(names)
+}
