@@ -8,7 +8,7 @@ use Rattle.sl_rules.specs.Names.{Name, is_among}
 use Rattle.sl_parts.specs.Parts.{Part}
 use Rattle.sl_actions.specs.ActionNames.{with_name}
 use Rattle.sl_actions.specs.PatternNames.{standing_of, with_part}
-use Rattle.sl_actions.specs.Standing.{Standing, has_name, standing}
+use Rattle.sl_actions.specs.Standing.{Standing, standing}
 use Rattle.sl_actions.specs.declared.pattern_names.PatternNames.{PatternNames}
 
 or_swap : (a b c : Bool) → ((a || b) || c) ≡ (a || (b || c))
@@ -41,24 +41,24 @@ among_if : (b : Bool) (names : List Name) (n w : Name) → is_among (cond b (wit
 among_if true names n w = among_more names n w
 among_if false names n w = sym (or_false (is_among names w))
 
-anywhere_of : (names : PatternNames) (ps : List Part) (w : Name) → is_among (fold with_part names ps).anywhere w ≡ (is_among names.anywhere w || list_any (has_name w) ps)
+anywhere_of : (names : PatternNames) (ps : List Part) (w : Name) → is_among (fold with_part names ps).anywhere w ≡ (is_among names.anywhere w || list_any (λ p. bytes_eq w p.name) ps)
 anywhere_of names [] w = sym (or_false (is_among names.anywhere w))
 anywhere_of names (p ∷ ps) w =
-    anywhere_of (with_part names p) ps w ∙ ap (λ b. b || list_any (has_name w) ps) (among_more names.anywhere p.name w)
-    ∙ or_swap (is_among names.anywhere w) (bytes_eq w p.name) (list_any (has_name w) ps)
+    anywhere_of (with_part names p) ps w ∙ ap (λ b. b || list_any (λ p. bytes_eq w p.name) ps) (among_more names.anywhere p.name w)
+    ∙ or_swap (is_among names.anywhere w) (bytes_eq w p.name) (list_any (λ p. bytes_eq w p.name) ps)
 
-bare_of : (names : PatternNames) (ps : List Part) (w : Name) → is_among (fold with_part names ps).bare w ≡ (is_among names.bare w || list_any (λ p. p.bare && has_name w p) ps)
+bare_of : (names : PatternNames) (ps : List Part) (w : Name) → is_among (fold with_part names ps).bare w ≡ (is_among names.bare w || list_any (λ p. p.bare && bytes_eq w p.name) ps)
 bare_of names [] w = sym (or_false (is_among names.bare w))
 bare_of names (p ∷ ps) w =
-    bare_of (with_part names p) ps w ∙ ap (λ b. b || list_any (λ q. q.bare && has_name w q) ps) (among_if p.bare names.bare p.name w)
-    ∙ or_swap (is_among names.bare w) (p.bare && bytes_eq w p.name) (list_any (λ q. q.bare && has_name w q) ps)
+    bare_of (with_part names p) ps w ∙ ap (λ b. b || list_any (λ q. q.bare && bytes_eq w q.name) ps) (among_if p.bare names.bare p.name w)
+    ∙ or_swap (is_among names.bare w) (p.bare && bytes_eq w p.name) (list_any (λ q. q.bare && bytes_eq w q.name) ps)
 
 behind_of : (names : PatternNames) (ps : List Part) (w : Name)
-    → is_among (fold with_part names ps).behind_table w ≡ (is_among names.behind_table w || list_any (λ p. p.behind_table && has_name w p) ps)
+    → is_among (fold with_part names ps).behind_table w ≡ (is_among names.behind_table w || list_any (λ p. p.behind_table && bytes_eq w p.name) ps)
 behind_of names [] w = sym (or_false (is_among names.behind_table w))
 behind_of names (p ∷ ps) w =
-    behind_of (with_part names p) ps w ∙ ap (λ b. b || list_any (λ q. q.behind_table && has_name w q) ps) (among_if p.behind_table names.behind_table p.name w)
-    ∙ or_swap (is_among names.behind_table w) (p.behind_table && bytes_eq w p.name) (list_any (λ q. q.behind_table && has_name w q) ps)
+    behind_of (with_part names p) ps w ∙ ap (λ b. b || list_any (λ q. q.behind_table && bytes_eq w q.name) ps) (among_if p.behind_table names.behind_table p.name w)
+    ∙ or_swap (is_among names.behind_table w) (p.behind_table && bytes_eq w p.name) (list_any (λ q. q.behind_table && bytes_eq w q.name) ps)
 
 abbrev made : (Name → Bool) → (Name → Bool) → (Name → Bool) → Standing
 made a b c = record { anywhere = a; bare = b; behind_table = c }
@@ -72,6 +72,6 @@ none_before names w rest none = ap (λ (ns : List Name). is_among ns w || rest) 
 pub all_stand : (start now : PatternNames) (ps : List Part) → start.anywhere ≡ [] → start.bare ≡ [] → start.behind_table ≡ [] → now ≡ fold with_part start ps → standing_of now ≡ standing ps
 all_stand start now ps a b c is =
     ap standing_of is ∙ alike
-    (fun_ext (λ w. anywhere_of start ps w ∙ none_before start.anywhere w (list_any (has_name w) ps) a))
-    (fun_ext (λ w. bare_of start ps w ∙ none_before start.bare w (list_any (λ p. p.bare && has_name w p) ps) b))
-    (fun_ext (λ w. behind_of start ps w ∙ none_before start.behind_table w (list_any (λ p. p.behind_table && has_name w p) ps) c))
+    (fun_ext (λ w. anywhere_of start ps w ∙ none_before start.anywhere w (list_any (λ p. bytes_eq w p.name) ps) a))
+    (fun_ext (λ w. bare_of start ps w ∙ none_before start.bare w (list_any (λ p. p.bare && bytes_eq w p.name) ps) b))
+    (fun_ext (λ w. behind_of start ps w ∙ none_before start.behind_table w (list_any (λ p. p.behind_table && bytes_eq w p.name) ps) c))

@@ -2,8 +2,8 @@
 use Rattle.std.specs.Prelude.{Bool, false, List, [], ◌∷◌, ◌++◌, fold, Option, None, Some}
 use Rattle.std.specs.Prelude.{is_none, is_some, if◌then◌else◌}
 use Rattle.sl_ast.specs.Trees.{Action, set, global_set, Expression, Expressions}
-use Rattle.sl_ast.specs.Trees.{integer, named, paren, call, sized, dropped, bits, prefix, star, binary}
-use Rattle.sl_ast.specs.Trees.{no_more, with_more}
+use Rattle.sl_ast.specs.Trees.{integer, named, paren, call, sized, dropped, bits, prefix, star}
+use Rattle.sl_ast.specs.Trees.{binary, no_more, with_more}
 use Rattle.sl_rules.specs.Names.{Name, is_among}
 use Rattle.sl_spec.specs.Named as by_name
 use Rattle.sl_spec.specs.Tables.{Field}

@@ -12,13 +12,10 @@ pub record Standing : Type 0 where
   pub bare : Name → Bool
   pub behind_table : Name → Bool
 
-abbrev pub has_name : Name → Part → Bool
-has_name name p = bytes_eq name p.name
-
 -- One part of that name is enough, whatever others stand there.
 abbrev pub standing : List Part → Standing
 standing ps = record {
-  anywhere = λ name. list_any (has_name name) ps;
-  bare = λ name. list_any (λ p. p.bare && has_name name p) ps;
-  behind_table = λ name. list_any (λ p. p.behind_table && has_name name p) ps;
+  anywhere = λ name. list_any (λ p. bytes_eq name p.name) ps;
+  bare = λ name. list_any (λ p. p.bare && bytes_eq name p.name) ps;
+  behind_table = λ name. list_any (λ p. p.behind_table && bytes_eq name p.name) ps;
 }

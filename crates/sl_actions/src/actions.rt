@@ -108,9 +108,10 @@ fn all_holding<'s, 'a>(
     Ok(holds)
 }
 
-/// The number of the first of the rules 21 to 25 that the actions of a constructor break: `all` are
-/// the tables of the whole text, `t` is what is defined before the constructor, `parts` are those of
-/// its pattern, and `actions` its own behind those of the blocks round it.
+/// The number of the first of the rules 21 to 25 that the actions of a constructor break. `all` are
+/// the tables of the whole text, `t` is what is defined before the constructor, `parts` are those
+/// of its pattern, and `actions` its own behind those of the blocks round it.
+#[tactic(auto, unfolding(crate::specs::ActionRules::each_holds))]
 pub fn judge_actions<'s, 'a>(
     alloc: Global,
     all: &Named<'a, Table<'a>>,
@@ -121,6 +122,9 @@ pub fn judge_actions<'s, 'a>(
     ensures { IfOk result (λ broken. broken
         ≡ first_broken (action_demands all.now t.now parts.now (seen_actions actions.now))) }
 {
+    if actions.is_empty() {
+        return Ok(None);
+    }
     let stands = names_of(alloc, parts)?;
     let holds = all_holding(alloc, all, t, &stands, actions)?;
     Ok(first_number(holds))

@@ -5,8 +5,9 @@ ghost use Rattle.std.specs.List.{list_all, list_any};
 ghost use Rattle.std.specs.Str.{bytes_eq};
 ghost use Rattle.sl_ast.specs.Views.{action_of, operand_of_address};
 ghost use Rattle.sl_rules.specs.Names.{is_among};
-ghost use Rattle.sl_actions.specs.ActionRules.{built_in_names, has_address, has_new_left, is_address};
-ghost use Rattle.sl_actions.specs.ActionRules.{is_early, is_global, is_next, is_start, is_usable};
+ghost use Rattle.sl_actions.specs.ActionRules.{built_in_names, has_address, has_new_left};
+ghost use Rattle.sl_actions.specs.ActionRules.{is_address, is_early, is_global, is_next, is_start};
+ghost use Rattle.sl_actions.specs.ActionRules.{is_usable};
 ghost use Rattle.sl_actions.specs.ActionRules.{sets_context_field, uses_early_names};
 ghost use Rattle.sl_actions.specs.ActionRules.{uses_known_names};
 ghost use Rattle.sl_actions.specs.PatternNames.{standing_of};
@@ -57,7 +58,7 @@ fn is_built_in(name: &[u8]) -> bool
 }
 
 /// Whether the name is a global one.
-fn is_global<'a>(all: &Named<'a, Table<'a>>, t: &Tables<'a>, name: &[u8]) -> bool
+fn is_global(all: &Named<Table>, t: &Tables, name: &[u8]) -> bool
     ensures { result ≡ is_global all.now t.now name.now }
 {
     is_built_in(name)
@@ -73,11 +74,11 @@ fn is_global<'a>(all: &Named<'a, Table<'a>>, t: &Tables<'a>, name: &[u8]) -> boo
 
 /// Rule 21, of one action.
 #[tactic(auto, unfolding(crate::specs::ActionRules::has_new_left))]
-pub(crate) fn has_new_left<'a>(
-    all: &Named<'a, Table<'a>>,
-    t: &Tables<'a>,
-    before: &NameSet<'a>,
-    action: &Action<'a>,
+pub(crate) fn has_new_left(
+    all: &Named<Table>,
+    t: &Tables,
+    before: &NameSet,
+    action: &Action,
 ) -> bool
     ensures { result ≡ has_new_left all.now t.now before.now (action_of action.now) }
 {
@@ -90,12 +91,7 @@ pub(crate) fn has_new_left<'a>(
 }
 
 /// Whether the expression of an action may use the name.
-fn is_usable<'a>(
-    t: &Tables<'a>,
-    stands: &PatternNames<'a>,
-    before: &NameSet<'a>,
-    name: &[u8],
-) -> bool
+fn is_usable(t: &Tables, stands: &PatternNames, before: &NameSet, name: &[u8]) -> bool
     ensures { result ≡ is_usable t.now (standing_of stands.now) before.now name.now }
 {
     is_token_field(t, name) && stands.anywhere.has(name)
@@ -105,12 +101,7 @@ fn is_usable<'a>(
         || is_next(name)
 }
 
-fn all_usable<'a>(
-    t: &Tables<'a>,
-    stands: &PatternNames<'a>,
-    before: &NameSet<'a>,
-    names: &[&[u8]],
-) -> bool
+fn all_usable(t: &Tables, stands: &PatternNames, before: &NameSet, names: &[&[u8]]) -> bool
     ensures { result
         ≡ list_all (λ n. is_usable t.now (standing_of stands.now) before.now n.now) names.now }
 {
@@ -119,12 +110,12 @@ fn all_usable<'a>(
 
 /// Rule 22, of one action.
 #[tactic(auto, using(sl_rules::proofs::Seen::seen), unfolding(crate::specs::ActionRules::uses_known_names))]
-pub(crate) fn uses_known_names<'a>(
+pub(crate) fn uses_known_names(
     alloc: Global,
-    t: &Tables<'a>,
-    stands: &PatternNames<'a>,
-    before: &NameSet<'a>,
-    action: &Action<'a>,
+    t: &Tables,
+    stands: &PatternNames,
+    before: &NameSet,
+    action: &Action,
 ) -> Result<bool, AllocError>
     ensures { IfOk result (λ holds. holds
         ≡ uses_known_names t.now (standing_of stands.now) before.now (action_of action.now)) }
@@ -139,13 +130,13 @@ pub(crate) fn uses_known_names<'a>(
 }
 
 /// Whether the expression of an action on a context field may use the name.
-fn is_early<'a>(stands: &PatternNames<'a>, before: &NameSet<'a>, name: &[u8]) -> bool
+fn is_early(stands: &PatternNames, before: &NameSet, name: &[u8]) -> bool
     ensures { result ≡ is_early (standing_of stands.now) before.now name.now }
 {
     !is_next(name) && !before.has(name) && !stands.behind_table.has(name)
 }
 
-fn all_early<'a>(stands: &PatternNames<'a>, before: &NameSet<'a>, names: &[&[u8]]) -> bool
+fn all_early(stands: &PatternNames, before: &NameSet, names: &[&[u8]]) -> bool
     ensures { result
         ≡ list_all (λ n. is_early (standing_of stands.now) before.now n.now) names.now }
 {
@@ -154,12 +145,12 @@ fn all_early<'a>(stands: &PatternNames<'a>, before: &NameSet<'a>, names: &[&[u8]
 
 /// Rule 23, of one action.
 #[tactic(auto, using(sl_rules::proofs::Seen::seen), unfolding(crate::specs::ActionRules::uses_early_names))]
-pub(crate) fn uses_early_names<'a>(
+pub(crate) fn uses_early_names(
     alloc: Global,
-    t: &Tables<'a>,
-    stands: &PatternNames<'a>,
-    before: &NameSet<'a>,
-    action: &Action<'a>,
+    t: &Tables,
+    stands: &PatternNames,
+    before: &NameSet,
+    action: &Action,
 ) -> Result<bool, AllocError>
     ensures { IfOk result (λ holds. holds
         ≡ uses_early_names t.now (standing_of stands.now) before.now (action_of action.now)) }
@@ -178,11 +169,7 @@ pub(crate) fn uses_early_names<'a>(
 
 /// Rule 24, of one action.
 #[tactic(auto, unfolding(crate::specs::ActionRules::sets_context_field))]
-pub(crate) fn sets_context_field<'a>(
-    t: &Tables<'a>,
-    before: &NameSet<'a>,
-    action: &Action<'a>,
-) -> bool
+pub(crate) fn sets_context_field(t: &Tables, before: &NameSet, action: &Action) -> bool
     ensures { result ≡ sets_context_field t.now before.now (action_of action.now) }
 {
     match action {
@@ -192,12 +179,7 @@ pub(crate) fn sets_context_field<'a>(
 }
 
 /// Whether the address of a `globalset` is one.
-fn is_address<'a>(
-    t: &Tables<'a>,
-    stands: &PatternNames<'a>,
-    before: &NameSet<'a>,
-    at: &Address<'a>,
-) -> bool
+fn is_address(t: &Tables, stands: &PatternNames, before: &NameSet, at: &Address) -> bool
     ensures { result
         ≡ is_address t.now (standing_of stands.now) before.now (operand_of_address at.now) }
 {
@@ -214,11 +196,11 @@ fn is_address<'a>(
 
 /// Rule 25, of one action.
 #[tactic(auto, unfolding(crate::specs::ActionRules::has_address))]
-pub(crate) fn has_address<'a>(
-    t: &Tables<'a>,
-    stands: &PatternNames<'a>,
-    before: &NameSet<'a>,
-    action: &Action<'a>,
+pub(crate) fn has_address(
+    t: &Tables,
+    stands: &PatternNames,
+    before: &NameSet,
+    action: &Action,
 ) -> bool
     ensures { result
         ≡ has_address t.now (standing_of stands.now) before.now (action_of action.now) }
