@@ -1,6 +1,7 @@
 //! Sets of names.
 
 ghost use Rattle.std.specs.Prelude.{◌≡◌, ◌∷◌, [], ◌++◌, OnOk, OnErr, IfOk, false, map};
+ghost use Rattle.std.specs.Prelude.{length, option_map, slice_get};
 ghost use Rattle.sl_rules.specs.Names.{are_distinct, is_among};
 
 use indexmap::IndexSet;
@@ -35,6 +36,23 @@ impl<'a> NameSet<'a> {
         ensures { result ≡ is_among self.now name.now }
     {
         self.names.contains(name)
+    }
+
+    /// How many names there are.
+    pub fn len(&self) -> usize
+        ensures { result ≡ length self.now }
+    {
+        self.names.len()
+    }
+
+    /// The name at an index.
+    pub fn at(&self, index: usize) -> Option<&'a [u8]>
+        ensures { option_map (λ name. name.now) result ≡ slice_get self.now index }
+    {
+        match self.names.get_index(index) {
+            Some(name) => Some(*name),
+            None => None,
+        }
     }
 
     /// Adds a name that isn't there yet.

@@ -172,7 +172,7 @@ adds_outer_block h number next parts old new walked =
     record {
       constructors = block_added [] h number next parts old new walked
           ∙ ap (λ (l : List (Placed Constructor)). old ++ l)
-              (all_under_none mine ∙ sym (constructors_in-items mine) ∙ ap constructors_in (sym (append-nil (as_items mine))));
+          (all_under_none mine ∙ sym (constructors_in-items mine) ∙ ap constructors_in (sym (append-nil (as_items mine))));
       rest = λ items.
           ap (λ (k : ℕ). as_items mine ++ unfolded_from k items) (sym (block_number [] h number next parts old new walked))
           ∙ ap (λ (l : List (Placed Item)). l ++ unfolded_from next items) (sym (append-nil (as_items mine)));

@@ -1,4 +1,5 @@
 pub mod Attachments
+pub mod Begun
 pub mod FieldValues
 pub mod Named
 pub mod Tables

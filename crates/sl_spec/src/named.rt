@@ -5,8 +5,11 @@ ghost use Rattle.std.specs.Prelude.{OnOk, OnErr, option_copied, slice_get, lengt
 ghost use Rattle.std.specs.List.{list_any};
 ghost use Rattle.std.specs.Str.{bytes_eq};
 ghost use Rattle.std.specs.Map.Iter.{ShowsInOrder, deref};
+ghost use Rattle.sl_spec.specs.Begun.{with_constructor, with_number, with_number_at};
 ghost use Rattle.sl_spec.specs.Named.{has_name, named, index_named};
 
+use crate::constructors::Table;
+use crate::ids::CtorId;
 use indexmap::IndexMap;
 use indexmap::map::Values;
 use std::alloc::{AllocError, Global};
@@ -107,5 +110,42 @@ impl<'a, T: Entry + Drop> Named<'a, T> {
     {
         self.by_name.insert(name, added)?;
         Ok(())
+    }
+}
+
+/// Adds the number of a constructor.
+fn add_number(table: &mut Table, number: CtorId) -> Result<(), AllocError>
+    ensures name { table.new.name ≡ table.old.name }
+    ensures added { OnOk result (table.new ≡ with_number table.old number) }
+{
+    table.constructors.push(number)?;
+    Ok(())
+}
+
+impl<'a> Named<'a, Table<'a>> {
+    /// Adds the number of a constructor to the table at an index.
+    fn add_number(&mut self, index: usize, number: CtorId) -> Result<(), AllocError>
+        requires { index < length self.old }
+        ensures { OnOk result (self.new ≡ with_number_at self.old index number) }
+    {
+        add_number(&mut self.by_name[index], number)
+    }
+
+    /// Adds the number of a constructor to the table of this name, which is added as the last one
+    /// if it isn't there.
+    pub fn add_constructor(
+        &mut self,
+        alloc: Global,
+        name: &'a [u8],
+        number: CtorId,
+    ) -> Result<(), AllocError>
+        ensures { OnOk result (self.new ≡ with_constructor self.old name.now number) }
+    {
+        if let Some(index) = self.index_of(name) {
+            return self.add_number(index, number);
+        }
+        let mut constructors = Vec::new(alloc);
+        constructors.push(number)?;
+        self.add(name, Table { name, constructors })
     }
 }
