@@ -1,5 +1,6 @@
 pub mod Arguments
 pub mod Folds
 pub mod HoldingLemmas
+pub mod RowTheorems
 pub mod StandingLemmas
 pub mod WrittenLemmas
