@@ -1,5 +1,5 @@
 -- meaning: rules 32 to 37, over the tables and constructors of a whole text.
-use Rattle.std.specs.Prelude.{ℕ, ◌==◌, ◌&&◌, Bool, cond, nat_lt, List, [], ◌∷◌, ◌++◌, Option, Some, None, option_map, length, slice_get, find}
+use Rattle.std.specs.Prelude.{ℕ, ◌+◌, ◌==◌, ◌&&◌, Bool, cond, nat_lt, List, [], ◌∷◌, ◌++◌, Option, Some, None, option_map, length, slice_get, find}
 use Rattle.std.specs.List.{list_any}
 use Rattle.sl_ast.specs.Trees.{Constructor}
 use Rattle.sl_ast.specs.Unfolding.{Placed}
@@ -23,6 +23,18 @@ first_place test rs = option_map place_of (find test rs)
 abbrev pub broken_at : Bool → Option Place → Option Place
 broken_at holds place = cond holds None place
 
+-- how many constructors there may be
+abbrev pub most_constructors : ℕ
+most_constructors = 65535
+
+-- how many nodes an instruction may have
+abbrev pub most_nodes : ℕ
+most_nodes = 1024
+
+-- how many bytes an instruction may have
+abbrev pub most_bytes : ℕ
+most_bytes = 255
+
 -- 32: a default space exists
 unfoldable pub has_default : Tables → Bool
 has_default t = list_any (λ s. s.default) t.spaces
@@ -33,7 +45,7 @@ has_instruction rs = list_any (is_of 0) rs
 
 -- 33: there are at most 65,535 constructors in all
 unfoldable pub past_most : List Row → Option Place
-past_most rs = option_map place_of (slice_get rs 65535)
+past_most rs = option_map place_of (slice_get rs most_constructors)
 
 -- 34: no table reaches itself
 unfoldable pub reaching_place : List (List Row) → List Row → Option Place
@@ -46,11 +58,11 @@ empty_place t gs rs =
 
 -- 36: `instruction` has at most 1,024 nodes
 unfoldable pub has_few_nodes : Tables → List (List Row) → Bool
-has_few_nodes t gs = nat_lt (table_amount Nodes t gs 0) 1025
+has_few_nodes t gs = nat_lt (table_amount Nodes t gs 0) (1 + most_nodes)
 
 -- 37: `instruction` has at most 255 bytes
 unfoldable pub is_short : Tables → List (List Row) → Bool
-is_short t gs = nat_lt (table_amount Greatest t gs 0) 256
+is_short t gs = nat_lt (table_amount Greatest t gs 0) (1 + most_bytes)
 
 -- rules 32 and 33 with the places where they are broken
 abbrev pub early_rules : Tables → List Row → List (ℕ × Option Place)

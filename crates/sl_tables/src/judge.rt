@@ -21,11 +21,11 @@ use sl_levels::order_of;
 use sl_spec::{Tables, Unfolded};
 use std::alloc::{AllocError, Global};
 
-/// One more than the nodes that an instruction may have.
-const TOO_MANY_NODES: usize = 1025;
+/// How many nodes an instruction may have.
+const MOST_NODES: usize = 1024;
 
-/// One more than the bytes that an instruction may have.
-const TOO_LONG: usize = 256;
+/// How many bytes an instruction may have.
+const MOST_BYTES: usize = 255;
 
 /// The first broken one of rules 32 and 33.
 fn early_fault(t: &Tables, rows: &[Row]) -> Option<LateFault>
@@ -79,7 +79,7 @@ fn nodes_place(
         (first_place (is_of 0) (rows_of rows.now))) }
 {
     let values = table_amounts(alloc, Quantity::Nodes, t, groups, order)?;
-    if known(values.as_slice(), 0) < TOO_MANY_NODES {
+    if known(values.as_slice(), 0) <= MOST_NODES {
         return Ok(None);
     }
     let place = first_of_instruction(rows);
@@ -99,7 +99,7 @@ fn bytes_place(
         (first_place (is_of 0) (rows_of rows.now))) }
 {
     let values = table_amounts(alloc, Quantity::Greatest, t, groups, order)?;
-    if known(values.as_slice(), 0) < TOO_LONG {
+    if known(values.as_slice(), 0) <= MOST_BYTES {
         return Ok(None);
     }
     let place = first_of_instruction(rows);

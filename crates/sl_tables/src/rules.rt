@@ -12,8 +12,8 @@ use crate::lengths::row_bytes;
 use crate::rows::{Row, number};
 use sl_spec::Tables;
 
-/// One more than the number of constructors that there may be.
-const TOO_MANY: usize = 65_536;
+/// How many constructors there may be.
+const MOST_CONSTRUCTORS: usize = 65_535;
 
 /// Whether a constructor is one of `instruction`.
 fn is_of_instruction(row: &Row) -> bool
@@ -67,7 +67,7 @@ fn row_at<'r, 'x, 's: 'x, 'a: 's>(
 pub fn past_most(rows: &[Row]) -> Option<Place>
     ensures { result ≡ past_most (rows_of rows.now) }
 {
-    match row_at(rows, TOO_MANY - 1) {
+    match row_at(rows, MOST_CONSTRUCTORS) {
         Some(row) => Some(place(row)),
         None => None,
     }
