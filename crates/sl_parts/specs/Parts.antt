@@ -1,4 +1,5 @@
--- meaning: the names of a pattern in the order of the text (SLEIGH manual, "The Bit Pattern Section").
+-- meaning: the names of a pattern in the order of the text (SLEIGH manual, "The Bit Pattern
+-- Section").
 use Rattle.std.specs.Prelude.{Bool, true, false, ◌||◌, List, [], ◌∷◌, ◌++◌}
 use Rattle.sl_ast.specs.Trees.{Name, Pattern, bare, constraint, group, ellipsis, joined}
 use Rattle.sl_ast.specs.declared.patterns.PatternOp.{PatternOp}

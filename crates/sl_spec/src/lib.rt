@@ -20,4 +20,4 @@ pub use ids::{CtorId, FieldId, RegId, TableId};
 pub use listed::Listed;
 pub use named::{Entry, Named};
 pub use tables::Tables;
-pub use unfolded::{Around, Unfolded, unfolded_constructors};
+pub use unfolded::{Around, Unfolded, add_unfolded, unfolded_constructors};

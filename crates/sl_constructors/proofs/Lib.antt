@@ -1,0 +1,6 @@
+pub mod BlockLemmas
+pub mod DisplayLemmas
+pub mod OperandLemmas
+mod RowTheorems
+mod TableLemmas
+pub mod ValueLemmas

@@ -1,0 +1,15 @@
+//! Constructors: all rules by which one is judged, and what each adds to the tables.
+#![tactic(auto)]
+
+mod constraints;
+mod constructors;
+mod displays;
+mod laws;
+mod operands;
+mod patterns;
+mod whole_text;
+
+pub use constraints::constraint_value;
+pub use constructors::define_constructor;
+pub use laws::tables_stand_in_order;
+pub use whole_text::{all_tables, table_name};
