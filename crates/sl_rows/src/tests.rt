@@ -9,5 +9,6 @@ mod options;
 mod parser;
 mod refusals;
 mod runs;
+mod tables;
 mod texts;
 mod words;

@@ -1,0 +1,4 @@
+pub mod Indexes
+pub mod Refusals
+pub mod Steps
+pub mod Verdict
