@@ -8,7 +8,7 @@ mod listings;
 mod options;
 mod parser;
 mod refusals;
+mod rules;
 mod runs;
-mod tables;
 mod texts;
 mod words;

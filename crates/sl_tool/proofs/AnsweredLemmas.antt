@@ -1,5 +1,5 @@
 -- Stages that stop, what was written by then, and the names that were asked for.
-use Rattle.std.proofs.Common.{ℕ, ◌+◌, ◌≤◌, List, [], ◌∷◌, ◌++◌, Option, Some, None, Result, Ok, Err, sym, ap, subst, ◌∙◌, length, take, min, inl, inr, append_assoc, arith}
+use Rattle.std.proofs.Common.{◌≡◌, ℕ, ◌+◌, ◌≤◌, List, [], ◌∷◌, ◌++◌, Option, Some, None, Result, Ok, Err, refl, sym, ap, subst, ◌∙◌, length, take, min, inl, inr, append-nil, append_assoc, arith}
 use Rattle.std.proofs.KnownBytes.{Appends-nil}
 use Rattle.std.proofs.Math.Seq.{take-append-add}
 use Rattle.std.proofs.lemmas.List.{take-append-le, take_min}
@@ -7,18 +7,22 @@ use Rattle.sl_outside.specs.Causes.{Rose}
 use Rattle.sl_outside.specs.Folder.{Folder}
 use Rattle.sl_outside.specs.Uses.{Names, Asks, AsksFront, UsesFiles, UsesSink}
 use Rattle.sl_preproc.specs.Asks.{AsksFor as AsksForText}
-use Rattle.sl_sets.proofs.Surely.{surely, surely_map}
-use Rattle.sl_tool.specs.Answers.{Answers, AsksFor, Due, UsesFilesFor}
-use Rattle.sl_tool.specs.Answers.AsksFor.{refused, accepted}
-use Rattle.sl_tool.specs.Outcomes.{FailsToRead, FailsToWrite, Gives, IsEarly, IsReadFault, Obtains, StopsEarly, Streams, Writes}
-use Rattle.sl_tool.specs.Request.{Request}
-use Rattle.sl_tool.specs.Stages.{Judges}
-use Rattle.sl_tool.specs.Values.{Tables, Shown, shown}
+use Rattle.sl_request.specs.Requests.{Target}
+use Rattle.sl_sets.proofs.Surely.{Surely, surely, surely_map, surely_then}
+use Rattle.sl_tool.specs.Answers.{AsksAfter, AsksFor, AsksForImage, Due, UsesFilesFor}
+use Rattle.sl_tool.specs.Answers.AsksFor.{unread, read}
+use Rattle.sl_tool.specs.Answers.AsksForImage.{refused, accepted}
+use Rattle.sl_tool.specs.Outcomes.{FailsToRead, FailsToWrite, Gives, IsEarly, IsReadFault, Obtains, StopsEarly, Streams, Writes, WritesFront}
+use Rattle.sl_tool.specs.Request.{CheckSpec, Request, ShowImage, spec_of}
+use Rattle.sl_tool.specs.Stage.{Stage, Then}
+use Rattle.sl_tool.specs.Stage.Then.{stops, goes}
+use Rattle.sl_tool.specs.Stages.{Accepts, Reads}
+use Rattle.sl_tool.specs.Values.{Shown, Tables, Tree, shown}
 use Rattle.sl_tool.specs.declared.halt.Halt.{Halt}
 use Rattle.sl_tool.specs.declared.halt.Halt.TheVariants.{Refused, ReadFault, WriteFault, NoMemory}
 use Rattle.sl_tool.specs.declared.refusal.Refusal.{Refusal}
 use Rattle.sl_tool.specs.declared.status.Ending.{Ending}
-use Rattle.sl_tool.proofs.StageLemmas.{judges_some}
+use Rattle.sl_tool.proofs.StageLemmas.{accepts_some, reads_some}
 
 pub gives_obtains : {T B : Type 0} (S : Result B Refusal → Type 0) (view : T → B) (h : Halt) → Gives S view (Err h) → Obtains S view (Err h)
 gives_obtains S view (Refused x) g = g
@@ -26,15 +30,51 @@ gives_obtains S view ReadFault g = absurd g
 gives_obtains S view WriteFault g = g
 gives_obtains S view NoMemory g = g
 
+-- ---- two stages that neither read nor write
+
+pub gives_stops : {T U A B C : Type 0} (S : Stage Refusal A B) (R : Stage Refusal B C) (a : A) (view : T → B) (later : U → C) (h : Halt)
+    → Gives (S a) view (Err h) → Gives (Then S R a) later (Err h)
+gives_stops S R a view later (Refused x) g = stops g
+gives_stops S R a view later ReadFault g = g
+gives_stops S R a view later WriteFault g = g
+gives_stops S R a view later NoMemory g = g
+
+pub gives_goes : {U A B C : Type 0} (S : Stage Refusal A B) (R : Stage Refusal B C) (a : A) (b : B) (later : U → C) (h : Halt)
+    → S a (Ok b) → Gives (R b) later (Err h) → Gives (Then S R a) later (Err h)
+gives_goes S R a b later (Refused x) s g = goes s g
+gives_goes S R a b later ReadFault s g = g
+gives_goes S R a b later WriteFault s g = g
+gives_goes S R a b later NoMemory s g = g
+
 -- ---- what was written
 
 -- a stage that stops, before anything was written
-pub stop_writes : {T B : Type 0} (told : Option Folder) (r : Request) (S : Result B Refusal → Type 0) (view : T → B) (a : Option (List ℕ)) (h : Halt)
-    → ((e : Refusal) → S (Err e) → Answers told r (Err e)) → Obtains S view (Err h) → Writes (Answers told r) a a (Err h)
-stop_writes told r S view a (Refused x) f g = (f x g, Appends-nil a)
-stop_writes told r S view a ReadFault f g = Appends-nil a
-stop_writes told r S view a WriteFault f g = absurd g
-stop_writes told r S view a NoMemory f g = inl (Appends-nil a)
+pub stop_writes : {T B : Type 0} (S : Result B Refusal → Type 0) (view : T → B) (R : Result Shown Refusal → Type 0) (a : Option (List ℕ)) (h : Halt)
+    → ((e : Refusal) → S (Err e) → R (Err e)) → Obtains S view (Err h) → Writes R a a (Err h)
+stop_writes S view R a (Refused x) f g = (f x g, Appends-nil a)
+stop_writes S view R a ReadFault f g = Appends-nil a
+stop_writes S view R a WriteFault f g = absurd g
+stop_writes S view R a NoMemory f g = inl (Appends-nil a)
+
+front_map : (S R : Result Shown Refusal → Type 0) (a b : Option (List ℕ)) → ((r : Result Shown Refusal) → S r → R r) → WritesFront S a b → WritesFront R a b
+front_map S R a b f w = (w.0, w.1, f w.0 w.2, w.3)
+
+-- what was written of one stage was written of a row of stages that comes to the same
+pub writes_map : (S R : Result Shown Refusal → Type 0) (a b : Option (List ℕ)) (x : Result Ending Halt) → ((r : Result Shown Refusal) → S r → R r) → Writes S a b x → Writes R a b x
+writes_map S R a b (Ok e) f g = (g.0, f (Ok (shown e g.0)) g.1, g.2)
+writes_map S R a b (Err (Refused x)) f g = (f (Err x) g.0, g.1)
+writes_map S R a b (Err ReadFault) f g = g
+writes_map S R a b (Err WriteFault) f g = front_map S R a b f g
+writes_map S R a b (Err NoMemory) f (inl w) = inl w
+writes_map S R a b (Err NoMemory) f (inr w) = inr (front_map S R a b f w)
+
+-- a command that writes nothing
+pub gives_writes : (S : Result Shown Refusal → Type 0) (a : Option (List ℕ)) (x : Result Ending Halt) → Gives S (λ e. shown e []) x → Writes S a a x
+gives_writes S a (Ok e) g = ([], g, Appends-nil a)
+gives_writes S a (Err (Refused x)) g = (g, Appends-nil a)
+gives_writes S a (Err ReadFault) g = Appends-nil a
+gives_writes S a (Err WriteFault) g = absurd g
+gives_writes S a (Err NoMemory) g = inl (Appends-nil a)
 
 -- a command that writes what is due
 pub show_writes : (S : Result Shown Refusal → Type 0) (due : Due) (a b : Option (List ℕ)) (x : Result Ending Halt)
@@ -54,6 +94,15 @@ stop_sink S view faults calls out ReadFault g = record { never_falls = omega ari
 stop_sink S view faults calls out WriteFault g = absurd g
 stop_sink S view faults calls out NoMemory g = record { never_falls = omega arith; failed = λ f. absurd f; goes_on = omega arith }
 
+-- a command that doesn't use the sink
+pub gives_sink : {K : Type 0} (S : Result Shown Refusal → Type 0) (faults calls : K → ℕ) (out : K) (x : Result Ending Halt) → Gives S (λ e. shown e []) x
+    → UsesSink faults calls out out (FailsToWrite x)
+gives_sink S faults calls out (Ok e) g = record { never_falls = omega arith; failed = λ f. absurd f; goes_on = omega arith }
+gives_sink S faults calls out (Err (Refused x)) g = record { never_falls = omega arith; failed = λ f. absurd f; goes_on = omega arith }
+gives_sink S faults calls out (Err ReadFault) g = absurd g
+gives_sink S faults calls out (Err WriteFault) g = absurd g
+gives_sink S faults calls out (Err NoMemory) g = record { never_falls = omega arith; failed = λ f. absurd f; goes_on = omega arith }
+
 never_reads : (due : Due) (a b : Option (List ℕ)) (x : Result Ending Halt) → Streams due a b x → FailsToRead x → ⊥
 never_reads due a b (Ok s) g f = f
 never_reads due a b (Err (Refused x)) g f = f
@@ -65,6 +114,10 @@ pub show_unwritten : {P : Type 0} (due : Due) (a b : Option (List ℕ)) (x : Res
 show_unwritten due a b x g f = absurd (never_reads due a b x g f)
 
 -- ---- names
+
+pub Asks-nil : (a : Names) → Asks a a []
+Asks-nil None = tt
+Asks-nil (Some x) = sym (append-nil x)
 
 Asks-trans : (a b c : Names) (xs ys : List (List ℕ)) → Asks a b xs → Asks b c ys → Asks a c (xs ++ ys)
 Asks-trans None b c xs ys h k = tt
@@ -81,110 +134,173 @@ front_more a b names more w =
       subst (λ (l : List (List ℕ)). Asks a b l) (sym (take_min w.0 names) ∙ sym (take-append-le count names more within)) w.1,
     )
 
+-- all of some names, and then the first of others
+front_after : (a b c : Names) (names more : List (List ℕ)) → Asks a b names → AsksFront b c more → AsksFront a c (names ++ more)
+front_after a b c names more all w = (
+  length names + w.0,
+  subst (λ (l : List (List ℕ)). Asks a c l) (sym (take-append-add names more w.0)) (Asks-trans a b c names (take w.0 more) all w.1),
+)
+
 rose_more : (a b c : ℕ) → a ≤ b → Rose b c → Rose a c
 rose_more a b c h k = omega (arith, h, k)
 
--- what was asked for by now is the front of what is due, whatever the verdict
-pub front_due : (told : Option Folder) (r : Request) (names : List (List ℕ)) (a b : Names) → AsksForText told r.target.spec names → AsksFront a b names
-    → (q : Result Tables Refusal) × Judges told r.target.spec q → (due : List (List ℕ)) × AsksFor told r due × AsksFront a b due
-front_due told r names a b text front (Err x, j) = (names, refused text j, front)
-front_due told r names a b text front (Ok t, j) = (names ++ r.target.image ∷ [], accepted text j, front_more a b names (r.target.image ∷ []) front)
+-- the image is asked for, or it isn't
+image_some : (t : Target) (u : Tree) → Surely ((names : List (List ℕ)) × AsksForImage t u names)
+image_some t u = surely_map by (accepts_some u)
+  where
+    by : (q : Result Tables Refusal) × Accepts u q → (names : List (List ℕ)) × AsksForImage t u names
+    by (Err x, j) = ([], refused j)
+    by (Ok b, j) = (t.image ∷ [], accepted j)
 
-module _ {F : Type 0} (told : F → Option Folder) (faults : F → ℕ) (asked : F → Names) (r : Request) where
+after_some : (r : Request) (u : Tree) → Surely ((names : List (List ℕ)) × AsksAfter r u names)
+after_some (CheckSpec spec) u = surely (let p : (names : List (List ℕ)) × (names ≡ []) = ([], refl) in p)
+after_some (ShowImage command t) u = image_some t u
+
+abbrev pub FrontDue : (List (List ℕ) → Type 0) → Names → Names → Type 0
+FrontDue due a b = (names : List (List ℕ)) × due names × AsksFront a b names
+
+-- what was asked for by now is the front of what is due, whatever becomes of the text
+front_by : (told : Option Folder) (r : Request) (names : List (List ℕ)) (a b : Names) → AsksForText told (spec_of r) names → AsksFront a b names
+    → (q : Result Tree Refusal) × Reads told (spec_of r) q → Surely (FrontDue (AsksFor told r) a b)
+front_by told r names a b text front (Err x, j) = surely (let p : FrontDue (AsksFor told r) a b = (names, unread text j, front) in p)
+front_by told r names a b text front (Ok u, j) =
+    surely_map (λ (m : (more : List (List ℕ)) × AsksAfter r u more).
+    let p : FrontDue (AsksFor told r) a b = (names ++ m.0, read names m.0 text j m.1, front_more a b names m.0 front) in p) (after_some r u)
+
+pub front_due : (told : Option Folder) (r : Request) (names : List (List ℕ)) (a b : Names) → AsksForText told (spec_of r) names → AsksFront a b names
+    → Surely (FrontDue (AsksFor told r) a b)
+front_due told r names a b text front = surely_then (reads_some told (spec_of r)) (front_by told r names a b text front)
+
+module _ {F : Type 0} (told : F → Option Folder) (faults : F → ℕ) (asked : F → Names) where
   abbrev Uses : F → F → List (List ℕ) → Type 0 → Type 0 → Type 0
   Uses = UsesFiles told faults asked
 
-  abbrev UsesFor : F → F → Type 0 → Type 0 → Type 0
-  UsesFor = UsesFilesFor told faults asked r
+  abbrev UsesFor : (List (List ℕ) → Type 0) → F → F → Type 0 → Type 0 → Type 0
+  UsesFor = UsesFilesFor told faults asked
 
-  -- the names of the text were asked for
-  abbrev AsksText : F → F → Type 0 → Type 0 → Type 0
-  AsksText old new early fails = (names : List (List ℕ)) × AsksForText (told old) r.target.spec names × Uses old new names early fails
-
-  abbrev FrontDue : F → F → Type 0
-  FrontDue old new = (due : List (List ℕ)) × AsksFor (told old) r due × AsksFront (asked old) (asked new) due
-
-  some_front : (old new : F) (early fails : Type 0) → AsksText old new early fails → (FrontDue old new → ⊥) → ⊥
-  some_front old new early fails u = surely_map (front_due (told old) r u.0 (asked old) (asked new) u.1 u.2.asks_front) (judges_some (told old) r.target.spec)
-
-  refuses : (old new : F) (early fails f : Type 0) (x : Refusal) → Judges (told old) r.target.spec (Err x) → AsksText old new early fails → (early → ⊥) → (f → ⊥) → UsesFor old new ⊥ f
-  refuses old new early fails f x j u never no_fault = record {
-    same_folder = u.2.same_folder;
-    never_falls = u.2.never_falls;
-    failed = λ h. absurd (no_fault h);
-    asks_front = surely (let p : FrontDue old new = (u.0, refused u.1 j, u.2.asks_front) in p);
-    asks_all = λ n. (u.0, refused u.1 j, u.2.asks_all never);
+  -- a part that asks for nothing
+  idle : (due : List (List ℕ) → Type 0) (old : F) (early fails : Type 0) → Surely ((names : List (List ℕ)) × due names) → ((early → ⊥) → due []) → (fails → ⊥)
+      → UsesFor due old old early fails
+  idle due old early fails some none never = record {
+    same_folder = refl;
+    never_falls = omega arith;
+    failed = λ f. absurd (never f);
+    asks_front = surely_map (λ (n : (names : List (List ℕ)) × due names).
+        let p : FrontDue due (asked old) (asked old) = (n.0, n.1, (0, Asks-nil (asked old))) in p) some;
+    asks_all = λ n. ([], none n, Asks-nil (asked old));
   }
 
-  stops_early : (old new : F) (early fails f : Type 0) → AsksText old new early fails → (f → Rose (faults old) (faults new)) → UsesFor old new (Unit {0}) f
-  stops_early old new early fails f u failed = record {
-    same_folder = u.2.same_folder;
-    never_falls = u.2.never_falls;
-    failed = failed;
-    asks_front = some_front old new early fails u;
-    asks_all = λ n. absurd (n tt);
-  }
-
-  -- the text could not be had, or was refused
-  pub stop_first : {T B : Type 0} (S : Result B Refusal → Type 0) (view : T → B) (old new : F) (h : Halt)
-      → ((e : Refusal) → S (Err e) → Judges (told old) r.target.spec (Err e)) → Obtains S view (Err h)
-      → AsksText old new (IsEarly {T = T} (Err h)) (FailsToRead {T = T} (Err h)) → UsesFor old new (IsEarly {T = Ending} (Err h)) (FailsToRead {T = Ending} (Err h))
-  stop_first S view old new (Refused x) f g u = refuses old new _ _ _ x (f x g) u (λ e. e) (λ e. e)
-  stop_first S view old new ReadFault f g u = stops_early old new _ _ _ u (λ e. u.2.failed e)
-  stop_first S view old new WriteFault f g u = absurd g
-  stop_first S view old new NoMemory f g u = stops_early old new _ _ _ u (λ e. absurd e)
-
-  -- a stage that reads nothing stopped
-  pub stop_pure : {T B : Type 0} (S : Result B Refusal → Type 0) (view : T → B) (old new : F) (early fails : Type 0) (h : Halt)
-      → ((e : Refusal) → S (Err e) → Judges (told old) r.target.spec (Err e)) → Gives S view (Err h) → AsksText old new early fails → (early → ⊥)
-      → UsesFor old new (IsEarly {T = Ending} (Err h)) (FailsToRead {T = Ending} (Err h))
-  stop_pure S view old new early fails (Refused x) f g u never = refuses old new early fails _ x (f x g) u never (λ e. e)
-  stop_pure S view old new early fails ReadFault f g u never = absurd g
-  stop_pure S view old new early fails WriteFault f g u never = absurd g
-  stop_pure S view old new early fails NoMemory f g u never = stops_early old new early fails _ u (λ e. absurd e)
+  -- a command that reads nothing
+  pub gives_files : (S : Result Shown Refusal → Type 0) (old : F) (x : Result Ending Halt) → Gives S (λ e. shown e []) x
+      → UsesFor (λ names. names ≡ []) old old (IsEarly x) (FailsToRead x)
+  gives_files S old x g =
+      idle (λ names. names ≡ []) old (IsEarly x) (FailsToRead x) (surely (let p : (names : List (List ℕ)) × (names ≡ []) = ([], refl) in p)) (λ n. refl) (never x g)
+    where
+      never : (y : Result Ending Halt) → Gives S (λ e. shown e []) y → FailsToRead y → ⊥
+      never (Ok e) h f = f
+      never (Err (Refused z)) h f = f
+      never (Err ReadFault) h f = h
+      never (Err WriteFault) h f = f
+      never (Err NoMemory) h f = f
 
   -- ---- the image
 
-  -- the image was asked for after the text
-  joined : (old mid new : F) (b : Tables) (early fails e f : Type 0) → Judges (told old) r.target.spec (Ok b) → AsksText old mid early fails → (early → ⊥)
-      → Uses mid new (r.target.image ∷ []) e f → UsesFor old new e f
-  joined old mid new b early fails e f j u never v =
-      let names : List (List ℕ) = u.0 in
-      let all = u.2.asks_all never in
-      let due : AsksFor (told old) r (names ++ r.target.image ∷ []) = accepted u.1 j in
-      record {
-        same_folder = v.same_folder ∙ u.2.same_folder;
-        never_falls = omega (arith, u.2.never_falls, v.never_falls);
-        failed = λ h. rose_more _ _ _ u.2.never_falls (v.failed h);
-        asks_front = surely (let p : FrontDue old new = (
-          names ++ r.target.image ∷ [],
-          due,
-          (
-            length names + v.asks_front.0,
-            subst (λ (l : List (List ℕ)). Asks (asked old) (asked new) l) (sym (take-append-add names (r.target.image ∷ []) v.asks_front.0))
-                (Asks-trans _ _ _ names (take v.asks_front.0 (r.target.image ∷ [])) all v.asks_front.1),
-          ),
-        ) in p);
-        asks_all = λ n. (names ++ r.target.image ∷ [], due, Asks-trans _ _ _ names (r.target.image ∷ []) all (v.asks_all n));
-      }
+  module _ (t : Target) (u : Tree) where
+    -- a stage that reads nothing stopped
+    pub stop_pure : {T B : Type 0} (S : Result B Refusal → Type 0) (view : T → B) (old : F) (h : Halt)
+        → ((e : Refusal) → S (Err e) → Accepts u (Err e)) → Gives S view (Err h)
+        → UsesFor (AsksForImage t u) old old (IsEarly {T = Ending} (Err h)) (FailsToRead {T = Ending} (Err h))
+    stop_pure S view old (Refused x) f g = idle (AsksForImage t u) old _ _ (image_some t u) (λ n. refused (f x g)) (λ e. e)
+    stop_pure S view old ReadFault f g = absurd g
+    stop_pure S view old WriteFault f g = absurd g
+    stop_pure S view old NoMemory f g = idle (AsksForImage t u) old _ _ (image_some t u) (λ n. absurd (n tt)) (λ e. e)
 
-  -- the image could not be had, or was refused
-  pub stop_second : (old mid new : F) (b : Tables) (early fails : Type 0) (h : Halt) → Judges (told old) r.target.spec (Ok b) → AsksText old mid early fails → (early → ⊥)
-      → Uses mid new (r.target.image ∷ []) (StopsEarly h) (IsReadFault h) → UsesFor old new (StopsEarly h) (IsReadFault h)
-  stop_second old mid new b early fails (Refused x) j u never v = joined old mid new b early fails _ _ j u never v
-  stop_second old mid new b early fails ReadFault j u never v = joined old mid new b early fails _ _ j u never v
-  stop_second old mid new b early fails WriteFault j u never v = joined old mid new b early fails _ _ j u never v
-  stop_second old mid new b early fails NoMemory j u never v = joined old mid new b early fails _ _ j u never v
+    -- the image was asked for
+    pub imaged : (old new : F) (b : Tables) (early fails : Type 0) → Accepts u (Ok b) → Uses old new (t.image ∷ []) early fails → UsesFor (AsksForImage t u) old new early fails
+    imaged old new b early fails j v = record {
+      same_folder = v.same_folder;
+      never_falls = v.never_falls;
+      failed = v.failed;
+      asks_front = surely (let p : FrontDue (AsksForImage t u) (asked old) (asked new) = (t.image ∷ [], accepted j, v.asks_front) in p);
+      asks_all = λ n. (t.image ∷ [], accepted j, v.asks_all n);
+    }
 
-  -- all files were read
-  pub read_all : (old mid new : F) (b : Tables) (early fails e f : Type 0) (due : Due) (x y : Option (List ℕ)) (q : Result Ending Halt) → Judges (told old) r.target.spec (Ok b)
-      → AsksText old mid early fails → (early → ⊥) → Uses mid new (r.target.image ∷ []) e f → (e → ⊥) → Streams due x y q → UsesFor old new (IsEarly q) (FailsToRead q)
-  read_all old mid new b early fails e f due x y q j u never v also s =
-      let w = joined old mid new b early fails e f j u never v in
-      record {
-        same_folder = w.same_folder;
-        never_falls = w.never_falls;
-        failed = λ h. absurd (never_reads due x y q s h);
-        asks_front = w.asks_front;
-        asks_all = λ n. w.asks_all also;
-      }
+    -- the image could not be had, or was refused
+    pub stop_image : (old new : F) (b : Tables) (h : Halt) → Accepts u (Ok b) → Uses old new (t.image ∷ []) (StopsEarly h) (IsReadFault h)
+        → UsesFor (AsksForImage t u) old new (StopsEarly h) (IsReadFault h)
+    stop_image old new b h j v = imaged old new b (StopsEarly h) (IsReadFault h) j v
+
+    -- all files were read
+    pub read_all : (old new : F) (b : Tables) (early fails : Type 0) (due : Due) (x y : Option (List ℕ)) (q : Result Ending Halt) → Accepts u (Ok b)
+        → Uses old new (t.image ∷ []) early fails → (early → ⊥) → Streams due x y q → UsesFor (AsksForImage t u) old new (IsEarly q) (FailsToRead q)
+    read_all old new b early fails due x y q j v also s =
+        let w = imaged old new b early fails j v in
+        record {
+          same_folder = w.same_folder;
+          never_falls = w.never_falls;
+          failed = λ h. absurd (never_reads due x y q s h);
+          asks_front = w.asks_front;
+          asks_all = λ n. w.asks_all also;
+        }
+
+  -- ---- the text, and what is asked for after it
+
+  module _ (r : Request) where
+    -- the names of the text were asked for
+    abbrev AsksText : F → F → Type 0 → Type 0 → Type 0
+    AsksText old new early fails = (names : List (List ℕ)) × AsksForText (told old) (spec_of r) names × Uses old new names early fails
+
+    refuses : (old new : F) (early fails f : Type 0) (x : Refusal) → Reads (told old) (spec_of r) (Err x) → AsksText old new early fails → (early → ⊥) → (f → ⊥)
+        → UsesFor (AsksFor (told old) r) old new ⊥ f
+    refuses old new early fails f x j w never no_fault = record {
+      same_folder = w.2.same_folder;
+      never_falls = w.2.never_falls;
+      failed = λ h. absurd (no_fault h);
+      asks_front = surely (let p : FrontDue (AsksFor (told old) r) (asked old) (asked new) = (w.0, unread w.1 j, w.2.asks_front) in p);
+      asks_all = λ n. (w.0, unread w.1 j, w.2.asks_all never);
+    }
+
+    stops_early : (old new : F) (early fails f : Type 0) → AsksText old new early fails → (f → Rose (faults old) (faults new)) → UsesFor (AsksFor (told old) r) old new (Unit {0}) f
+    stops_early old new early fails f w failed = record {
+      same_folder = w.2.same_folder;
+      never_falls = w.2.never_falls;
+      failed = failed;
+      asks_front = front_due (told old) r w.0 (asked old) (asked new) w.1 w.2.asks_front;
+      asks_all = λ n. absurd (n tt);
+    }
+
+    -- the text could not be had, or was refused
+    pub stop_first : {T B : Type 0} (S : Result B Refusal → Type 0) (view : T → B) (old new : F) (h : Halt)
+        → ((e : Refusal) → S (Err e) → Reads (told old) (spec_of r) (Err e)) → Obtains S view (Err h)
+        → AsksText old new (IsEarly {T = T} (Err h)) (FailsToRead {T = T} (Err h))
+        → UsesFor (AsksFor (told old) r) old new (IsEarly {T = Ending} (Err h)) (FailsToRead {T = Ending} (Err h))
+    stop_first S view old new (Refused x) f g w = refuses old new _ _ _ x (f x g) w (λ e. e) (λ e. e)
+    stop_first S view old new ReadFault f g w = stops_early old new _ _ _ w (λ e. w.2.failed e)
+    stop_first S view old new WriteFault f g w = absurd g
+    stop_first S view old new NoMemory f g w = stops_early old new _ _ _ w (λ e. absurd e)
+
+    -- the text was read and spells no tree
+    pub stop_second : {T B : Type 0} (S : Result B Refusal → Type 0) (view : T → B) (old new : F) (early fails : Type 0) (h : Halt)
+        → ((e : Refusal) → S (Err e) → Reads (told old) (spec_of r) (Err e)) → Gives S view (Err h) → AsksText old new early fails → (early → ⊥)
+        → UsesFor (AsksFor (told old) r) old new (IsEarly {T = Ending} (Err h)) (FailsToRead {T = Ending} (Err h))
+    stop_second S view old new early fails (Refused x) f g w never = refuses old new early fails _ x (f x g) w never (λ e. e)
+    stop_second S view old new early fails ReadFault f g w never = absurd g
+    stop_second S view old new early fails WriteFault f g w never = absurd g
+    stop_second S view old new early fails NoMemory f g w never = stops_early old new early fails _ w (λ e. absurd e)
+
+    -- the tree is there, and what follows asks for its own names
+    pub follows : (old mid new : F) (u : Tree) (early fails e f : Type 0) → Reads (told old) (spec_of r) (Ok u) → AsksText old mid early fails → (early → ⊥)
+        → UsesFor (AsksAfter r u) mid new e f → UsesFor (AsksFor (told old) r) old new e f
+    follows old mid new u early fails e f j w never v =
+        let all = w.2.asks_all never in
+        record {
+          same_folder = v.same_folder ∙ w.2.same_folder;
+          never_falls = omega (arith, w.2.never_falls, v.never_falls);
+          failed = λ h. rose_more _ _ _ w.2.never_falls (v.failed h);
+          asks_front = surely_map (λ (m : FrontDue (AsksAfter r u) (asked mid) (asked new)).
+              let p : FrontDue (AsksFor (told old) r) (asked old) (asked new) =
+              (w.0 ++ m.0, read w.0 m.0 w.1 j m.1, front_after (asked old) (asked mid) (asked new) w.0 m.0 all m.2) in p) v.asks_front;
+          asks_all = λ n.
+              let m = v.asks_all n in
+              (w.0 ++ m.0, read w.0 m.0 w.1 j m.1, Asks-trans (asked old) (asked mid) (asked new) w.0 m.0 all m.2);
+        }

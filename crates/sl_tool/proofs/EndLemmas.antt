@@ -1,5 +1,5 @@
 -- What stands written at the end of a call, and the files that it asked for.
-use Rattle.std.proofs.Common.{◌≡◌, ℕ, ◌⊎◌, inl, inr, List, [], ◌∷◌, Option, Some, None, Result, Ok, Err, refl, sym, ap, subst, ◌∙◌, take, append-nil, arith}
+use Rattle.std.proofs.Common.{◌≡◌, ℕ, ◌⊎◌, inl, inr, List, [], ◌∷◌, Option, Some, None, Result, Ok, Err, refl, sym, ap, subst, ◌∙◌, take, arith}
 use Rattle.std.specs.Io.KnownBytes.{Appends}
 use Rattle.std.proofs.KnownBytes.{Appends-trans}
 use Rattle.sl_description.proofs.EachLemmas.{some_is}
@@ -8,13 +8,13 @@ use Rattle.sl_outside.specs.Uses.{Names, Asks, AsksFront}
 use Rattle.sl_preproc.specs.Asks.{AsksFor as AsksForText}
 use Rattle.sl_preproc.specs.Expanded.{asked_by}
 use Rattle.sl_preproc.proofs.MainLemmas.{asked_first}
-use Rattle.sl_sets.proofs.Surely.{Surely, surely_map}
+use Rattle.sl_sets.proofs.Surely.{Surely}
 use Rattle.sl_tool.specs.Answers.{Answers, AsksFor, UsesFilesFor, text_of, status_of}
 use Rattle.sl_tool.specs.Endings.{ended}
 use Rattle.sl_tool.specs.Ends.{Means, WritesWhole, WritesFirst, Ends, RunsFor}
 use Rattle.sl_tool.specs.Ends.Means.{answer}
 use Rattle.sl_tool.specs.Outcomes.{Writes, WritesFront}
-use Rattle.sl_tool.specs.Request.{Request}
+use Rattle.sl_tool.specs.Request.{Request, spec_of}
 use Rattle.sl_tool.specs.Values.{Shown, shown}
 use Rattle.sl_tool.specs.Writing.{IsWritten}
 use Rattle.sl_tool.specs.declared.halt.Halt.{Halt}
@@ -24,8 +24,8 @@ use Rattle.sl_tool.specs.declared.status.Ending.{Ending}
 use Rattle.sl_tool.specs.declared.status.Ending.TheVariants as ending
 use Rattle.sl_tool.specs.declared.status.Status.{Status}
 use Rattle.sl_tool.specs.declared.status.Status.TheVariants.{Done, Refused, Usage, ReadFault, WriteFault, NoMemory, Stopped}
-use Rattle.sl_tool.proofs.AnsweredLemmas.{front_due}
-use Rattle.sl_tool.proofs.StageLemmas.{judges_some, none_is}
+use Rattle.sl_tool.proofs.AnsweredLemmas.{Asks-nil, front_due}
+use Rattle.sl_tool.proofs.StageLemmas.{none_is}
 
 -- a status that says that the whole text was written
 abbrev pub IsWhole : Status → Type 0
@@ -95,10 +95,6 @@ written_reads a b text s q h (inr (inr f, w)) e = let clash : NoMemory ≡ ReadF
 
 -- ---- files
 
-Asks-nil : (a : Names) → Asks a a []
-Asks-nil None = tt
-Asks-nil (Some x) = sym (append-nil x)
-
 module _ {F : Type 0} (told : F → Option Folder) (faults : F → ℕ) (asked : F → Names) where
   -- without a request no file is asked for
   pub unused : (old : F) (q : Status) → (q ≡ ReadFault → ⊥) → RunsFor told faults asked None old old q
@@ -125,8 +121,8 @@ some_names (Some folder) spec = (
 -- nothing was asked for, which is the front of what is due
 none_due : (told : Option Folder) (r : Request) (a : Names) → Surely ((due : List (List ℕ)) × AsksFor told r due × AsksFront a a due)
 none_due told r a =
-    let names = some_names told r.target.spec in
-    surely_map (front_due told r names.0 a a names.1 (0, Asks-nil a)) (judges_some told r.target.spec)
+    let names = some_names told (spec_of r) in
+    front_due told r names.0 a a names.1 (0, Asks-nil a)
 
 module _ {F : Type 0} (told : F → Option Folder) (faults : F → ℕ) (asked : F → Names) where
   -- memory ran out before any file was read
@@ -141,7 +137,7 @@ module _ {F : Type 0} (told : F → Option Folder) (faults : F → ℕ) (asked :
   }
 
   -- a refusal was written, after all files had been read
-  pub refused_uses : (old new : F) (r : Request) (q : Status) → (q ≡ ReadFault → ⊥) → UsesFilesFor told faults asked r old new ⊥ ⊥ → RunsFor told faults asked (Some r) old new q
+  pub refused_uses : (old new : F) (r : Request) (q : Status) → (q ≡ ReadFault → ⊥) → UsesFilesFor told faults asked (AsksFor (told old) r) old new ⊥ ⊥ → RunsFor told faults asked (Some r) old new q
   refused_uses old new r q never u = record {
     same_folder = u.same_folder;
     never_falls = u.never_falls;

@@ -1,26 +1,29 @@
 -- It can't be that a request has no answer.
-use Rattle.std.proofs.Common.{ℕ, ◌/◌, List, Option, Result, Ok, refl, sym, subst}
+use Rattle.std.proofs.Common.{ℕ, ◌/◌, List, Option, Result, Ok, Err, refl, sym, subst}
 use Rattle.std.specs.Prelude.{Bool}
 use Rattle.sl_description.specs.Description.{Description}
 use Rattle.sl_description.specs.Fields.{Matches}
 use Rattle.sl_description.specs.Rules.{IsSound}
 use Rattle.sl_outside.specs.Folder.{Folder}
 use Rattle.sl_sets.specs.Sets.{HasNoConflict}
-use Rattle.sl_sets.proofs.Surely.{surely_map}
-use Rattle.sl_tool.specs.Answers.{Shows, mnemonics}
+use Rattle.sl_request.specs.Requests.{Target}
+use Rattle.sl_sets.proofs.Surely.{surely, surely_map}
+use Rattle.sl_tool.specs.Answers.{Displays, Follows, Shows, Waits, mnemonics}
 use Rattle.sl_tool.specs.Endings.{ending_of}
 use Rattle.sl_tool.specs.Listing.{Lists}
-use Rattle.sl_tool.specs.Request.{Command, ListImage, RunImage, Request}
+use Rattle.sl_tool.specs.Problems.{refusal}
+use Rattle.sl_tool.specs.Request.{CheckSpec, Command, ListImage, RunImage, Request, ShowImage, spec_of}
 use Rattle.sl_tool.specs.Running.{IsRun}
 use Rattle.sl_tool.specs.Stage.{HasSomeResult, Then}
 use Rattle.sl_tool.specs.Stage.Then.{goes}
-use Rattle.sl_tool.specs.Stages.{Judges, Loads}
-use Rattle.sl_tool.specs.Values.{Input, Shown, Tables, shown}
+use Rattle.sl_tool.specs.Stages.{Accepts, Loads, Reads}
+use Rattle.sl_tool.specs.Values.{Bound, Input, Shown, Tables, Tree, shown}
+use Rattle.sl_tool.specs.declared.problem.Problem.TheVariants.{NotYet}
 use Rattle.sl_tool.specs.declared.refusal.Refusal.{Refusal}
 use Rattle.sl_tool.specs.declared.status.Ending.TheVariants.{Done}
 use Rattle.sl_tool.proofs.SomeListing.{some_listing_of}
 use Rattle.sl_tool.proofs.SomeRunning.{some_running}
-use Rattle.sl_tool.proofs.StageLemmas.{judges_some, loads_some}
+use Rattle.sl_tool.proofs.StageLemmas.{accepts_some, binds_some, loads_some, reads_some}
 use Rattle.sl_tool.proofs.Thens.{then_some}
 
 -- A description that is accepted keeps the rules and has no conflict.
@@ -28,9 +31,9 @@ pub record IsAccepted (b : Tables) : Type 0 where
   pub sound : IsSound b.description
   pub clear : HasNoConflict (Matches b.description) b.description.constructors
 
-judged : (told : Option Folder) (name : List ℕ) (b : Tables) → Judges told name (Ok b) → IsAccepted b
-judged told name b (goes e (goes k (goes p (goes {b = c} t s)))) =
-    let here : IsAccepted c = record { sound = t.1.sound; clear = s.1 } in
+accepted : (t : Tree) (b : Tables) → Accepts t (Ok b) → IsAccepted b
+accepted t b (goes {b = c} h s) =
+    let here : IsAccepted c = record { sound = h.1.sound; clear = s.1 } in
     subst IsAccepted (sym s.0) here
 
 shows_some : (c : Command) (i : Input) → IsAccepted i.tables → HasSomeResult (Shows c) i
@@ -45,8 +48,18 @@ shows_some (RunImage n) i is =
     let p : (r : Result Shown Refusal) × Shows (RunImage n) i r = (Ok (shown (ending_of t.0) t.1), t.2) in p)
     (some_running d i.base i.image n is.sound is.clear)
 
-pub answer_some : (told : Option Folder) (r : Request) → HasSomeResult (Then (Judges told) (Then (Loads told r.target) (Shows r.command))) r.target.spec
-answer_some told r =
-    then_some _ _ r.target.spec (judges_some told r.target.spec) (λ b j.
-    then_some _ _ b (loads_some told r.target b) (λ i l.
-    shows_some r.command i (subst IsAccepted (sym l.0) (judged told r.target.spec b j))))
+displays_some : (told : Option Folder) (c : Command) (t : Target) (u : Tree) → HasSomeResult (Displays told c t) u
+displays_some told c t u =
+    then_some _ _ u (accepts_some u) (λ b j.
+    then_some _ _ b (loads_some told t b) (λ i l.
+    shows_some c i (subst IsAccepted (sym l.0) (accepted u b j))))
+
+waits_some : (b : Bound) → HasSomeResult Waits b
+waits_some b = surely (let p : (r : Result Shown Refusal) × Waits b r = (Err (refusal b.tree.tokens.source.name 0 NotYet), refl) in p)
+
+follows_some : (told : Option Folder) (r : Request) (u : Tree) → HasSomeResult (Follows told r) u
+follows_some told (CheckSpec spec) u = then_some _ _ u (binds_some u) (λ b h. waits_some b)
+follows_some told (ShowImage c t) u = displays_some told c t u
+
+pub answer_some : (told : Option Folder) (r : Request) → HasSomeResult (Then (Reads told) (Follows told r)) (spec_of r)
+answer_some told r = then_some _ _ (spec_of r) (reads_some told (spec_of r)) (λ u h. follows_some told r u)

@@ -6,6 +6,7 @@ use Rattle.sl_ast.specs.Spelling.{spell}
 use Rattle.sl_ast.specs.Trees.{Item}
 use Rattle.sl_ast.specs.Unfolding.{firsts}
 use Rattle.sl_ast.specs.Validity.{AreItems}
+use Rattle.sl_bind.specs.Verdict.{taken}
 use Rattle.sl_description.specs.Compiles.{AreSound}
 use Rattle.sl_description.specs.Description.{Constructor, Description}
 use Rattle.sl_description.specs.Fields.{Matches}
@@ -31,8 +32,8 @@ use Rattle.sl_symbols.specs.Symbols.{symbols_of}
 use Rattle.sl_tool.specs.Places.{place_of_byte, place_of_token}
 use Rattle.sl_tool.specs.Problems.{refusal, refusal_at}
 use Rattle.sl_tool.specs.Stage.{HasOneResult, HasSomeResult}
-use Rattle.sl_tool.specs.Stages.{Expands, Tokenizes, Parses, Tabulates, Settles, Fetches, Decodes, Fits, SetsContext, Images, Loads, Judges, addresses_of, decoded, image_in, problem_of_fault, problem_of_reason, source_of, with_context}
-use Rattle.sl_tool.specs.Values.{Source, Tokens, Tree, Tables, Input, input, tables, tokens, tree}
+use Rattle.sl_tool.specs.Stages.{Accepts, Binds, Expands, Tokenizes, Parses, Reads, Tabulates, Settles, Fetches, Decodes, Fits, SetsContext, Images, Loads, addresses_of, bound_of, decoded, image_in, problem_of_fault, problem_of_reason, source_of, with_context}
+use Rattle.sl_tool.specs.Values.{Source, Tokens, Tree, Bound, Tables, Input, input, tables, tokens, tree}
 use Rattle.sl_tool.specs.declared.problem.Problem.TheVariants.{Ambiguous, NoFile, NotYet, TooLong}
 use Rattle.sl_tool.specs.declared.refusal.Refusal.{Refusal}
 use Rattle.sl_tool.proofs.SomeFault.{some_tree_or_fault}
@@ -102,7 +103,15 @@ parses_by k (inr f) = (Err (refusal_at (place_of_token k f.1) (problem_of_reason
 parses_some : (k : Tokens) → HasSomeResult Parses k
 parses_some k = surely (parses_by k (some_tree_or_fault (symbols_of k.tokens)))
 
--- ---- 4: descriptions
+-- ---- 4: tables
+
+pub binds_one : HasOneResult Binds
+binds_one t r q h g = h ∙ sym g
+
+pub binds_some : (t : Tree) → HasSomeResult Binds t
+binds_some t = surely (let p : (r : Result Bound Refusal) × Binds t r = (bound_of t (taken t.items), refl) in p)
+
+-- ---- 4, of listings and runs: descriptions
 
 tabulates_one : HasOneResult Tabulates
 tabulates_one t (Ok b) (Ok c) h g = ap Ok (tables_is b c (h.0 ∙ sym g.0) (some_is b.description c.description (sym h.1.form ∙ g.1.form)))
@@ -249,14 +258,18 @@ loads_by told t b (Err x, h) = (Err x, h)
 pub loads_some : (told : Option Folder) (t : Target) (b : Tables) → HasSomeResult (Loads told t) b
 loads_some told t b = surely_map (loads_by told t b) (images_some told (addresses_of b) t)
 
--- ---- the verdict
+-- ---- several stages
 
-pub judges_one : (folder : Folder) → HasOneResult (Judges (Some folder))
-judges_one folder = then_one _ _ (expands_one folder) (then_one _ _ tokenizes_one (then_one _ _ parses_one (then_one _ _ tabulates_one settles_one)))
+pub reads_one : (folder : Folder) → HasOneResult (Reads (Some folder))
+reads_one folder = then_one _ _ (expands_one folder) (then_one _ _ tokenizes_one parses_one)
 
-pub judges_some : (told : Option Folder) (name : List ℕ) → HasSomeResult (Judges told) name
-judges_some told name =
+pub reads_some : (told : Option Folder) (name : List ℕ) → HasSomeResult (Reads told) name
+reads_some told name =
     then_some _ _ name (expands_some told name) (λ s h.
-    then_some _ _ s (tokenizes_some s) (λ k i.
-    then_some _ _ k (parses_some k) (λ t j.
-    then_some _ _ t (tabulates_some t) (λ b l. settles_some b))))
+    then_some _ _ s (tokenizes_some s) (λ k i. parses_some k))
+
+pub accepts_one : HasOneResult Accepts
+accepts_one = then_one _ _ tabulates_one settles_one
+
+pub accepts_some : (t : Tree) → HasSomeResult Accepts t
+accepts_some t = then_some _ _ t (tabulates_some t) (λ b h. settles_some b)

@@ -6,14 +6,16 @@ use Rattle.sl_outside.specs.Causes.{Rose}
 use Rattle.sl_outside.specs.Folder.{Folder}
 use Rattle.sl_outside.specs.Uses.{Names, Asks, AsksFront}
 use Rattle.sl_preproc.specs.Asks.{AsksFor as AsksForText}
+use Rattle.sl_request.specs.Requests.{Target}
 use Rattle.sl_tool.specs.Endings.{ended}
 use Rattle.sl_tool.specs.Listing.{Lists}
-use Rattle.sl_tool.specs.Problems.{refusal_text}
-use Rattle.sl_tool.specs.Request.{Command, ListImage, RunImage, Request}
+use Rattle.sl_tool.specs.Problems.{refusal, refusal_text}
+use Rattle.sl_tool.specs.Request.{Command, ListImage, RunImage, Request, CheckSpec, ShowImage, spec_of}
 use Rattle.sl_tool.specs.Running.{IsRun}
 use Rattle.sl_tool.specs.Stage.{Stage, Surely, Then}
-use Rattle.sl_tool.specs.Stages.{Judges, Loads}
-use Rattle.sl_tool.specs.Values.{Tables, Input, Shown}
+use Rattle.sl_tool.specs.Stages.{Accepts, Binds, Loads, Reads}
+use Rattle.sl_tool.specs.Values.{Bound, Input, Shown, Tables, Tree}
+use Rattle.sl_tool.specs.declared.problem.Problem.TheVariants.{NotYet}
 use Rattle.sl_tool.specs.declared.refusal.Refusal.{Refusal}
 use Rattle.sl_tool.specs.declared.status.Ending.{Ending}
 use Rattle.sl_tool.specs.declared.status.Ending.TheVariants.{Done}
@@ -43,9 +45,22 @@ Shows command i (Err x) = ⊥
 
 -- ---- requests
 
--- What becomes of a request: an ending and a text, or a refusal.
+-- So far nothing is known of a specification but that its definitions, constructors and tables keep the rules.
+abbrev pub Waits : Stage Refusal Bound Shown
+Waits b r = r ≡ Err (refusal b.tree.tokens.source.name 0 NotYet)
+
+-- What is shown of an image by the specification that the tree is.
+abbrev pub Displays : Option Folder → Command → Target → Stage Refusal Tree Shown
+Displays told command t = Then Accepts (Then (Loads told t) (Shows command))
+
+-- What becomes of the tree, a line for each kind of request: an ending and a text, or a refusal.
+abbrev pub Follows : Option Folder → Request → Stage Refusal Tree Shown
+Follows told (CheckSpec spec) = Then Binds Waits
+Follows told (ShowImage command t) = Displays told command t
+
+-- What becomes of a request.
 abbrev pub Answers : Option Folder → Request → Result Shown Refusal → Type 0
-Answers told r = Then (Judges told) (Then (Loads told r.target) (Shows r.command)) r.target.spec
+Answers told r = Then (Reads told) (Follows told r) (spec_of r)
 
 abbrev pub text_of : Result Shown Refusal → List ℕ
 text_of (Ok s) = s.text
@@ -57,17 +72,28 @@ status_of (Err x) = Refused
 
 -- ---- files
 
--- The names that a request asks for: those of the specification's text, and that of the image where the specification isn't refused.
-pub data AsksFor (told : Option Folder) (r : Request) : List (List ℕ) → Type 0 where
-  refused : {names : List (List ℕ)} {x : Refusal} → AsksForText told r.target.spec names → Judges told r.target.spec (Err x) → AsksFor told r names
-  accepted : {names : List (List ℕ)} {b : Tables} → AsksForText told r.target.spec names → Judges told r.target.spec (Ok b) → AsksFor told r (names ++ r.target.image ∷ [])
+-- The names that are asked for to show an image: its own, where the specification isn't refused.
+pub data AsksForImage (t : Target) (tree : Tree) : List (List ℕ) → Type 0 where
+  refused : {x : Refusal} → Accepts tree (Err x) → AsksForImage t tree []
+  accepted : {b : Tables} → Accepts tree (Ok b) → AsksForImage t tree (t.image ∷ [])
 
--- A call asks for the names of the request: for all of them, or, where it stops early, for the first of them. It fails only where
+-- The names that a request asks for once the tree is there.
+abbrev pub AsksAfter : Request → Tree → List (List ℕ) → Type 0
+AsksAfter (CheckSpec spec) tree names = names ≡ []
+AsksAfter (ShowImage command t) tree names = AsksForImage t tree names
+
+-- The names that a request asks for: those of the specification's text, and what it asks for once the tree is there.
+pub data AsksFor (told : Option Folder) (r : Request) : List (List ℕ) → Type 0 where
+  unread : {names : List (List ℕ)} {x : Refusal} → AsksForText told (spec_of r) names → Reads told (spec_of r) (Err x) → AsksFor told r names
+  read : (names more : List (List ℕ)) {tree : Tree} → AsksForText told (spec_of r) names → Reads told (spec_of r) (Ok tree) → AsksAfter r tree more
+      → AsksFor told r (names ++ more)
+
+-- A call asks for the names that are due: for all of them, or, where it stops early, for the first of them. It fails only where
 -- the count of faults rose. The folder stays as it is.
-pub record UsesFilesFor {F : Type 0} (told : F → Option Folder) (faults : F → ℕ) (asked : F → Names) (r : Request) (old new : F)
+pub record UsesFilesFor {F : Type 0} (told : F → Option Folder) (faults : F → ℕ) (asked : F → Names) (Asked : List (List ℕ) → Type 0) (old new : F)
     (early fails : Type 0) : Type 0 where
   pub same_folder : told new ≡ told old
   pub never_falls : faults old ≤ faults new
   pub failed : fails → Rose (faults old) (faults new)
-  pub asks_front : Surely ((names : List (List ℕ)) × AsksFor (told old) r names × AsksFront (asked old) (asked new) names)
-  pub asks_all : (early → ⊥) → (names : List (List ℕ)) × AsksFor (told old) r names × Asks (asked old) (asked new) names
+  pub asks_front : Surely ((names : List (List ℕ)) × Asked names × AsksFront (asked old) (asked new) names)
+  pub asks_all : (early → ⊥) → (names : List (List ℕ)) × Asked names × Asks (asked old) (asked new) names

@@ -3,7 +3,7 @@ use Rattle.std.specs.Prelude.{◌≡◌, ℕ, ◌⊎◌, List, [], take, Option,
 use Rattle.std.specs.Io.KnownBytes.{Appends}
 use Rattle.sl_outside.specs.Folder.{Folder}
 use Rattle.sl_outside.specs.Uses.{Names, UsesFiles}
-use Rattle.sl_tool.specs.Answers.{Answers, UsesFilesFor, status_of, text_of}
+use Rattle.sl_tool.specs.Answers.{Answers, AsksFor, UsesFilesFor, status_of, text_of}
 use Rattle.sl_tool.specs.Request.{Request, usage_line}
 use Rattle.sl_tool.specs.Values.{Shown}
 use Rattle.sl_tool.specs.declared.refusal.Refusal.{Refusal}
@@ -40,4 +40,4 @@ IsEarlyStatus status = (status ≡ ReadFault) ⊎ (status ≡ NoMemory)
 -- What the call does to the files: without a request it asks for none.
 abbrev pub RunsFor : {F : Type 0} → (F → Option Folder) → (F → ℕ) → (F → Names) → Option Request → F → F → Status → Type 0
 RunsFor told faults asked None old new status = UsesFiles told faults asked old new [] ⊥ (status ≡ ReadFault)
-RunsFor told faults asked (Some r) old new status = UsesFilesFor told faults asked r old new (IsEarlyStatus status) (status ≡ ReadFault)
+RunsFor told faults asked (Some r) old new status = UsesFilesFor told faults asked (AsksFor (told old) r) old new (IsEarlyStatus status) (status ≡ ReadFault)

@@ -25,3 +25,8 @@ start_of k index = from_or (length k.source.text.bytes) (slice_get k.tokens inde
 
 abbrev pub place_of_token : Tokens → ℕ → Place
 place_of_token k index = place_of_byte k.source.text (start_of k index)
+
+-- the place of a token, or, where there is none, of the text's end
+abbrev pub place_of_some : Tokens → Option ℕ → Place
+place_of_some k (Some index) = place_of_token k index
+place_of_some k None = place_of_byte k.source.text (length k.source.text.bytes)

@@ -1,5 +1,6 @@
 -- meaning: the words of each problem, and the text of a refusal.
 use Rattle.std.specs.Prelude.{ℕ, List, [], ◌++◌, codes}
+use Rattle.std.specs.Fmt.{decimal}
 use Rattle.sl_ast.specs.declared.symbols.Feature.{Feature}
 use Rattle.sl_ast.specs.declared.symbols.Feature.TheVariants as feature
 use Rattle.sl_cube.specs.declared.Point.{Point}
@@ -8,7 +9,7 @@ use Rattle.sl_sets.specs.declared.conflicts.Apart.TheVariants.{Same, Two}
 use Rattle.sl_sets.specs.declared.conflicts.Report.{Report}
 use Rattle.sl_tool.specs.Lines.{place_text, point_text}
 use Rattle.sl_tool.specs.declared.problem.Problem.{Problem}
-use Rattle.sl_tool.specs.declared.problem.Problem.TheVariants.{NoFile, TooLong, IncludeDepth, UndefinedName, ReplaceDepth, BadDirective, Unbalanced, BadByte, OpenString, WideInteger, Syntax, Nesting, NotSupported, NotYet, Ambiguous, BadHex, NoContextField}
+use Rattle.sl_tool.specs.declared.problem.Problem.TheVariants.{NoFile, TooLong, IncludeDepth, UndefinedName, ReplaceDepth, BadDirective, Unbalanced, BadByte, OpenString, WideInteger, Syntax, Nesting, NotSupported, Rule, NotYet, Ambiguous, BadHex, NoContextField}
 use Rattle.sl_tool.specs.declared.place.Place.{Place}
 use Rattle.sl_tool.specs.declared.refusal.Refusal.{Refusal}
 use Rattle.sl_tool.specs.declared.refusal.Subject.{Subject}
@@ -45,6 +46,7 @@ words_of WideInteger = codes "wide integer"
 words_of Syntax = codes "syntax error"
 words_of Nesting = codes "nesting too deep"
 words_of (NotSupported form) = codes "not supported: " ++ feature_words form
+words_of (Rule number) = codes "rule " ++ decimal number
 words_of NotYet = codes "not yet"
 words_of (Ambiguous conflict) = codes "ambiguous in instruction with " ++ place_text conflict.other.file conflict.other.line
 words_of BadHex = codes "bad hex"

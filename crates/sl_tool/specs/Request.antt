@@ -8,20 +8,22 @@ pub data Command : Type 0 where
   ListImage : Command
   RunImage : ℕ → Command
 
--- What is done, and with which specification and image.
-pub record Request : Type 0 where
-  pub command : Command
-  pub target : Target
+-- A specification, by the name of its main file, is checked; or something is done with a specification and an image.
+pub data Request : Type 0 where
+  CheckSpec : List ℕ → Request
+  ShowImage : Command → Target → Request
 
-abbrev pub request : Command → Target → Request
-request command target = record { command = command; target = target }
+-- the name of the specification's main file
+abbrev pub spec_of : Request → List ℕ
+spec_of (CheckSpec spec) = spec
+spec_of (ShowImage command t) = t.spec
 
--- What is asked for, where its command is there. So far `check`, `pcode` and `gen` aren't.
+-- What is asked for, where its command is there. So far `pcode` and `gen` aren't.
 abbrev pub answerable : Asked → Option Request
-answerable (Checks spec) = None
-answerable (Lists t) = Some (request ListImage t)
+answerable (Checks spec) = Some (CheckSpec spec)
+answerable (Lists t) = Some (ShowImage ListImage t)
 answerable (Prints t) = None
-answerable (Runs t steps) = Some (request (RunImage steps) t)
+answerable (Runs t steps) = Some (ShowImage (RunImage steps) t)
 answerable (Generates size) = None
 
 -- What the words of a command line, the program's name first, ask for of the commands that are there.

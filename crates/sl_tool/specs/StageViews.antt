@@ -4,12 +4,16 @@ use Rattle.sl_description.specs.Views.{description}
 use Rattle.sl_tool.specs.TokensView.{tokens_view}
 use Rattle.sl_tool.specs.Values as values
 use Rattle.sl_tool.specs.declared.tree.Tree.{Tree}
+use Rattle.sl_tool.specs.declared.bound.Bound.{Bound}
 use Rattle.sl_tool.specs.declared.tables.Tables.{Tables}
 use Rattle.sl_tool.specs.declared.checked.Checked.{Checked}
 use Rattle.sl_tool.specs.declared.input.Input.{Input}
 
 abbrev pub tree_view : Tree → values.Tree
 tree_view t = values.tree (tokens_view t.tokens) (items_of t.spec)
+
+abbrev pub bound_view : Bound → values.Bound
+bound_view b = values.bound (values.tree (tokens_view b.tokens) (items_of b.specification.spec)) b.specification.tables
 
 abbrev pub tables_view : Tables → values.Tables
 tables_view b = values.tables (tree_view b.tree) (description b.compiled.description)

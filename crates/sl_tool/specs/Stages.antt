@@ -3,6 +3,8 @@ use Rattle.std.specs.Prelude.{◌≡◌, ℕ, ◌+◌, ◌^◌, ◌<◌, ◌≤�
 use Rattle.sl_ast.specs.Spelling.{spell}
 use Rattle.sl_ast.specs.Unfolding.{firsts}
 use Rattle.sl_ast.specs.Validity.{AreItems}
+use Rattle.sl_bind.specs.Refusals.{token_of}
+use Rattle.sl_bind.specs.Verdict.{Broken, taken}
 use Rattle.sl_description.specs.Compiles.{AreSound}
 use Rattle.sl_description.specs.Description.{Description}
 use Rattle.sl_description.specs.Fields.{Matches}
@@ -22,13 +24,15 @@ use Rattle.sl_request.specs.Requests.{Field, Target}
 use Rattle.sl_sets.specs.Reports.{IsReport}
 use Rattle.sl_sets.specs.Sets.{IsFirstConflict, HasNoConflict}
 use Rattle.sl_sets.specs.declared.conflicts.Report.{Report}
+use Rattle.sl_spec.specs.declared.tables.Tables as spec
 use Rattle.sl_symbols.specs.Symbols.{symbols_of}
-use Rattle.sl_tool.specs.Places.{place_of_byte, place_of_token}
+use Rattle.sl_tool.specs.Places.{place_of_byte, place_of_some, place_of_token}
 use Rattle.sl_tool.specs.Problems.{refusal, refusal_at, refusal_of_field}
 use Rattle.sl_tool.specs.Stage.{Stage, Then}
-use Rattle.sl_tool.specs.Values.{Source, Tokens, Tree, Tables, Input, source}
+use Rattle.sl_tool.specs.Values.{Source, Tokens, Tree, Bound, Tables, Input, bound, source}
+use Rattle.sl_tool.specs.declared.place.Place.{Place}
 use Rattle.sl_tool.specs.declared.problem.Problem.{Problem}
-use Rattle.sl_tool.specs.declared.problem.Problem.TheVariants.{NoFile, TooLong, IncludeDepth, UndefinedName, ReplaceDepth, BadDirective, Unbalanced, BadByte, OpenString, WideInteger, Syntax, Nesting, NotSupported, NotYet, Ambiguous, BadHex, NoContextField}
+use Rattle.sl_tool.specs.declared.problem.Problem.TheVariants.{NoFile, TooLong, IncludeDepth, UndefinedName, ReplaceDepth, BadDirective, Unbalanced, BadByte, OpenString, WideInteger, Syntax, Nesting, NotSupported, Rule, NotYet, Ambiguous, BadHex, NoContextField}
 use Rattle.sl_tool.specs.declared.refusal.Refusal.{Refusal}
 
 -- ---- 1: the name of the main file to its expanded text
@@ -81,14 +85,33 @@ Parses k (Ok t) = (t.tokens ≡ k) × (symbols_of k.tokens ≡ spell t.items) ×
 Parses k (Err x) = (reason : Reason) × (index : ℕ) × TellsFault (symbols_of k.tokens) reason index
     × (x ≡ refusal_at (place_of_token k index) (problem_of_reason reason))
 
--- ---- 4: the tree to what it describes
+-- ---- the text of a specification to its tree
+
+abbrev pub Reads : Option Folder → Stage Refusal (List ℕ) Tree
+Reads told = Then (Expands told) (Then Tokenizes Parses)
+
+-- ---- 4: the tree to its tables
+
+-- the place at which a rule is broken: that of the first token of its item, or the text's end
+abbrev pub place_of_broken : Tree → Broken → Place
+place_of_broken t broken = place_of_some t.tokens (token_of (firsts t.items) broken.1)
+
+abbrev pub bound_of : Tree → Result spec.Tables Broken → Result Bound Refusal
+bound_of t (Ok b) = Ok (bound t b)
+bound_of t (Err broken) = Err (refusal_at (place_of_broken t broken) (Rule broken.0))
+
+-- The tables that stand for the tree, or the first rule that it breaks.
+abbrev pub Binds : Stage Refusal Tree Bound
+Binds t r = r ≡ bound_of t (taken t.items)
+
+-- ---- 4, of listings and runs: the tree to what it describes
 
 -- The tree is this description, which keeps the rules, or it is none.
 abbrev pub Tabulates : Stage Refusal Tree Tables
 Tabulates t (Ok b) = (b.tree ≡ t) × AreSound t.items (firsts t.items) b.description
 Tabulates t (Err x) = ((d : Description) → AreSound t.items (firsts t.items) d → ⊥) × (x ≡ refusal t.tokens.source.name 0 NotYet)
 
--- ---- 5: a description without a conflict
+-- ---- 5, of listings and runs: a description without a conflict
 
 -- The refusal names the first two constructors in conflict, and tells their report.
 pub record IsAmbiguous (b : Tables) (x : Refusal) : Type 0 where
@@ -104,6 +127,9 @@ pub record IsAmbiguous (b : Tables) (x : Refusal) : Type 0 where
 abbrev pub Settles : Stage Refusal Tables Tables
 Settles b (Ok c) = (c ≡ b) × HasNoConflict (Matches b.description) b.description.constructors
 Settles b (Err x) = IsAmbiguous b x
+
+abbrev pub Accepts : Stage Refusal Tree Tables
+Accepts = Then Tabulates Settles
 
 -- ---- 6: the image beside it
 
@@ -156,8 +182,3 @@ addresses_of b = 256 ^ b.description.address_bytes
 abbrev pub Loads : Option Folder → Target → Stage Refusal Tables Input
 Loads told t b (Ok i) = (i.tables ≡ b) × (i.base ≡ t.base) × Images told (addresses_of b) t (Ok i.image)
 Loads told t b (Err x) = Images told (addresses_of b) t (Err x)
-
--- ---- the verdict on a specification
-
-abbrev pub Judges : Option Folder → List ℕ → Result Tables Refusal → Type 0
-Judges told = Then (Expands told) (Then Tokenizes (Then Parses (Then Tabulates Settles)))

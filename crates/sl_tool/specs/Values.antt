@@ -4,6 +4,7 @@ use Rattle.sl_ast.specs.Trees.{Item}
 use Rattle.sl_description.specs.Description.{Description}
 use Rattle.sl_lex.specs.Reading.{Token}
 use Rattle.sl_preproc.specs.Expanded.{Text}
+use Rattle.sl_spec.specs.declared.tables.Tables as spec
 use Rattle.sl_tool.specs.declared.status.Ending.{Ending}
 
 -- the name of the main file, and the text that it expands to
@@ -18,6 +19,11 @@ pub record Tokens : Type 0 where
 pub record Tree : Type 0 where
   pub tokens : Tokens
   pub items : List Item
+
+-- a tree with the tables that stand for it
+pub record Bound : Type 0 where
+  pub tree : Tree
+  pub tables : spec.Tables
 
 pub record Tables : Type 0 where
   pub tree : Tree
@@ -44,6 +50,9 @@ tokens s ts = record { source = s; tokens = ts }
 
 abbrev pub tree : Tokens → List Item → Tree
 tree k items = record { tokens = k; items = items }
+
+abbrev pub bound : Tree → spec.Tables → Bound
+bound t b = record { tree = t; tables = b }
 
 abbrev pub tables : Tree → Description → Tables
 tables t d = record { tree = t; description = d }

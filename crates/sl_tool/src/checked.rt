@@ -1,4 +1,4 @@
-//! The fifth stage: a description without a conflict.
+//! The fifth stage of listings and runs: a description without a conflict.
 
 use crate::halt::Halt;
 use crate::problem::{Conflict, Problem};

@@ -15,6 +15,8 @@
 #![tactic(auto)]
 
 mod answer;
+mod bound;
+mod check;
 mod checked;
 mod commands;
 mod fetched;
@@ -28,6 +30,7 @@ mod problem;
 mod refusal;
 mod request;
 mod run_lines;
+mod shown;
 mod source;
 mod status;
 mod tables;

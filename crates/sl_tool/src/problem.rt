@@ -5,6 +5,7 @@ ghost use Rattle.sl_tool.specs.Problems.{feature_words, words_of};
 
 use crate::lines::push_place;
 use crate::place::Place;
+use itoa::Buffer;
 use sl_ast::symbols::Feature;
 use sl_sets::Report;
 use std::alloc::AllocError;
@@ -46,6 +47,8 @@ pub enum Problem {
     Nesting,
     /// A form that the language leaves out.
     NotSupported(Feature),
+    /// A rule of the language is broken, by its number.
+    Rule(u8),
     /// A specification of another form than the one that is compiled today.
     NotYet,
     /// Two constructors that are in conflict.
@@ -95,6 +98,11 @@ pub fn push_words(out: &mut Vec<u8>, problem: &Problem) -> Result<(), AllocError
         Problem::NotSupported(feature) => {
             out.extend_from_slice(b"not supported: ")?;
             push_feature(out, *feature)
+        }
+        Problem::Rule(number) => {
+            let mut buffer = Buffer::new();
+            out.extend_from_slice(b"rule ")?;
+            out.extend_from_slice(buffer.format(*number).as_bytes())
         }
         Problem::NotYet => out.extend_from_slice(b"not yet"),
         Problem::Ambiguous(conflict) => {

@@ -2,7 +2,7 @@
 
 ghost use Rattle.std.specs.Prelude.{◌≡◌, IfOk, map, option_map, string_bytes};
 ghost use Rattle.sl_request.specs.Views.{request as asked_view};
-ghost use Rattle.sl_tool.specs.Request.{answerable, request_of};
+ghost use Rattle.sl_tool.specs.Request.{answerable, request_of, spec_of};
 ghost use Rattle.sl_tool.specs.Requests.{request};
 
 use sl_request::{Request as Asked, Target};
@@ -17,11 +17,25 @@ pub enum Command {
     Run(u64),
 }
 
-/// What is done, and with which specification and image.
+/// What is asked for.
 #[derive(Debug, Drop)]
-pub struct Request<'a> {
-    pub command: Command,
-    pub target: Target<'a>,
+pub enum Request<'a> {
+    /// Whether the specification with this main file is sound.
+    Check(&'a str),
+    /// What an image is by a specification.
+    Show(Command, Target<'a>),
+}
+
+impl<'a> Request<'a> {
+    /// The name of the specification's main file.
+    pub fn spec(&self) -> &'a str
+        ensures { result.now ≡ spec_of (request self.now) }
+    {
+        match self {
+            Request::Check(name) => *name,
+            Request::Show(_, target) => target.spec,
+        }
+    }
 }
 
 /// What is asked for, where its command is there.
@@ -29,15 +43,10 @@ fn answerable(asked: Asked<'_>) -> Option<Request<'_>>
     ensures { option_map request result ≡ answerable (asked_view asked.entry) }
 {
     match asked {
-        Asked::List(target) => Some(Request {
-            command: Command::List,
-            target,
-        }),
-        Asked::Run(target, steps) => Some(Request {
-            command: Command::Run(steps),
-            target,
-        }),
-        Asked::Check(_) | Asked::Pcode(_) | Asked::Gen(_) => None,
+        Asked::Check(name) => Some(Request::Check(name)),
+        Asked::List(target) => Some(Request::Show(Command::List, target)),
+        Asked::Run(target, steps) => Some(Request::Show(Command::Run(steps), target)),
+        Asked::Pcode(_) | Asked::Gen(_) => None,
     }
 }
 

@@ -1,4 +1,4 @@
-//! The fourth stage: what the tree describes, and the set of each constructor.
+//! The fourth stage of listings and runs: what the tree describes, and the set of each constructor.
 
 use crate::halt::Halt;
 use crate::place::Place;
@@ -17,8 +17,6 @@ pub struct Tables<'s, 'r> {
 
 impl<'s, 'r> Tables<'s, 'r> {
     ghost use Rattle.std.specs.Prelude.{◌≡◌, ◌<◌, IfOk, Some, length, slice_get};
-    ghost use Rattle.sl_ast.specs.Unfolding.{firsts};
-    ghost use Rattle.sl_ast.specs.Views.{indexes_of, items_of};
     ghost use Rattle.sl_description.specs.Description as spec;
     ghost use Rattle.sl_description.specs.Views.{description};
     ghost use Rattle.sl_tool.specs.Compiled.{HasCompiled};
@@ -30,7 +28,6 @@ impl<'s, 'r> Tables<'s, 'r> {
 
     /// What the tree describes, where it is of the form that is compiled today and keeps the rules.
     pub fn read(alloc: Global, tree: Tree<'s, 'r>) -> Result<Self, Halt>
-        requires { indexes_of tree.spec ≡ firsts (items_of tree.spec) }
         ensures gives { Gives (Tabulates (tree_view tree.entry)) tables_view result }
         ensures compiled { IfOk result (λ b. HasCompiled b.compiled) }
     {

@@ -36,7 +36,7 @@ fn bad_place(error: LexError) -> Option<(usize, Problem)>
 impl<'s, 'r> Tokens<'s, 'r> {
     ghost use Rattle.std.specs.Prelude.{◌≡◌, ◌≤◌, IfOk, length};
     ghost use Rattle.sl_tool.specs.Outcomes.{Gives};
-    ghost use Rattle.sl_tool.specs.Places.{place_of_token, start_of};
+    ghost use Rattle.sl_tool.specs.Places.{place_of_some, place_of_token, start_of};
     ghost use Rattle.sl_tool.specs.SourceView.{source_view};
     ghost use Rattle.sl_tool.specs.Stages.{Tokenizes};
     ghost use Rattle.sl_tool.specs.TokensView.{tokens_view};
@@ -76,5 +76,15 @@ impl<'s, 'r> Tokens<'s, 'r> {
         let start = self.start_of(index);
         let place = self.source.place(alloc, start)?;
         Ok(place)
+    }
+
+    /// The place of the token of this index, or, where there is none, of the text's end.
+    pub fn place_of(&self, alloc: Global, index: Option<usize>) -> Result<Place, AllocError>
+        ensures { IfOk result (λ place. place ≡ place_of_some (tokens_view self.now) index) }
+    {
+        match index {
+            Some(index) => self.place(alloc, index),
+            None => self.source.place(alloc, self.source.text().len()),
+        }
     }
 }

@@ -1,21 +1,25 @@
 //! The third stage: the tree that the tokens spell.
 
 ghost use Rattle.std.specs.Prelude.{◌≡◌};
+ghost use Rattle.sl_ast.specs.Unfolding.{firsts};
+ghost use Rattle.sl_ast.specs.Views.{indexes_of, items_of};
 ghost use Rattle.sl_tool.specs.Halts.{first_fault};
 
 use crate::halt::Halt;
 use crate::problem::Problem;
 use crate::refusal::{Refusal, Subject};
+use crate::source::Source;
 use crate::tokens::Tokens;
 use sl_ast::items::Spec;
 use sl_parse::{ParseError, parse};
 use std::alloc::Global;
 
-/// The tree of a specification, beside its tokens.
+/// The tree of a specification, beside its tokens. It keeps the index of each item's first token.
 #[derive(Drop)]
 pub struct Tree<'s, 'r> {
     pub tokens: Tokens<'s, 'r>,
     pub spec: Spec<'s>,
+    pub ghost indexes: { indexes_of spec ≡ firsts (items_of spec) },
 }
 
 /// The token's index and the problem of an error of the parser, unless memory ran out.
@@ -33,18 +37,25 @@ fn first_fault(error: ParseError) -> Option<(usize, Problem)>
 }
 
 impl<'s, 'r> Tree<'s, 'r> {
-    ghost use Rattle.std.specs.Prelude.{◌≡◌, IfOk};
-    ghost use Rattle.sl_ast.specs.Unfolding.{firsts};
-    ghost use Rattle.sl_ast.specs.Views.{indexes_of, items_of};
     ghost use Rattle.sl_tool.specs.Outcomes.{Gives};
-    ghost use Rattle.sl_tool.specs.Stages.{Parses};
+    ghost use Rattle.sl_tool.specs.SourceView.{source_view};
+    ghost use Rattle.sl_tool.specs.Stage.{Then};
+    ghost use Rattle.sl_tool.specs.Stages.{Parses, Tokenizes};
     ghost use Rattle.sl_tool.specs.StageViews.{tree_view};
     ghost use Rattle.sl_tool.specs.TokensView.{tokens_view};
 
-    /// The tree that the tokens spell. It keeps the index of each item's first token.
-    pub fn read(alloc: Global, tokens: Tokens<'s, 'r>) -> Result<Self, Halt>
-        ensures gives { Gives (Parses (tokens_view tokens.entry)) tree_view result }
-        ensures indexes { IfOk result (λ t. indexes_of t.spec ≡ firsts (items_of t.spec)) }
+    /// The tree that the tokens of the text spell.
+    pub fn read(alloc: Global, source: &'s Source<'r>) -> Result<Self, Halt>
+        ensures { Gives (Then Tokenizes Parses (source_view source.now)) tree_view result }
+    {
+        let tokens = Tokens::read(alloc, source)?;
+        let tree = Self::of(alloc, tokens)?;
+        Ok(tree)
+    }
+
+    /// The tree that the tokens spell.
+    fn of(alloc: Global, tokens: Tokens<'s, 'r>) -> Result<Self, Halt>
+        ensures { Gives (Parses (tokens_view tokens.entry)) tree_view result }
     {
         match parse(alloc, tokens.tokens.as_slice()) {
             Ok(spec) => Ok(Tree { tokens, spec }),

@@ -8,7 +8,7 @@ use std::test::Fail;
 const USAGE: &str =
     "usage: sleigh check SPEC | list SPEC IMAGE | pcode SPEC IMAGE | run SPEC IMAGE | gen NUMBER\n";
 
-static WORDS: [&[&str]; 44] = [
+static WORDS: [&[&str]; 43] = [
     &[],
     &["list"],
     &["list", "s"],
@@ -27,7 +27,6 @@ static WORDS: [&[&str]; 44] = [
     &["list ", "s", "i"],
     &["", "s", "i"],
     &["s", "i", "list"],
-    &["check", "s"],
     &["check", "s", "t"],
     &["check", "s", "i"],
     &["pcode", "s", "i"],

@@ -1,14 +1,19 @@
-use Rattle.std.proofs.Common.{Ok, Err, Option, subst}
+use Rattle.std.proofs.Common.{ℕ, List, [], Option, Ok, Err, subst, sym}
 use Rattle.std.proofs.lemmas.Result.{err_from_is_err_and}
 use Rattle.sl_outside.specs.Folder.{Folder}
-use Rattle.sl_tool.specs.Answers.{Answers, due_of}
-use Rattle.sl_tool.specs.Requests.{request}
+use Rattle.sl_preproc.specs.Asks.{AsksFor as AsksForText}
+use Rattle.sl_request.specs.Views.{target}
+use Rattle.sl_tool.specs.Answers.{Answers, AsksAfter, AsksFor, Displays, Follows, UsesFilesFor, Waits}
+use Rattle.sl_tool.specs.Outcomes.{FailsToRead, IsEarly, Writes}
+use Rattle.sl_tool.specs.Request.{CheckSpec, ShowImage, spec_of}
+use Rattle.sl_tool.specs.Requests.{command, request}
 use Rattle.sl_tool.specs.SourceView.{source_view}
+use Rattle.sl_tool.specs.Stage.{Then}
 use Rattle.sl_tool.specs.Stage.Then.{stops, goes}
-use Rattle.sl_tool.specs.Stages.{Expands, Tokenizes, Parses, Tabulates, Settles, Loads, Judges}
-use Rattle.sl_tool.specs.StageViews.{tree_view, tables_view, checked_view, input_view}
-use Rattle.sl_tool.specs.TokensView.{tokens_view}
-use Rattle.sl_tool.proofs.AnsweredLemmas.{gives_obtains, read_all, show_unwritten, show_writes, stop_first, stop_pure, stop_second, stop_sink, stop_writes}
+use Rattle.sl_tool.specs.Stages.{Binds, Expands, Parses, Reads, Tokenizes}
+use Rattle.sl_tool.specs.StageViews.{tree_view}
+use Rattle.sl_tool.specs.declared.request.Request.{Request}
+use Rattle.sl_tool.proofs.AnsweredLemmas.{follows, gives_files, gives_obtains, gives_sink, gives_writes, stop_first, stop_second, stop_sink, stop_writes, writes_map}
 use Rattle.sl_tool.proofs.answer.answered.Goals as goal
 
 -- ---- the text has no expansion
@@ -18,182 +23,111 @@ returns-in_err-source-clause-writes g c =
     let p = err_from_is_err_and c.from_residual.result c.from_residual.ensures.1 in
     let told = g.F.Files.told c.args.files.now in
     let r = request c.args.request.now in
-    rw (p.1, p.2) (stop_writes told r (Expands told r.target.spec) source_view _ c.in_err-source.field-0.0 (λ e s. stops (stops s)) c.in_err-source.ensures.gives)
+    rw (p.1, p.2) (stop_writes (Expands told c.spec.result.now) source_view (Answers told r) _ c.in_err-source.field-0.0
+    (λ e s. stops (stops (subst (λ (name : List ℕ). Expands told name (Err e)) c.spec.ensures s))) c.in_err-source.ensures.gives)
 
 pub returns-in_err-source-clause-files : goal.returns-in_err-source-clause-files
 returns-in_err-source-clause-files g c =
     let p = err_from_is_err_and c.from_residual.result c.from_residual.ensures.1 in
     let told = g.F.Files.told c.args.files.now in
     let r = request c.args.request.now in
-    rw (p.1, p.2) (stop_first g.F.Files.told g.F.Files.faults g.F.Files.asked r (Expands told r.target.spec) source_view _ _ c.in_err-source.field-0.0
-    (λ e s. stops s) c.in_err-source.ensures.gives c.in_err-source.ensures.files)
+    let w = c.in_err-source.ensures.files in
+    rw (p.1, p.2) (stop_first g.F.Files.told g.F.Files.faults g.F.Files.asked r (Expands told c.spec.result.now) source_view _ _ c.in_err-source.field-0.0
+    (λ e s. stops (subst (λ (name : List ℕ). Expands told name (Err e)) c.spec.ensures s)) c.in_err-source.ensures.gives
+    (w.0, subst (λ (name : List ℕ). AsksForText told name w.0) c.spec.ensures w.1, w.2))
 
 pub returns-in_err-source-clause-sink : goal.returns-in_err-source-clause-sink
 returns-in_err-source-clause-sink g c =
     let p = err_from_is_err_and c.from_residual.result c.from_residual.ensures.1 in
     let told = g.F.Files.told c.args.files.now in
-    let r = request c.args.request.now in
-    rw (p.1, p.2) (stop_sink (Expands told r.target.spec) source_view g.K.Sink.faults g.K.Sink.calls c.args.out.now c.in_err-source.field-0.0 c.in_err-source.ensures.gives)
+    rw (p.1, p.2) (stop_sink (Expands told c.spec.result.now) source_view g.K.Sink.faults g.K.Sink.calls c.args.out.now c.in_err-source.field-0.0 c.in_err-source.ensures.gives)
 
--- ---- the text has no tokens
-
-pub returns-in_err-tokens-clause-writes : goal.returns-in_err-tokens-clause-writes
-returns-in_err-tokens-clause-writes g c =
-    let p = err_from_is_err_and c.from_residual-in_err-tokens.result c.from_residual-in_err-tokens.ensures.1 in
-    let told = g.F.Files.told c.args.files.now in
-    let r = request c.args.request.now in
-    let fetched = c.in_ok-source.ensures.gives in
-    let h = c.in_err-tokens.field-0.0 in
-    rw (p.1, p.2) (stop_writes told r (Tokenizes (source_view c.in_ok-source.source)) tokens_view _ h (λ e s. stops (goes fetched (stops s)))
-    (gives_obtains (Tokenizes (source_view c.in_ok-source.source)) tokens_view h c.in_err-tokens.ensures))
-
-pub returns-in_err-tokens-clause-files : goal.returns-in_err-tokens-clause-files
-returns-in_err-tokens-clause-files g c =
-    let p = err_from_is_err_and c.from_residual-in_err-tokens.result c.from_residual-in_err-tokens.ensures.1 in
-    let r = request c.args.request.now in
-    let fetched = c.in_ok-source.ensures.gives in
-    rw (p.1, p.2) (stop_pure g.F.Files.told g.F.Files.faults g.F.Files.asked r (Tokenizes (source_view c.in_ok-source.source)) tokens_view _ _ _ _ c.in_err-tokens.field-0.0
-    (λ e s. goes fetched (stops s)) c.in_err-tokens.ensures c.in_ok-source.ensures.files (λ n. n))
-
-pub returns-in_err-tokens-clause-sink : goal.returns-in_err-tokens-clause-sink
-returns-in_err-tokens-clause-sink g c =
-    let p = err_from_is_err_and c.from_residual-in_err-tokens.result c.from_residual-in_err-tokens.ensures.1 in
-    let h = c.in_err-tokens.field-0.0 in
-    rw (p.1, p.2) (stop_sink (Tokenizes (source_view c.in_ok-source.source)) tokens_view g.K.Sink.faults g.K.Sink.calls c.args.out.now h (gives_obtains (Tokenizes (source_view c.in_ok-source.source)) tokens_view h c.in_err-tokens.ensures))
-
--- ---- the tokens spell no tree
+-- ---- the text spells no tree
 
 pub returns-in_err-tree-clause-writes : goal.returns-in_err-tree-clause-writes
 returns-in_err-tree-clause-writes g c =
     let p = err_from_is_err_and c.from_residual-in_err-tree.result c.from_residual-in_err-tree.ensures.1 in
     let told = g.F.Files.told c.args.files.now in
     let r = request c.args.request.now in
-    let fetched = c.in_ok-source.ensures.gives in
+    let s = source_view c.in_ok-source.source in
     let h = c.in_err-tree.field-0.0 in
-    rw (p.1, p.2) (stop_writes told r (Parses (tokens_view c.in_ok-tokens.tokens)) tree_view _ h (λ e s. stops (goes fetched (goes c.in_ok-tokens.ensures (stops s))))
-    (gives_obtains (Parses (tokens_view c.in_ok-tokens.tokens)) tree_view h c.in_err-tree.ensures.gives))
+    let expanded : Expands told (spec_of r) (Ok s) = subst (λ (name : List ℕ). Expands told name (Ok s)) c.spec.ensures c.in_ok-source.ensures.gives in
+    rw (p.1, p.2) (stop_writes (Then Tokenizes Parses s) tree_view (Answers told r) _ h (λ e t. stops (goes expanded t))
+    (gives_obtains (Then Tokenizes Parses s) tree_view h c.in_err-tree.ensures))
 
 pub returns-in_err-tree-clause-files : goal.returns-in_err-tree-clause-files
 returns-in_err-tree-clause-files g c =
     let p = err_from_is_err_and c.from_residual-in_err-tree.result c.from_residual-in_err-tree.ensures.1 in
+    let told = g.F.Files.told c.args.files.now in
     let r = request c.args.request.now in
-    let fetched = c.in_ok-source.ensures.gives in
-    rw (p.1, p.2) (stop_pure g.F.Files.told g.F.Files.faults g.F.Files.asked r (Parses (tokens_view c.in_ok-tokens.tokens)) tree_view _ _ _ _ c.in_err-tree.field-0.0
-    (λ e s. goes fetched (goes c.in_ok-tokens.ensures (stops s))) c.in_err-tree.ensures.gives c.in_ok-source.ensures.files (λ n. n))
+    let s = source_view c.in_ok-source.source in
+    let w = c.in_ok-source.ensures.files in
+    let expanded : Expands told (spec_of r) (Ok s) = subst (λ (name : List ℕ). Expands told name (Ok s)) c.spec.ensures c.in_ok-source.ensures.gives in
+    rw (p.1, p.2) (stop_second g.F.Files.told g.F.Files.faults g.F.Files.asked r (Then Tokenizes Parses s) tree_view _ _ _ _ c.in_err-tree.field-0.0
+    (λ e t. goes expanded t) c.in_err-tree.ensures (w.0, subst (λ (name : List ℕ). AsksForText told name w.0) c.spec.ensures w.1, w.2) (λ n. n))
 
 pub returns-in_err-tree-clause-sink : goal.returns-in_err-tree-clause-sink
 returns-in_err-tree-clause-sink g c =
     let p = err_from_is_err_and c.from_residual-in_err-tree.result c.from_residual-in_err-tree.ensures.1 in
+    let s = source_view c.in_ok-source.source in
     let h = c.in_err-tree.field-0.0 in
-    rw (p.1, p.2) (stop_sink (Parses (tokens_view c.in_ok-tokens.tokens)) tree_view g.K.Sink.faults g.K.Sink.calls c.args.out.now h (gives_obtains (Parses (tokens_view c.in_ok-tokens.tokens)) tree_view h c.in_err-tree.ensures.gives))
+    rw (p.1, p.2) (stop_sink (Then Tokenizes Parses s) tree_view g.K.Sink.faults g.K.Sink.calls c.args.out.now h
+    (gives_obtains (Then Tokenizes Parses s) tree_view h c.in_err-tree.ensures))
 
--- ---- the tree is no description
+-- ---- a specification is checked
 
-pub returns-in_err-tables-clause-writes : goal.returns-in_err-tables-clause-writes
-returns-in_err-tables-clause-writes g c =
-    let p = err_from_is_err_and c.from_residual-in_err-tables.result c.from_residual-in_err-tables.ensures.1 in
+pub returns-in-Check-clause-writes : goal.returns-in-Check-clause-writes
+returns-in-Check-clause-writes g c =
     let told = g.F.Files.told c.args.files.now in
     let r = request c.args.request.now in
-    let fetched = c.in_ok-source.ensures.gives in
-    let h = c.in_err-tables.field-0.0 in
-    rw (p.1, p.2) (stop_writes told r (Tabulates (tree_view c.in_ok-tree.tree)) tables_view _ h (λ e s. stops (goes fetched (goes c.in_ok-tokens.ensures (goes c.in_ok-tree.ensures.gives (stops s)))))
-    (gives_obtains (Tabulates (tree_view c.in_ok-tree.tree)) tables_view h c.in_err-tables.ensures.gives))
+    let s = source_view c.in_ok-source.source in
+    let u = tree_view c.in_ok-tree.tree in
+    let read : Reads told (spec_of r) (Ok u) = goes (subst (λ (name : List ℕ). Expands told name (Ok s)) c.spec.ensures c.in_ok-source.ensures.gives) c.in_ok-tree.ensures in
+    writes_map (Then Binds Waits u) (Answers told r) _ _ c.check.result
+    (λ x t. goes read (subst (λ (q : Request). Follows told (request q) u x) (sym c.in-Check.is) t)) (gives_writes (Then Binds Waits u) _ c.check.result c.check.ensures)
 
-pub returns-in_err-tables-clause-files : goal.returns-in_err-tables-clause-files
-returns-in_err-tables-clause-files g c =
-    let p = err_from_is_err_and c.from_residual-in_err-tables.result c.from_residual-in_err-tables.ensures.1 in
-    let r = request c.args.request.now in
-    let fetched = c.in_ok-source.ensures.gives in
-    rw (p.1, p.2) (stop_pure g.F.Files.told g.F.Files.faults g.F.Files.asked r (Tabulates (tree_view c.in_ok-tree.tree)) tables_view _ _ _ _ c.in_err-tables.field-0.0
-    (λ e s. goes fetched (goes c.in_ok-tokens.ensures (goes c.in_ok-tree.ensures.gives (stops s)))) c.in_err-tables.ensures.gives c.in_ok-source.ensures.files (λ n. n))
-
-pub returns-in_err-tables-clause-sink : goal.returns-in_err-tables-clause-sink
-returns-in_err-tables-clause-sink g c =
-    let p = err_from_is_err_and c.from_residual-in_err-tables.result c.from_residual-in_err-tables.ensures.1 in
-    let h = c.in_err-tables.field-0.0 in
-    rw (p.1, p.2) (stop_sink (Tabulates (tree_view c.in_ok-tree.tree)) tables_view g.K.Sink.faults g.K.Sink.calls c.args.out.now h (gives_obtains (Tabulates (tree_view c.in_ok-tree.tree)) tables_view h c.in_err-tables.ensures.gives))
-
--- ---- the description has a conflict
-
-pub returns-in_err-checked-clause-writes : goal.returns-in_err-checked-clause-writes
-returns-in_err-checked-clause-writes g c =
-    let p = err_from_is_err_and c.from_residual-in_err-checked.result c.from_residual-in_err-checked.ensures.1 in
+pub returns-in-Check-clause-files : goal.returns-in-Check-clause-files
+returns-in-Check-clause-files g c =
     let told = g.F.Files.told c.args.files.now in
     let r = request c.args.request.now in
-    let fetched = c.in_ok-source.ensures.gives in
-    let h = c.in_err-checked.field-0.0 in
-    rw (p.1, p.2) (stop_writes told r (Settles (tables_view c.in_ok-tables.tables)) checked_view _ h (λ e s. stops (goes fetched (goes c.in_ok-tokens.ensures (goes c.in_ok-tree.ensures.gives (goes c.in_ok-tables.ensures.gives s)))))
-    (gives_obtains (Settles (tables_view c.in_ok-tables.tables)) checked_view h c.in_err-checked.ensures.gives))
+    let s = source_view c.in_ok-source.source in
+    let u = tree_view c.in_ok-tree.tree in
+    let w = c.in_ok-source.ensures.files in
+    let read : Reads told (spec_of r) (Ok u) = goes (subst (λ (name : List ℕ). Expands told name (Ok s)) c.spec.ensures c.in_ok-source.ensures.gives) c.in_ok-tree.ensures in
+    follows g.F.Files.told g.F.Files.faults g.F.Files.asked r _ _ _ u _ _ _ _ read
+    (w.0, subst (λ (name : List ℕ). AsksForText told name w.0) c.spec.ensures w.1, w.2) (λ n. n)
+    (subst (λ (q : Request). UsesFilesFor g.F.Files.told g.F.Files.faults g.F.Files.asked (AsksAfter (request q) u) c.read.new.files c.read.new.files
+    (IsEarly c.check.result) (FailsToRead c.check.result)) (sym c.in-Check.is)
+    (gives_files g.F.Files.told g.F.Files.faults g.F.Files.asked (Then Binds Waits u) c.read.new.files c.check.result c.check.ensures))
 
-pub returns-in_err-checked-clause-files : goal.returns-in_err-checked-clause-files
-returns-in_err-checked-clause-files g c =
-    let p = err_from_is_err_and c.from_residual-in_err-checked.result c.from_residual-in_err-checked.ensures.1 in
-    let r = request c.args.request.now in
-    let fetched = c.in_ok-source.ensures.gives in
-    rw (p.1, p.2) (stop_pure g.F.Files.told g.F.Files.faults g.F.Files.asked r (Settles (tables_view c.in_ok-tables.tables)) checked_view _ _ _ _ c.in_err-checked.field-0.0
-    (λ e s. goes fetched (goes c.in_ok-tokens.ensures (goes c.in_ok-tree.ensures.gives (goes c.in_ok-tables.ensures.gives s)))) c.in_err-checked.ensures.gives c.in_ok-source.ensures.files (λ n. n))
+pub returns-in-Check-clause-sink : goal.returns-in-Check-clause-sink
+returns-in-Check-clause-sink g c =
+    gives_sink (Then Binds Waits (tree_view c.in_ok-tree.tree)) g.K.Sink.faults g.K.Sink.calls c.args.out.now c.check.result c.check.ensures
 
-pub returns-in_err-checked-clause-sink : goal.returns-in_err-checked-clause-sink
-returns-in_err-checked-clause-sink g c =
-    let p = err_from_is_err_and c.from_residual-in_err-checked.result c.from_residual-in_err-checked.ensures.1 in
-    let h = c.in_err-checked.field-0.0 in
-    rw (p.1, p.2) (stop_sink (Settles (tables_view c.in_ok-tables.tables)) checked_view g.K.Sink.faults g.K.Sink.calls c.args.out.now h (gives_obtains (Settles (tables_view c.in_ok-tables.tables)) checked_view h c.in_err-checked.ensures.gives))
+-- ---- an image is shown
 
--- ---- the image is none
-
-pub returns-in_err-input-clause-writes : goal.returns-in_err-input-clause-writes
-returns-in_err-input-clause-writes g c =
-    let p = err_from_is_err_and c.from_residual-in_err-input.result c.from_residual-in_err-input.ensures.1 in
-    let told = g.F.Files.told c.args.files.now in
-    let later = g.F.Files.told c.read.new.files in
-    let r = request c.args.request.now in
-    let b = checked_view c.in_ok-checked.checked in
-    let judged : Judges told r.target.spec (Ok b) =
-    goes c.in_ok-source.ensures.gives (goes c.in_ok-tokens.ensures (goes c.in_ok-tree.ensures.gives (goes c.in_ok-tables.ensures.gives c.in_ok-checked.ensures.gives))) in
-    rw (p.1, p.2) (stop_writes told r (Loads later r.target b) input_view _ c.in_err-input.field-0.0
-    (λ e s. goes judged (stops (subst (λ (f : Option Folder). Loads f r.target b (Err e)) c.in_ok-source.ensures.files.2.same_folder s))) c.in_err-input.ensures.gives)
-
-pub returns-in_err-input-clause-files : goal.returns-in_err-input-clause-files
-returns-in_err-input-clause-files g c =
-    let p = err_from_is_err_and c.from_residual-in_err-input.result c.from_residual-in_err-input.ensures.1 in
+pub returns-in-Show-clause-writes : goal.returns-in-Show-clause-writes
+returns-in-Show-clause-writes g c =
     let told = g.F.Files.told c.args.files.now in
     let r = request c.args.request.now in
-    let b = checked_view c.in_ok-checked.checked in
-    let judged : Judges told r.target.spec (Ok b) =
-    goes c.in_ok-source.ensures.gives (goes c.in_ok-tokens.ensures (goes c.in_ok-tree.ensures.gives (goes c.in_ok-tables.ensures.gives c.in_ok-checked.ensures.gives))) in
-    rw (p.1, p.2) (stop_second g.F.Files.told g.F.Files.faults g.F.Files.asked r _ _ _ b _ _ c.in_err-input.field-0.0
-    judged c.in_ok-source.ensures.files (λ n. n) c.in_err-input.ensures.files)
+    let s = source_view c.in_ok-source.source in
+    let u = tree_view c.in_ok-tree.tree in
+    let read : Reads told (spec_of r) (Ok u) = goes (subst (λ (name : List ℕ). Expands told name (Ok s)) c.spec.ensures c.in_ok-source.ensures.gives) c.in_ok-tree.ensures in
+    let k = command c.in-Show.command in
+    let t = target c.in-Show.target in
+    let same = c.in_ok-source.ensures.files.2.same_folder in
+    writes_map (Displays (g.F.Files.told c.read.new.files) k t u) (Answers told r) _ _ c.shown.result
+    (λ x d. goes read (subst (λ (q : Request). Follows told (request q) u x) (sym c.in-Show.is) (subst (λ (f : Option Folder). Displays f k t u x) same d))) c.shown.ensures.writes
 
-pub returns-in_err-input-clause-sink : goal.returns-in_err-input-clause-sink
-returns-in_err-input-clause-sink g c =
-    let p = err_from_is_err_and c.from_residual-in_err-input.result c.from_residual-in_err-input.ensures.1 in
-    let later = g.F.Files.told c.read.new.files in
-    let r = request c.args.request.now in
-    rw (p.1, p.2) (stop_sink (Loads later r.target (checked_view c.in_ok-checked.checked)) input_view g.K.Sink.faults g.K.Sink.calls c.args.out.now
-    c.in_err-input.field-0.0 c.in_err-input.ensures.gives)
-
--- ---- a command writes
-
-pub returns-clause-writes : goal.returns-clause-writes
-returns-clause-writes g c =
+pub returns-in-Show-clause-files : goal.returns-in-Show-clause-files
+returns-in-Show-clause-files g c =
     let told = g.F.Files.told c.args.files.now in
     let r = request c.args.request.now in
-    let b = checked_view c.in_ok-checked.checked in
-    let i = input_view c.in_ok-input.input in
-    let judged : Judges told r.target.spec (Ok b) =
-    goes c.in_ok-source.ensures.gives (goes c.in_ok-tokens.ensures (goes c.in_ok-tree.ensures.gives (goes c.in_ok-tables.ensures.gives c.in_ok-checked.ensures.gives))) in
-    let has = subst (λ (f : Option Folder). Loads f r.target b (Ok i)) c.in_ok-source.ensures.files.2.same_folder c.in_ok-input.ensures.gives in
-    show_writes (Answers told r) (due_of r.command i) _ _ c.show.result (λ e text d. goes judged (goes has d)) c.show.ensures.streams
-
-pub returns-clause-files : goal.returns-clause-files
-returns-clause-files g c =
-    let told = g.F.Files.told c.args.files.now in
-    let r = request c.args.request.now in
-    let b = checked_view c.in_ok-checked.checked in
-    let judged : Judges told r.target.spec (Ok b) =
-    goes c.in_ok-source.ensures.gives (goes c.in_ok-tokens.ensures (goes c.in_ok-tree.ensures.gives (goes c.in_ok-tables.ensures.gives c.in_ok-checked.ensures.gives))) in
-    read_all g.F.Files.told g.F.Files.faults g.F.Files.asked r _ _ _ b _ _ _ _ (due_of r.command (input_view c.in_ok-input.input)) _ _ c.show.result
-    judged c.in_ok-source.ensures.files (λ n. n) c.in_ok-input.ensures.files (λ n. n) c.show.ensures.streams
-
-pub returns-clause-unwritten : goal.returns-clause-unwritten
-returns-clause-unwritten g c = show_unwritten (due_of (request c.args.request.now).command (input_view c.in_ok-input.input)) _ _ c.show.result c.show.ensures.streams
+    let s = source_view c.in_ok-source.source in
+    let u = tree_view c.in_ok-tree.tree in
+    let w = c.in_ok-source.ensures.files in
+    let read : Reads told (spec_of r) (Ok u) = goes (subst (λ (name : List ℕ). Expands told name (Ok s)) c.spec.ensures c.in_ok-source.ensures.gives) c.in_ok-tree.ensures in
+    follows g.F.Files.told g.F.Files.faults g.F.Files.asked r _ _ _ u _ _ _ _ read
+    (w.0, subst (λ (name : List ℕ). AsksForText told name w.0) c.spec.ensures w.1, w.2) (λ n. n)
+    (subst (λ (q : Request). UsesFilesFor g.F.Files.told g.F.Files.faults g.F.Files.asked (AsksAfter (request q) u) c.read.new.files c.shown.new.files
+    (IsEarly c.shown.result) (FailsToRead c.shown.result)) (sym c.in-Show.is) c.shown.ensures.files)

@@ -2,7 +2,7 @@ use Rattle.std.proofs.Common.{ℕ, List, Some, None, Option, inl, map, ap, sym, 
 use Rattle.std.proofs.KnownBytes.{Appends-nil}
 use Rattle.std.specs.Prelude.{string_bytes}
 use Rattle.std.specs.Option.{option_map}
-use Rattle.sl_tool.specs.Answers.{Answers, UsesFilesFor}
+use Rattle.sl_tool.specs.Answers.{Answers, AsksFor, UsesFilesFor}
 use Rattle.sl_tool.specs.Ends.{Ends, Means, RunsFor}
 use Rattle.sl_tool.specs.Ends.Means.{usage, answer}
 use Rattle.sl_tool.specs.Outcomes.{IsReadFault, StopsEarly}
@@ -78,8 +78,9 @@ returns-in-Err-Refused-clause-files g c =
     let r = request c.in-Some.request in
     let x = c.in-Err-Refused.refusal in
     let asked = sym c.in-Ok.ensures ∙ ap (option_map request) c.in-Some.is in
-    let uses : UsesFilesFor g.F.Files.told g.F.Files.faults g.F.Files.asked r files after ⊥ ⊥ =
-    subst (λ (h : Halt). UsesFilesFor g.F.Files.told g.F.Files.faults g.F.Files.asked r files after (StopsEarly h) (IsReadFault h)) c.in-Err-Refused.field-0-is c.in-Err-Refused.ensures.files in
+    let due = AsksFor (g.F.Files.told files) r in
+    let uses : UsesFilesFor g.F.Files.told g.F.Files.faults g.F.Files.asked due files after ⊥ ⊥ =
+    subst (λ (h : Halt). UsesFilesFor g.F.Files.told g.F.Files.faults g.F.Files.asked due files after (StopsEarly h) (IsReadFault h)) c.in-Err-Refused.field-0-is c.in-Err-Refused.ensures.files in
     subst (λ (o : Option Request). RunsFor g.F.Files.told g.F.Files.faults g.F.Files.asked o files after c.refused.result) (sym asked)
     (refused_uses g.F.Files.told g.F.Files.faults g.F.Files.asked files after r c.refused.result
     (written_reads (g.K.Sink.taken c.answered.new.out) (g.K.Sink.taken c.refused.new.out) (refusal_text x) Refused c.refused.result tt c.refused.ensures.whole) uses)
