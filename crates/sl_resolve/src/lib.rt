@@ -1,0 +1,16 @@
+//! From the tree of a section to the flat section: names, scopes and macros taken out, and size
+//! variables numbered.
+#![tactic(auto)]
+
+mod macros;
+mod names;
+mod operands;
+mod operators;
+mod reach;
+mod state;
+mod statements;
+mod terms;
+
+pub use macros::MacroBody;
+pub use names::{Names, NamedSymbol};
+pub use reach::{Reach, reach_of};
