@@ -4,3 +4,4 @@ pub mod Scopes
 pub mod Seen
 pub mod Steps
 pub mod Terms
+pub mod Work

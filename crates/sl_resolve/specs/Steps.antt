@@ -1,7 +1,7 @@
 -- meaning: statements with their names taken out, and with each call of a macro taken out (SLEIGH
 -- manual, "The Semantic Section", "Statements", "P-code Macros").
 use Rattle.std.specs.Prelude.{ℕ, zero, suc, ◌+◌, ◌==◌, ◌&&◌, codes, Bool, true, false, not}
-use Rattle.std.specs.Prelude.{List, [], ◌∷◌, ◌++◌, length, slice_get, if◌then◌else◌}
+use Rattle.std.specs.Prelude.{List, [], ◌∷◌, ◌++◌, fold, length, slice_get, if◌then◌else◌}
 use Rattle.std.specs.Prelude.{Option, Some, None, map, option_map, unwrap_or}
 use Rattle.std.specs.Str.{bytes_eq}
 use Rattle.sl_ast.specs.Trees.{Expression, integer, named, paren, call, sized, dropped, bits, prefix}
@@ -123,21 +123,26 @@ abbrev pub is_number : ℕ → Option ℕ → Bool
 is_number n None = false
 is_number n (Some i) = i == n
 
--- the names that are built
-abbrev pub built : List Statement → List Name
-built [] = []
-built (build w ∷ xs) = w ∷ built xs
-built (_ ∷ xs) = built xs
+abbrev pub with_name : List Name → Name → List Name
+with_name names w = if is_among names w then names else names ++ w ∷ []
+
+-- the names that are built, each once
+abbrev pub with_built : List Name → Statement → List Name
+with_built names (build w) = with_name names w
+with_built names _ = names
 
 abbrev pub is_table : Means → Bool
 is_table (means.Table table) = true
 is_table _ = false
 
+abbrev pub unplaced_one : List Name → (i : ℕ) → tables.Operand → List Step
+unplaced_one names i o =
+    if is_table o.means && not (is_among names o.name) then s.build i ∷ [] else []
+
 -- the sections of tables that no `build` places run first, in the order of the operands
 abbrev pub unplaced : List Name → (i : ℕ) → List tables.Operand → List Step
 unplaced names i [] = []
-unplaced names i (o ∷ os) = if is_table o.means && not (is_among names o.name)
-    then s.build i ∷ unplaced names (i + 1) os else unplaced names (i + 1) os
+unplaced names i (o ∷ os) = unplaced_one names i o ++ unplaced names (i + 1) os
 
 module _ (t : Tables) where
   abbrev pub term_here : State → Expression → Term
@@ -296,6 +301,14 @@ module _ (t : Tables) where
     calls = st.calls + 1;
   }
 
+  -- a call of this macro, whose statements know these calls
+  abbrev pub macro_calls : Calls → MacroBody → Calls
+  macro_calls earlier m = record {
+    taken = λ w es st.
+        given st.names st.next es ++ all_taken earlier (entered st m es) (body_of m);
+    after = λ w es st. returned st (all_after earlier (entered st m es) (body_of m));
+  }
+
   -- where a section begins: with the names of its operands; it is call 0
   abbrev pub opening : Reach → List tables.Operand → State
   opening reach os = record {
@@ -313,11 +326,9 @@ module _ (t : Tables) where
     abbrev pub with_macro : ℕ → Option MacroBody → Calls → Calls
     with_macro n None earlier = earlier
     with_macro n (Some m) earlier = record {
-      taken = λ w es st. if is_call_of n m w es
-          then given st.names st.next es ++ all_taken earlier (entered st m es) (body_of m)
+      taken = λ w es st. if is_call_of n m w es then (macro_calls earlier m).taken w es st
           else earlier.taken w es st;
-      after = λ w es st. if is_call_of n m w es
-          then returned st (all_after earlier (entered st m es) (body_of m))
+      after = λ w es st. if is_call_of n m w es then (macro_calls earlier m).after w es st
           else earlier.after w es st;
     }
 
@@ -326,9 +337,11 @@ module _ (t : Tables) where
     calls_of zero = userop_calls
     calls_of (suc n) = with_macro n (slice_get macros n) (calls_of n)
 
+    -- ---- sections
+
     -- the statements of a section, by what is defined before its constructor, and the operands
     abbrev pub section_steps : Reach → List tables.Operand → List Statement → List Step
-    section_steps reach os body = unplaced (built body) 0 os
+    section_steps reach os body = unplaced (fold with_built [] body) 0 os
         ++ all_taken (calls_of reach.macros) (opening reach os) body
 
     -- how many size variables they have

@@ -2,14 +2,18 @@
 //! variables numbered.
 #![tactic(auto)]
 
+mod arguments;
 mod macros;
 mod names;
 mod operands;
 mod operators;
+mod placing;
 mod reach;
+mod reading;
 mod state;
 mod statements;
 mod terms;
+mod work;
 
 pub use macros::MacroBody;
 pub use names::{Names, NamedSymbol};
