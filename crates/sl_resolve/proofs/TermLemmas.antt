@@ -1,5 +1,5 @@
 -- Calls in expressions.
-use Rattle.std.proofs.Common.{◌≡◌, ℕ, ◌+◌, ◌≤◌, List, [], ◌∷◌, ◌++◌, Option, Some, None, length, drop, map, refl, sym, ap, ◌∙◌, append-nil, arith}
+use Rattle.std.proofs.Common.{◌≡◌, ℕ, ◌+◌, ◌≤◌, List, ◌++◌, Option, Some, None, length, drop, refl, sym, ap, ◌∙◌, append-nil, arith}
 use Rattle.std.proofs.Math.ListN.{drop_of_length-le}
 use Rattle.sl_ast.specs.Trees.{Expression, Expressions, integer, named, paren, call, sized, dropped, bits, prefix, star, binary, no_more, with_more}
 use denote.Ref.{Bor}
@@ -15,7 +15,7 @@ use Rattle.sl_section.specs.Sections.{Symbol, Term}
 use Rattle.sl_spec.specs.Tables.{Name}
 use Rattle.sl_spec.specs.declared.tables.Tables.{Tables}
 use Rattle.sl_resolve.specs.Scopes.{symbol_named}
-use Rattle.sl_resolve.specs.Terms.{called, dropped_of, dropped_or, single_integer, term_at, terms_at, variables, variables_in}
+use Rattle.sl_resolve.specs.Terms.{called, dropped_of, dropped_or, single_integer, term_at, terms_at, variables_in}
 use Rattle.sl_resolve.specs.declared.names.Names.{Names}
 
 -- a call as the definitions see it
@@ -56,14 +56,14 @@ module _ (t : Tables) (names : Names) where
       → now ≡ terms_at t names start (arguments (expressions_of es))
   all_terms start es now next i end so_far =
       let here : now ++ terms_at t names next (arguments (expressions_of (drop i es))) ≡ now =
-          ap (λ (l : List Expr). now ++ terms_at t names next (arguments (expressions_of l))) (drop_of_length-le es end) ∙ append-nil now in
+      ap (λ (l : List Expr). now ++ terms_at t names next (arguments (expressions_of l))) (drop_of_length-le es end) ∙ append-nil now in
       sym here ∙ so_far
 
   pub all_counted : (start : ℕ) (es : List Expr) (next i : ℕ) → length es ≤ i → AreCounted start es next i
       → next ≡ start + variables_in (arguments (expressions_of es))
   all_counted start es next i end so_far =
       let here : next + variables_in (arguments (expressions_of (drop i es))) ≡ next + 0 =
-          ap (λ (l : List Expr). next + variables_in (arguments (expressions_of l))) (drop_of_length-le es end) in
+      ap (λ (l : List Expr). next + variables_in (arguments (expressions_of l))) (drop_of_length-le es end) in
       omega (arith, here, so_far)
 
   -- a call that drops no bytes

@@ -1,5 +1,5 @@
 -- Reading with a stack of frames comes to what the definition gives.
-use Rattle.std.proofs.Common.{◌≡◌, ℕ, zero, suc, ◌+◌, ◌<◌, ◌≤◌, ◌==◌, ◌&&◌, Bool, true, false, nat_lt, List, [], ◌∷◌, ◌++◌, Option, Some, None, length, drop, slice_get, refl, sym, ap, ◌∙◌, subst, append_assoc, arith, if◌then◌else◌}
+use Rattle.std.proofs.Common.{◌≡◌, ℕ, zero, suc, ◌==◌, ◌&&◌, Bool, true, false, nat_lt, List, [], ◌∷◌, ◌++◌, Option, Some, None, length, slice_get, refl, sym, ap, ◌∙◌, subst, append_assoc, arith, if◌then◌else◌}
 use Rattle.sl_ast.specs.Trees.{Expression, Statement, local, declare, assign, goto, branch, call_to, return, build, export, invoke, label}
 use Rattle.sl_section.specs.Sections.{Step}
 use Rattle.sl_section.specs.Views.{steps_of}
@@ -7,7 +7,7 @@ use Rattle.sl_spec.specs.Named.{index_named}
 use Rattle.sl_spec.specs.Tables.{Name}
 use Rattle.sl_spec.specs.declared.tables.Tables.{Tables}
 use Rattle.sl_resolve.specs.Scopes.{if_below}
-use Rattle.sl_resolve.specs.Steps.{Calls, after, all_after, all_taken, body_of, calls_of, entered, given, is_call_of, is_number, macro_calls, macro_name, parameters_of, returned, taken, userop_calls, with_macro}
+use Rattle.sl_resolve.specs.Steps.{Calls, after, all_after, all_taken, body_of, calls_of, entered, given, is_number, macro_calls, macro_name, parameters_of, returned, taken, userop_calls, with_macro}
 use Rattle.sl_resolve.specs.Work.{Begins, GoesOn, Outcome, behind, called_macro, frame_owes, gone_on, if_takes, left_in, nothing_left, outcome, outcome_with, owed, owed_from, resumed, state_in, statement_macro, taking, then_owed}
 use Rattle.sl_resolve.specs.declared.macros.MacroBody.{MacroBody}
 use Rattle.sl_resolve.specs.declared.names.Names.{Names}
@@ -94,7 +94,7 @@ module _ (t : Tables) (macros : List MacroBody) (w : Name) (es : List Expression
   by_where i n o less same up is_less is at ih = same_calls o (calls_of t macros n) _ ih
   by_where i n o less same up is_same is at ih =
       let here : Same (with_if true o (calls_of t macros n)) (chosen (if_takes n (slice_get macros n) es)) =
-          subst (λ p. Same (with_if true o (calls_of t macros n)) (chosen (if_takes n p es))) (sym at) (same_case n o at ih) in
+      subst (λ p. Same (with_if true o (calls_of t macros n)) (chosen (if_takes n p es))) (sym at) (same_case n o at ih) in
       subst (λ j. Same (with_if true o (calls_of t macros n)) (chosen (if_takes j (slice_get macros j) es))) (sym (is refl)) here
   by_where i n o less same up is_more is at ih = same_calls o (calls_of t macros n) _ ih
 
@@ -197,16 +197,16 @@ module _ (t : Tables) (macros : List MacroBody) where
       let old_steps = steps_of old.steps.items in
       let frames : owed t macros new.frames.items ≡ frame_owes t macros g k = ap (λ (fs : List Frame). owed t macros fs) goes.frames ∙ owed-last nothing_left old.frames.items g in
       let there : outcome t macros new ≡ behind (old_steps ++ taken t (userop_calls t) st x) (then_owed t macros c st' xs k) =
-          ap (λ (ss : List Step). behind ss (owed t macros new.frames.items new.next new.calls)) goes.steps
-          ∙ ap (λ (o : ℕ → ℕ → Outcome). behind (old_steps ++ taken t (userop_calls t) st x) (o new.next new.calls)) frames
-          ∙ ap (λ (n : ℕ). behind (old_steps ++ taken t (userop_calls t) st x) (frame_owes t macros g k n new.calls)) goes.next
-          ∙ ap (λ (n : ℕ). behind (old_steps ++ taken t (userop_calls t) st x) (frame_owes t macros g k st'.next n)) goes.calls in
+      ap (λ (ss : List Step). behind ss (owed t macros new.frames.items new.next new.calls)) goes.steps
+      ∙ ap (λ (o : ℕ → ℕ → Outcome). behind (old_steps ++ taken t (userop_calls t) st x) (o new.next new.calls)) frames
+      ∙ ap (λ (n : ℕ). behind (old_steps ++ taken t (userop_calls t) st x) (frame_owes t macros g k n new.calls)) goes.next
+      ∙ ap (λ (n : ℕ). behind (old_steps ++ taken t (userop_calls t) st x) (frame_owes t macros g k st'.next n)) goes.calls in
       let here : outcome_with t macros f old ≡ behind (old_steps ++ taken t (userop_calls t) st x) (then_owed t macros c st' xs k) =
-          ap (λ (ys : List Statement). behind old_steps (then_owed t macros c st ys k)) left
-          ∙ ap (λ (o : Outcome). behind old_steps o) (first_owed c st x xs k)
-          ∙ sym (behind-append old_steps (taken t c st x) (then_owed t macros c (after t c st x) xs k))
-          ∙ ap (λ (ss : List Step). behind (old_steps ++ ss) (then_owed t macros c (after t c st x) xs k)) (steps_alone t macros f.limit st x none)
-          ∙ ap (λ (s : State). behind (old_steps ++ taken t (userop_calls t) st x) (then_owed t macros c s xs k)) (after_alone t macros f.limit st x none) in
+      ap (λ (ys : List Statement). behind old_steps (then_owed t macros c st ys k)) left
+      ∙ ap (λ (o : Outcome). behind old_steps o) (first_owed c st x xs k)
+      ∙ sym (behind-append old_steps (taken t c st x) (then_owed t macros c (after t c st x) xs k))
+      ∙ ap (λ (ss : List Step). behind (old_steps ++ ss) (then_owed t macros c (after t c st x) xs k)) (steps_alone t macros f.limit st x none)
+      ∙ ap (λ (s : State). behind (old_steps ++ taken t (userop_calls t) st x) (then_owed t macros c s xs k)) (after_alone t macros f.limit st x none) in
       there ∙ sym here
 
   owed-two : (k : ℕ → ℕ → Outcome) (fs : List Frame) (f g : Frame) → owed_from t macros k (fs ++ f ∷ g ∷ []) ≡ frame_owes t macros g (frame_owes t macros f (owed_from t macros k fs))
@@ -233,24 +233,24 @@ module _ (t : Tables) (macros : List MacroBody) where
       let K = frame_owes t macros g k in
       let Z = then_owed t macros c (returned st E') xs k in
       let all_frames : owed t macros new.frames.items ≡ frame_owes t macros inner K =
-          ap (λ (fs : List Frame). owed t macros fs) (frames ∙ ap (λ (fs : List Frame). fs ++ g ∷ inner ∷ []) begins.frames) ∙ owed-two nothing_left old.frames.items g inner in
+      ap (λ (fs : List Frame). owed t macros fs) (frames ∙ ap (λ (fs : List Frame). fs ++ g ∷ inner ∷ []) begins.frames) ∙ owed-two nothing_left old.frames.items g inner in
       let all_steps : steps_of new.steps.items ≡ S ++ G = ap (λ v. steps_of v.items) steps ∙ begins.steps in
       let there : outcome t macros new ≡ behind (S ++ G) (then_owed t macros ci E (body_of m) K) =
-          ap (λ (ss : List Step). behind ss (owed t macros new.frames.items new.next new.calls)) all_steps
-          ∙ ap (λ (o : ℕ → ℕ → Outcome). behind (S ++ G) (o new.next new.calls)) all_frames
-          ∙ ap (λ (n : ℕ). behind (S ++ G) (frame_owes t macros inner K n new.calls)) (next ∙ begins.next)
-          ∙ ap (λ (n : ℕ). behind (S ++ G) (frame_owes t macros inner K E.next n)) (calls ∙ begins.calls)
-          ∙ ap (λ (n : ℕ). behind (S ++ G) (then_owed t macros (calls_of t macros n) (resumed inner.names E.next E.calls) (left_in inner) K)) begins.limit
-          ∙ ap (λ (ns : Names). behind (S ++ G) (then_owed t macros ci (resumed ns E.next E.calls) (left_in inner) K)) begins.names
-          ∙ ap (λ (ys : List Statement). behind (S ++ G) (then_owed t macros ci E ys K)) begins.left in
+      ap (λ (ss : List Step). behind ss (owed t macros new.frames.items new.next new.calls)) all_steps
+      ∙ ap (λ (o : ℕ → ℕ → Outcome). behind (S ++ G) (o new.next new.calls)) all_frames
+      ∙ ap (λ (n : ℕ). behind (S ++ G) (frame_owes t macros inner K n new.calls)) (next ∙ begins.next)
+      ∙ ap (λ (n : ℕ). behind (S ++ G) (frame_owes t macros inner K E.next n)) (calls ∙ begins.calls)
+      ∙ ap (λ (n : ℕ). behind (S ++ G) (then_owed t macros (calls_of t macros n) (resumed inner.names E.next E.calls) (left_in inner) K)) begins.limit
+      ∙ ap (λ (ns : Names). behind (S ++ G) (then_owed t macros ci (resumed ns E.next E.calls) (left_in inner) K)) begins.names
+      ∙ ap (λ (ys : List Statement). behind (S ++ G) (then_owed t macros ci E ys K)) begins.left in
       let link : behind (S ++ G) (then_owed t macros ci E (body_of m) K) ≡ behind (S ++ (G ++ A)) Z =
-          sym (behind-append (S ++ G) A Z) ∙ ap (λ (ss : List Step). behind ss Z) (append_assoc S G A) in
+      sym (behind-append (S ++ G) A Z) ∙ ap (λ (ss : List Step). behind ss Z) (append_assoc S G A) in
       let here : outcome_with t macros f old ≡ behind (S ++ (G ++ A)) Z =
-          ap (λ (ys : List Statement). behind S (then_owed t macros c st ys k)) left
-          ∙ ap (λ (o : Outcome). behind S o) (first_owed c st (invoke w es) xs k)
-          ∙ sym (behind-append S (c.taken w es st) (then_owed t macros c (c.after w es st) xs k))
-          ∙ ap (λ (ss : List Step). behind (S ++ ss) (then_owed t macros c (c.after w es st) xs k)) (steps_called t macros f.limit st w es i m found at)
-          ∙ ap (λ (s : State). behind (S ++ (G ++ A)) (then_owed t macros c s xs k)) (after_called t macros f.limit st w es i m found at) in
+      ap (λ (ys : List Statement). behind S (then_owed t macros c st ys k)) left
+      ∙ ap (λ (o : Outcome). behind S o) (first_owed c st (invoke w es) xs k)
+      ∙ sym (behind-append S (c.taken w es st) (then_owed t macros c (c.after w es st) xs k))
+      ∙ ap (λ (ss : List Step). behind (S ++ ss) (then_owed t macros c (c.after w es st) xs k)) (steps_called t macros f.limit st w es i m found at)
+      ∙ ap (λ (s : State). behind (S ++ (G ++ A)) (then_owed t macros c s xs k)) (after_called t macros f.limit st w es i m found at) in
       there ∙ link ∙ sym here
 
   -- where a frame was taken off

@@ -4,8 +4,8 @@ use Rattle.std.specs.Prelude.{ℕ, zero, suc, ◌+◌, ◌==◌, ◌&&◌, codes
 use Rattle.std.specs.Prelude.{List, [], ◌∷◌, ◌++◌, fold, length, slice_get, if◌then◌else◌}
 use Rattle.std.specs.Prelude.{Option, Some, None, map, option_map, unwrap_or}
 use Rattle.std.specs.Str.{bytes_eq}
-use Rattle.sl_ast.specs.Trees.{Expression, integer, named, paren, call, sized, dropped, bits, prefix}
-use Rattle.sl_ast.specs.Trees.{star, binary, Left, left_name, left_bits, left_star, StarForm}
+use Rattle.sl_ast.specs.Trees.{Expression, integer, named}
+use Rattle.sl_ast.specs.Trees.{Left, left_name, left_bits, left_star, StarForm}
 use Rattle.sl_ast.specs.Trees.{Operand, by_name, by_integer, Direct, to_label, to_operand}
 use Rattle.sl_ast.specs.Trees.{Dest, direct, computed, Target, calls, calls_computed}
 use Rattle.sl_ast.specs.Trees.{Exported, exports, exports_star, Statement, local, declare, assign}

@@ -10,11 +10,13 @@ mod operators;
 mod placing;
 mod reach;
 mod reading;
+mod sections;
 mod state;
 mod statements;
 mod terms;
 mod work;
 
 pub use macros::MacroBody;
-pub use names::{Names, NamedSymbol};
+pub use names::{NamedSymbol, Names};
 pub use reach::{Reach, reach_of};
+pub use sections::resolve;

@@ -33,13 +33,7 @@ pub fn if_below(n: usize, index: Option<usize>) -> Option<usize>
     ensures { result ≡ if_below n index }
 {
     match index {
-        Some(i) => {
-            if i < n {
-                Some(i)
-            } else {
-                None
-            }
-        }
+        Some(i) => { if i < n { Some(i) } else { None } }
         None => None,
     }
 }

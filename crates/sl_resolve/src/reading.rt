@@ -108,7 +108,15 @@ fn begin<'s, 'a>(
     let of = m.of;
     let here = take(&mut work.calls)?;
     let parameters = of.parameters.as_slice();
-    let own = bind(alloc, t, names, &mut work.next, &mut work.steps, parameters, es)?;
+    let own = bind(
+        alloc,
+        t,
+        names,
+        &mut work.next,
+        &mut work.steps,
+        parameters,
+        es,
+    )?;
     let names = Names {
         own,
         reach: m.reach,

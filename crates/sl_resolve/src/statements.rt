@@ -38,12 +38,7 @@ pub fn put<'a>(out: &mut Vec<Step<'a>>, step: Step<'a>) -> Result<(), AllocError
 
 impl<'a> State<'a> {
     /// The expression at this place.
-    fn term_here(
-        &mut self,
-        alloc: Global,
-        t: &Tables<'a>,
-        e: &Expr<'a>,
-    ) -> Result<Term, AllocError>
+    fn term_here(&mut self, alloc: Global, t: &Tables<'a>, e: &Expr<'a>) -> Result<Term, AllocError>
         ensures value { IfOk result (λ r. term_of r
             ≡ term_here t.now self.old (expression_of e.now)) }
         ensures moved { OnOk result (self.new ≡ moved (variables (expression_of e.now)) self.old) }
@@ -202,12 +197,7 @@ impl<'a> State<'a> {
         }
     }
 
-    fn goto(
-        &mut self,
-        alloc: Global,
-        t: &Tables<'a>,
-        to: &Dest<'a>,
-    ) -> Result<Step<'a>, AllocError>
+    fn goto(&mut self, alloc: Global, t: &Tables<'a>, to: &Dest<'a>) -> Result<Step<'a>, AllocError>
         ensures step { IfOk result (λ r. step_of r ≡ goto_step t.now self.old (a.dest_of to.now)) }
         ensures state { OnOk result (self.new
             ≡ moved (goto_variables (a.dest_of to.now)) self.old) }
@@ -331,12 +321,7 @@ impl<'a> State<'a> {
     }
 
     /// `build`
-    fn build(
-        &self,
-        t: &Tables<'a>,
-        out: &mut Vec<Step<'a>>,
-        name: &[u8],
-    ) -> Result<(), AllocError>
+    fn build(&self, t: &Tables<'a>, out: &mut Vec<Step<'a>>, name: &[u8]) -> Result<(), AllocError>
         ensures { OnOk result (Adds out.old.items out.new.items
             (build_steps (known_symbol t.now self.now.names name.now))) }
     {

@@ -15,8 +15,9 @@ use crate::names::{Names, space_named, userop_named};
 use crate::operators::{binary_function, operation, order, prefix_operation, unary_function};
 use crate::reach::Reach;
 use sl_ast::expressions::Expr;
-use sl_section::{Order, Span, Symbol, Term, written_size};
-use sl_section::{bits, dropped, kept, load, one, paren, two};
+use sl_section::{
+    Order, Span, Symbol, Term, bits, dropped, kept, load, one, paren, two, written_size,
+};
 use sl_spec::Tables;
 use sl_word::{Op1, Op2, Size, UserId};
 use std::alloc::{AllocError, Global};

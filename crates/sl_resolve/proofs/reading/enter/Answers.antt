@@ -1,4 +1,4 @@
-use Rattle.std.proofs.Common.{◌≡◌, ◌∷◌, Some, sym, ap, subst, ◌∙◌}
+use Rattle.std.proofs.Common.{◌≡◌, ◌∷◌, sym, ap, subst, ◌∙◌}
 use Rattle.sl_ast.specs.Trees.{invoke}
 use Rattle.sl_ast.specs.Views.{expressions_of, statement_of}
 use Rattle.sl_resolve.specs.Work.{Begins, gone_on, left_in, statement_macro}

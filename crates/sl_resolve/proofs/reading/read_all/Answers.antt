@@ -6,5 +6,5 @@ pub rounds-preserved : goal.rounds-preserved
 rounds-preserved c =
     let old = c.rounds.work in
     let new = record old { frames = c.pop.new.self } in
-    let taken : old.frames.items ≡ new.frames.items ++ c.in-Some.frame ∷ [] = ? in
+    let taken : old.frames.items ≡ new.frames.items ++ c.in-Some.frame ∷ [] = c.in-Some.ensures.items in
     c.in_ok-read-in-Some.ensures ∙ frame_off c.args.t.now c.args.macros.now old new c.in-Some.frame taken ∙ c.rounds.invariant

@@ -1,10 +1,10 @@
-use Rattle.std.proofs.Common.{◌≡◌, ◌+◌, ◌≤◌, IfOk, OnOk, Some, None, length, map, option_map, sym, ap, ◌∙◌, subst, rules, arith}
+use Rattle.std.proofs.Common.{◌≡◌, ◌+◌, ◌≤◌, IfOk, OnOk, Some, None, length, sym, ap, ◌∙◌, subst, rules, arith}
 use Rattle.sl_ast.specs.Trees.{call}
 use Rattle.sl_ast.specs.Views.{arguments, expression_of, expressions_of}
 use Rattle.sl_section.specs.Views.{term_of, terms_of}
 use Rattle.sl_resolve.specs.Scopes.{symbol_named}
 use Rattle.sl_resolve.specs.Seen.{dropped_view}
-use Rattle.sl_resolve.specs.Terms.{called, dropped_of, single_integer, term_at, terms_at, variables, variables_in}
+use Rattle.sl_resolve.specs.Terms.{dropped_of, single_integer, term_at, terms_at, variables, variables_in}
 use Rattle.sl_resolve.proofs.TermLemmas.{drops_one, all_terms, all_counted, call_is, on_ok, seen_call}
 use Rattle.sl_resolve.proofs.terms.+term.Goals as goal
 
@@ -26,8 +26,8 @@ returns-in_ok-x-in-None-dropped_of-clause-value t c =
     let terms = all_terms c.args.t.now c.args.names.now c.args.next.now c.as_slice-es.result.now (terms_of c.given.given.items) c.given.next c.given.index end c.given.invariant.terms in
     let counted = all_counted c.args.t.now c.args.names.now c.args.next.now c.as_slice-es.result.now c.given.next c.given.index end c.given.invariant.moved in
     let made = call_is c.args.t.now c.args.names.now c.in-Call.w.now es c.args.next.now c.in_ok-x-in-None-dropped_of.x (terms_of c.given.given.items) none
-        (terms ∙ ap (λ l. terms_at c.args.t.now c.args.names.now c.args.next.now (arguments (expressions_of l))) c.as_slice-es.ensures.value)
-        (c.in_ok-x-in-None-dropped_of.ensures.value ∙ counted ∙ ap (λ l. c.args.next.now + variables_in (arguments (expressions_of l))) c.as_slice-es.ensures.value) in
+    (terms ∙ ap (λ l. terms_at c.args.t.now c.args.names.now c.args.next.now (arguments (expressions_of l))) c.as_slice-es.ensures.value)
+    (c.in_ok-x-in-None-dropped_of.ensures.value ∙ counted ∙ ap (λ l. c.args.next.now + variables_in (arguments (expressions_of l))) c.as_slice-es.ensures.value) in
     subst (λ z. IfOk c.called.result (λ r. term_of r ≡ z)) (made ∙ ap (λ e. term_at c.args.t.now c.args.names.now c.args.next.now e) (sym is)) c.called.ensures
 
 pub returns-in_ok-x-in-None-dropped_of-clause-moved : goal.returns-in_ok-x-in-None-dropped_of-clause-moved

@@ -1,4 +1,4 @@
-use Rattle.std.proofs.Common.{◌≡◌, ◌≢◌, List, [], ◌∷◌, length, None, refl, arith}
+use Rattle.std.proofs.Common.{◌≡◌, ◌≢◌, List, [], ◌∷◌, length, None, refl}
 use Rattle.sl_ast.specs.Views.{arguments, expressions_of}
 use Rattle.sl_ast.specs.declared.expressions.Expr.{Expr}
 use Rattle.sl_resolve.specs.Terms.{single_integer}
