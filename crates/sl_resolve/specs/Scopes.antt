@@ -5,7 +5,8 @@ use Rattle.std.specs.Prelude.{if◌then◌else◌}
 use Rattle.std.specs.Str.{bytes_eq}
 use Rattle.sl_spec.specs.Attachments.{attached_to}
 use Rattle.sl_spec.specs.Named.{named, has_name, index_named}
-use Rattle.sl_spec.specs.Tables.{Name, Register, BitRange, Entries, registers, texts, values, Operand}
+use Rattle.sl_spec.specs.Tables.{Name, Register, BitRange, Operand}
+use Rattle.sl_spec.specs.Tables.{Entries, registers, texts, values}
 use Rattle.sl_spec.specs.declared.constructors.Means.{Means}
 use Rattle.sl_spec.specs.declared.constructors.Means.TheVariants as means
 use Rattle.sl_spec.specs.declared.tables.Tables.{Tables}

@@ -100,8 +100,8 @@ impl<'a> State<'a> {
     {
         let x = take(&mut self.next)?;
         put(out, Step::Declare(x, size))?;
-        let value = term(alloc, t, &self.names, &mut self.next, e)?;
-        put(out, Step::Set(Symbol::Local(x), value))?;
+        let first = term(alloc, t, &self.names, &mut self.next, e)?;
+        put(out, Step::Set(Symbol::Local(x), first))?;
         add_symbol(&mut self.names.own, name, Symbol::Local(x))
     }
 
@@ -158,10 +158,11 @@ impl<'a> State<'a> {
         p: &Expr<'a>,
         e: &Expr<'a>,
     ) -> Result<Step<'a>, AllocError>
-        ensures step { IfOk result (λ r. step_of r ≡ store_step t.now self.old (a.star_of form.entry)
-            (expression_of p.now) (expression_of e.now)) }
-        ensures state { OnOk result (self.new
-            ≡ moved (variables (expression_of p.now) + 1 + variables (expression_of e.now)) self.old) }
+        ensures step { IfOk result (λ r. step_of r
+            ≡ store_step t.now self.old (a.star_of form.entry) (expression_of p.now)
+            (expression_of e.now)) }
+        ensures state { OnOk result (self.new ≡ moved
+            (variables (expression_of p.now) + 1 + variables (expression_of e.now)) self.old) }
     {
         let space = space_named(t, self.names.reach, form.space)?;
         let pointer = term(alloc, t, &self.names, &mut self.next, p)?;
@@ -217,7 +218,8 @@ impl<'a> State<'a> {
         t: &Tables<'a>,
         to: &Target<'a>,
     ) -> Result<Step<'a>, AllocError>
-        ensures step { IfOk result (λ r. step_of r ≡ call_step t.now self.old (a.target_of to.now)) }
+        ensures step { IfOk result (λ r. step_of r
+            ≡ call_step t.now self.old (a.target_of to.now)) }
         ensures state { OnOk result (self.new
             ≡ moved (call_variables (a.target_of to.now)) self.old) }
     {
