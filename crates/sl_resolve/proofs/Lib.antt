@@ -1,0 +1,4 @@
+pub mod Below
+pub mod BelowSteps
+pub mod TermLemmas
+pub mod WorkLemmas

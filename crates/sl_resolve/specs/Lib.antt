@@ -1,0 +1,7 @@
+pub mod Entries
+pub mod Operators
+pub mod Scopes
+pub mod Seen
+pub mod Steps
+pub mod Terms
+pub mod Work

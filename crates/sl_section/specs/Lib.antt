@@ -1,0 +1,3 @@
+pub mod Numbered
+pub mod Sections
+pub mod Views
