@@ -18,9 +18,8 @@ use Rattle.sl_spec.specs.FieldValues.{field_value, value_of, number_in, token_of
 use Rattle.sl_spec.specs.Tables as spec
 use Rattle.sl_constraints.specs.Codes.{AreBitsOf, reads_signed}
 use Rattle.sl_constraints.specs.Homes.{home_of, integer, code, HasCodeIn}
-use Rattle.sl_constraints.specs.Values.{Holds, HoldsOf, point_bytes, value_at, width}
+use Rattle.sl_constraints.specs.Values.{Constraint, Holds, HoldsOf, point_bytes, value_at, width}
 use Rattle.sl_constraints.specs.declared.bits.Bits.{Bits}
-use Rattle.sl_constraints.specs.declared.constraint.Constraint.{Constraint}
 use Rattle.sl_constraints.specs.declared.homes.Home.{Home}
 
 -- ---- values
@@ -108,8 +107,8 @@ number_same (Some t) p = refl
 pub holds_code : (c : Constraint) (bits : Bits) (p : Point) → AreBitsOf c bits → Holds c p ↔ HoldsOf c (code bits p)
 unfolding field_value value_of
 holds_code c bits p are =
-    let f = c.field.now in
-    let token = token_of c.tokens.now f in
+    let f = c.field in
+    let token = token_of c.tokens f in
     let read : ℕ → ℤ = λ n. wrapped (read_as f.signed (width f) n) in
     let same : value_at c p ≡ read (code bits p) =
     ap (λ (n : ℕ). read (bits_of f.low f.high n)) (number_same token p)
@@ -123,12 +122,12 @@ holds_code c bits p are =
 -- ---- blocks of its codes
 
 module _ (c : Constraint) (bits : Bits) (p : Point) (are : AreBitsOf c bits) where
-  code_in_whole : InBlock (block 0 (width c.field.now)) (code bits p)
+  code_in_whole : InBlock (block 0 (width c.field)) (code bits p)
   code_in_whole =
-      let e : suc bits.high - bits.low ≡ width c.field.now = omega (arith, are.low, are.high) in
+      let e : suc bits.high - bits.low ≡ width c.field = omega (arith, are.low, are.high) in
       div-eq_of_lt (subst (λ (k : ℕ). code bits p < 2 ^ k) e (bits_of-lt bits.low bits.high (integer bits.home p)))
 
-  module _ (blocks : List Block) (cut : IsShortest (HoldsOf c) (block 0 (width c.field.now)) blocks) where
+  module _ (blocks : List Block) (cut : IsShortest (HoldsOf c) (block 0 (width c.field)) blocks) where
     pub holds_in_block : Any (λ b. HasCodeIn bits b p) blocks → Holds c p
     holds_in_block any =
         let one = any_among (λ b. HasCodeIn bits b p) blocks any in

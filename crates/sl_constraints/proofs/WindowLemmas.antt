@@ -7,8 +7,8 @@ use Rattle.sl_word.specs.declared.word.Endian.TheVariants.{Little, Big}
 use Rattle.sl_constraints.specs.Codes.{AreBitsOf, HasBitOf, HasBitInByte}
 use Rattle.sl_constraints.specs.Homes.{home_of}
 use Rattle.sl_constraints.specs.Windows.{Constrains, HasBitOfField, HoldsOfAll, IsEnd}
+use Rattle.sl_constraints.specs.Values.{Constraint}
 use Rattle.sl_constraints.specs.declared.bits.Bits.{Bits}
-use Rattle.sl_constraints.specs.declared.constraint.Constraint.{Constraint}
 use Rattle.sl_constraints.specs.declared.homes.Home.{Home}
 use Rattle.sl_constraints.specs.declared.homes.Home.TheVariants.{Token}
 
@@ -41,13 +41,13 @@ field_byte None f low high i l h x = x
 field_byte (Some t) f low high i l h x = (x.0, omega (arith, l, x.1), omega (arith, h, x.2), x.3, x.4)
 
 module _ (c : Constraint) (bits : Bits) (are : AreBitsOf c bits) where
-  to_field : (i : ℕ) → HasBitInByte bits i → HasBitOfField (token_of c.tokens.now c.field.now) c.field.now i
-  to_field i x = byte_of_field (token_of c.tokens.now c.field.now) c.field.now bits.low bits.high i are.low are.high
+  to_field : (i : ℕ) → HasBitInByte bits i → HasBitOfField (token_of c.tokens c.field) c.field i
+  to_field i x = byte_of_field (token_of c.tokens c.field) c.field bits.low bits.high i are.low are.high
       (subst (λ (h : Home). HasBitOf h bits.low bits.high i) are.home x)
 
-  from_field : (i : ℕ) → HasBitOfField (token_of c.tokens.now c.field.now) c.field.now i → HasBitInByte bits i
+  from_field : (i : ℕ) → HasBitOfField (token_of c.tokens c.field) c.field i → HasBitInByte bits i
   from_field i x = subst (λ (h : Home). HasBitOf h bits.low bits.high i) (sym are.home)
-      (field_byte (token_of c.tokens.now c.field.now) c.field.now bits.low bits.high i are.low are.high x)
+      (field_byte (token_of c.tokens c.field) c.field bits.low bits.high i are.low are.high x)
 
   pub constrains_end : (n : ℕ) → (HoldsOfAll c → ⊥) → IsEnd (HasBitInByte bits) n → IsEnd (Constrains c) n
   constrains_end n some e = record {

@@ -4,10 +4,9 @@ use Rattle.sl_blocks.specs.Blocks.{Satisfies}
 use Rattle.sl_blocks.specs.declared.Codes.{Codes}
 use Rattle.sl_spec.specs.FieldValues.{token_of}
 use Rattle.sl_constraints.specs.Homes.{home_of}
-use Rattle.sl_constraints.specs.Values.{HoldsOf, width}
+use Rattle.sl_constraints.specs.Values.{Constraint, HoldsOf, width}
 use Rattle.sl_constraints.specs.Windows.{byte_of}
 use Rattle.sl_constraints.specs.declared.bits.Bits.{Bits}
-use Rattle.sl_constraints.specs.declared.constraint.Constraint.{Constraint}
 use Rattle.sl_constraints.specs.declared.homes.Home.{Home}
 use Rattle.sl_constraints.specs.declared.homes.Home.TheVariants.{Context, Token}
 
@@ -17,7 +16,7 @@ reads_signed signed size = signed || nat_eq size 64
 
 -- The codes are those of the field for which the constraint holds.
 abbrev pub AreCodesOf : Constraint → Codes → Type 0
-AreCodesOf c codes = (n : ℕ) → n < 2 ^ width c.field.now → Satisfies codes n ↔ HoldsOf c n
+AreCodesOf c codes = (n : ℕ) → n < 2 ^ width c.field → Satisfies codes n ↔ HoldsOf c n
 
 -- All codes of `size` bits are among them.
 abbrev pub AreAll : ℕ → Codes → Type 0
@@ -25,9 +24,9 @@ AreAll size codes = (n : ℕ) → n < 2 ^ size → Satisfies codes n
 
 -- The bits are those of the constraint's field.
 pub record AreBitsOf (c : Constraint) (bits : Bits) : Type 0 where
-  pub home : bits.home ≡ home_of (token_of c.tokens.now c.field.now)
-  pub low : bits.low ≡ c.field.now.low
-  pub high : bits.high ≡ c.field.now.high
+  pub home : bits.home ≡ home_of (token_of c.tokens c.field)
+  pub low : bits.low ≡ c.field.low
+  pub high : bits.high ≡ c.field.high
 
 -- The byte of the token has one of the bits.
 abbrev pub HasBitOf : Home → ℕ → ℕ → ℕ → Type 0

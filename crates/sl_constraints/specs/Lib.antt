@@ -6,4 +6,5 @@ pub mod Places
 pub mod Rooms
 pub mod Sets
 pub mod Values
+pub mod Views
 pub mod Windows

@@ -4,8 +4,7 @@ use Rattle.sl_spec.specs.FieldValues.{token_of}
 use Rattle.sl_spec.specs.Tables.{Field, Token}
 use Rattle.sl_word.specs.declared.word.Endian.{Endian}
 use Rattle.sl_word.specs.declared.word.Endian.TheVariants.{Little, Big}
-use Rattle.sl_constraints.specs.Values.{HoldsOf, width}
-use Rattle.sl_constraints.specs.declared.constraint.Constraint.{Constraint}
+use Rattle.sl_constraints.specs.Values.{Constraint, HoldsOf, width}
 
 -- the byte of a token that has this bit of its integer, by its index
 abbrev pub byte_of : Endian → ℕ → ℕ → ℕ
@@ -20,12 +19,12 @@ HasBitOfField (Some t) f i = (bit : ℕ) × (f.low ≤ bit) × (bit ≤ f.high)
 
 -- The constraint holds of every code of its field.
 abbrev pub HoldsOfAll : Constraint → Type 0
-HoldsOfAll c = (code : ℕ) → code < 2 ^ width c.field.now → HoldsOf c code
+HoldsOfAll c = (code : ℕ) → code < 2 ^ width c.field → HoldsOf c code
 
 -- The constraint looks at the byte of its token.
 abbrev pub Constrains : Constraint → ℕ → Type 0
 Constrains c i =
-    (HoldsOfAll c → ⊥) × HasBitOfField (token_of c.tokens.now c.field.now) c.field.now i
+    (HoldsOfAll c → ⊥) × HasBitOfField (token_of c.tokens c.field) c.field i
 
 -- One past the greatest number for which this holds; 0 where it holds for none.
 pub record IsEnd (P : ℕ → Type 0) (n : ℕ) : Type 0 where

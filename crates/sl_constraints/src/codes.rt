@@ -5,6 +5,7 @@ ghost use Rattle.sl_blocks.specs.Blocks.{IsShortest, block};
 ghost use Rattle.sl_constraints.specs.Codes.{AreAll, AreCodesOf, reads_signed};
 ghost use Rattle.sl_constraints.specs.Counts.{HasCount};
 ghost use Rattle.sl_constraints.specs.Values.{HoldsOf, width};
+ghost use Rattle.sl_constraints.specs.Views.{constraint_of};
 
 use crate::constraint::Constraint;
 use sl_blocks::{Block, Codes, blocks_of, codes_of};
@@ -32,7 +33,7 @@ fn reads_signed(signed: bool, width: u32) -> bool
 
 impl Constraint<'_, '_> {
     /// How many bits the field has.
-    pub fn width(&self) -> u32
+    pub(crate) fn width(&self) -> u32
         ensures value { result ≡ width self.now.field.now }
         ensures some { 1 ≤ result }
         ensures most { result ≤ 64 }
@@ -42,8 +43,8 @@ impl Constraint<'_, '_> {
     }
 
     /// The codes of the field for which the constraint holds.
-    pub fn codes(&self) -> Codes
-        ensures { AreCodesOf self.now result }
+    pub(crate) fn codes(&self) -> Codes
+        ensures { AreCodesOf (constraint_of self.now) result }
     {
         let width = self.width();
         let field = self.field;
@@ -52,9 +53,10 @@ impl Constraint<'_, '_> {
     }
 
     /// These codes as blocks.
-    pub fn blocks(&self, alloc: Global) -> Result<Vec<Block>, AllocError>
+    pub(crate) fn blocks(&self, alloc: Global) -> Result<Vec<Block>, AllocError>
         ensures { IfOk result (λ blocks.
-            IsShortest (HoldsOf self.now) (block 0 (width self.now.field.now)) blocks.items) }
+            IsShortest (HoldsOf (constraint_of self.now))
+            (block 0 (width self.now.field.now)) blocks.items) }
     {
         let blocks = blocks_of(alloc, &self.codes(), self.width())?;
         Ok(blocks)
@@ -62,7 +64,7 @@ impl Constraint<'_, '_> {
 
     /// How many cubes the constraint needs; one where it holds nowhere.
     pub fn count(&self, alloc: Global) -> Result<usize, AllocError>
-        ensures { IfOk result (HasCount self.now) }
+        ensures { IfOk result (HasCount (constraint_of self.now)) }
     {
         let blocks = self.blocks(alloc)?;
         Ok(blocks.len().max(1))

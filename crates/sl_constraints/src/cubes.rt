@@ -9,6 +9,7 @@ ghost use Rattle.sl_constraints.specs.Rooms.{room};
 ghost use Rattle.sl_constraints.specs.Places.{seen};
 ghost use Rattle.sl_constraints.specs.Sets.{Adds};
 ghost use Rattle.sl_constraints.specs.Values.{Holds};
+ghost use Rattle.sl_constraints.specs.Views.{constraint_of};
 
 use crate::bits::Bits;
 use crate::constraint::Constraint;
@@ -64,8 +65,8 @@ fn put_blocks(
 
 impl Constraint<'_, '_> {
     /// The bits of the field.
-    pub fn bits(&self) -> Bits
-        ensures { AreBitsOf self.now result }
+    pub(crate) fn bits(&self) -> Bits
+        ensures { AreBitsOf (constraint_of self.now) result }
     {
         let field = self.field;
         Bits {
@@ -84,7 +85,7 @@ impl Constraint<'_, '_> {
         cubes: &mut Vec<Cube>,
     ) -> Result<(), AllocError>
         ensures { IfOk result (λ _. Adds cubes.old.items
-            (λ p. Holds self.now (seen place p)) cubes.new.items) }
+            (λ p. Holds (constraint_of self.now) (seen place p)) cubes.new.items) }
     {
         let blocks = self.blocks(alloc)?;
         put_blocks(&self.bits(), &blocks, place, cubes)?;

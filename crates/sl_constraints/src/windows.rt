@@ -1,6 +1,7 @@
 //! The bytes that constraints look at.
 
 ghost use Rattle.sl_constraints.specs.Codes.{HasBitInByte};
+ghost use Rattle.sl_constraints.specs.Views.{constraint_of};
 ghost use Rattle.sl_constraints.specs.Windows.{Constrains, IsEnd};
 
 use crate::bits::Bits;
@@ -31,7 +32,7 @@ impl Constraint<'_, '_> {
     /// The bytes of the token up to the last one that the constraint looks at; 0 where it looks at
     /// none.
     pub fn window(&self) -> u32
-        ensures { IsEnd (Constrains self.now) result }
+        ensures { IsEnd (Constrains (constraint_of self.now)) result }
     {
         if are_all(&self.codes(), self.width()) {
             return 0;
