@@ -90,13 +90,6 @@ module _ (size n : ℕ) (some : 1 ≤ size) (most : size ≤ 64) (below : n < 2 
   is_value true = signed_by (nat_lt (2 * n) (2 ^ size)) refl
   is_value false = unsigned_by (nat_eq size 64) refl
 
-pub few_unsigned : (signed : Bool) (size : ℕ) → size ≤ 64 → reads_signed signed size ≡ false → size ≤ 63
-few_unsigned true size most e = absurd (false≢true (sym e))
-few_unsigned false size most e = elim (cases_eq size 64) [
-  | inl wide ↦ absurd (false≢true (sym e ∙ eq-eqb size 64 wide))
-  | inr ne ↦ omega (arith, most, ne)
-]
-
 -- ---- bits of a point
 
 number_same : (token : Option spec.Token) (p : Point) → number_in token (drop 0 (point_bytes p)) p.context ≡ integer (home_of token) p

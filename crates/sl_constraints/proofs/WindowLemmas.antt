@@ -22,12 +22,6 @@ little_end bytes low high n some within is = record {
   ];
 }
 
-pub big_end : (bytes low high n : ℕ) → low ≤ high → low / 8 < bytes → n ≡ bytes - low / 8 → IsEnd (HasBitOf (Token Big bytes) low high) n
-big_end bytes low high n some within is = record {
-  all = λ i h. omega (arith, is, h.1, h.3, h.4);
-  last = λ pos. (low, omega arith, some, within, omega (arith, is, within));
-}
-
 -- ---- of a constraint
 
 byte_of_field : (token : Option spec.Token) (f : spec.Field) (low high i : ℕ) → low ≡ f.low → high ≡ f.high

@@ -18,12 +18,6 @@ one_joined And a b x y = one_product a b x y
 one_joined Then a b x y = one_product a b x y
 one_joined Or a b x y = omega arith
 
-pub told_one : (o : Option Constraint) → o ≡ None → IsTold (IfCount o) 1
-told_one o e = subst (λ (x : Option Constraint). IsTold (IfCount x) 1) (sym e) (1, refl, omega arith, refl)
-
-pub told_count : (o : Option Constraint) (c : Constraint) (n shown : ℕ) → o ≡ Some c → HasCount c n → shown ≡ told n → IsTold (IfCount o) shown
-told_count o c n shown e h is = subst (λ (x : Option Constraint). IsTold (IfCount x) shown) (sym e) (n, h, omega (arith, h.2), is)
-
 module _ (tables : Tables) where
   pub count_name : (name : t.Name) → IsTold (HasPatternCount tables (t.bare name)) 1
   unfolding HasPatternCount

@@ -52,7 +52,7 @@ union_seen P place at cubes e u = λ q range. subst (λ (s : Point). IsInSome cu
 
 -- ---- two sides
 
-joined_same : (op : PatternOp) (A B C D : Type 0) → (A ↔ C) → (B ↔ D) → JoinedHolds op A B ↔ JoinedHolds op C D
+pub joined_same : (op : PatternOp) (A B C D : Type 0) → (A ↔ C) → (B ↔ D) → JoinedHolds op A B ↔ JoinedHolds op C D
 joined_same And A B C D f g = (λ x. (f.0 x.0, g.0 x.1), λ x. (f.1 x.0, g.1 x.1))
 joined_same Then A B C D f g = (λ x. (f.0 x.0, g.0 x.1), λ x. (f.1 x.0, g.1 x.1))
 joined_same Or A B C D f g = (

@@ -19,9 +19,6 @@ use Rattle.sl_patterns.specs.Windows.{FixesByte, FromPlace, IfConstrains, IfFixe
 pub no_end : (P : ℕ → Type 0) → ((i : ℕ) → P i → ⊥) → IsEnd P 0
 no_end P none = record { all = λ i h. absurd (none i h); last = λ pos. absurd (omega (arith, pos)) }
 
-end_same : (P Q : ℕ → Type 0) (n : ℕ) → ((i : ℕ) → P i → Q i) → ((i : ℕ) → Q i → P i) → IsEnd P n → IsEnd Q n
-end_same P Q n to from e = record { all = λ i h. e.all i (from i h); last = λ pos. to (n - 1) (e.last pos) }
-
 module _ (P : ℕ → Type 0) (n place : ℕ) (e : IsEnd P n) where
   end_moved_by : (d : Bool) → d ≡ nat_eq n 0 → IsEnd (FromPlace place P) (if d then 0 else place + n)
   end_moved_by true is =
@@ -71,26 +68,8 @@ hull_end hull n some fits is =
       last = λ pos. (z, lowest.1, omega (arith, is, small));
     }
 
-pub no_hull_end : (hull : Cube) → hull.mask ≡ 0 → IsEnd (FixesByte (Some hull)) 0
-no_hull_end hull e = no_end (FixesByte (Some hull)) (λ i h.
-    let none : bit_at hull.mask h.0 ≡ 0 = ap (λ (m : ℕ). bit_at m h.0) e ∙ bit_at-zero h.0 in
-    omega (arith, none, h.1))
-
-pub open_end : (is : Bool) (hull : Option Cube) → is ≡ true → IsEnd (IfFixesByte is hull) 0
-open_end is hull e = subst (λ (b : Bool). IsEnd (IfFixesByte b hull) 0) (sym e) (no_end (IfFixesByte true hull) (λ i h. h))
-
 pub some_end : (is : Bool) (hull : Option Cube) (h : Cube) (n : ℕ) → is ≡ false → hull ≡ Some h → IsEnd (FixesByte (Some h)) n → IsEnd (IfFixesByte is hull) n
 some_end is hull h n e f end = subst (λ (b : Bool). IsEnd (IfFixesByte b hull) n) (sym e) (subst (λ (o : Option Cube). IsEnd (FixesByte o) n) (sym f) end)
-
-pub none_end : (is : Bool) (hull : Option Cube) → is ≡ false → hull ≡ None → IsEnd (IfFixesByte is hull) 0
-none_end is hull e f = subst (λ (b : Bool). IsEnd (IfFixesByte b hull) 0) (sym e)
-    (subst (λ (o : Option Cube). IsEnd (FixesByte o) 0) (sym f) (no_end (FixesByte None) (λ i h. h)))
-
-pub constraint_none : (o : Option Constraint) → o ≡ None → IsEnd (IfConstrains o) 0
-constraint_none o e = subst (λ (x : Option Constraint). IsEnd (IfConstrains x) 0) (sym e) (no_end (IfConstrains None) (λ i h. h))
-
-pub constraint_some : (o : Option Constraint) (c : Constraint) (n : ℕ) → o ≡ Some c → IsEnd (Constrains c) n → IsEnd (IfConstrains o) n
-constraint_some o c n e end = subst (λ (x : Option Constraint). IsEnd (IfConstrains x) n) (sym e) end
 
 -- ---- one level of a pattern
 

@@ -12,8 +12,8 @@ use Rattle.sl_settle.specs.declared.CubeSet.{CubeSet}
 
 -- The point has each bit that all points have for which this holds.
 abbrev pub SharedWhere : (Point → ℕ) → (Point → Type 0) → Point → Type 0
-SharedWhere part P q =
-    (i bit : ℕ) → ((p : Point) → InRange p → P p → bit_at (part p) i ≡ bit) → bit_at (part q) i ≡ bit
+SharedWhere part P q = (i bit : ℕ)
+    → ((p : Point) → InRange p → P p → bit_at (part p) i ≡ bit) → bit_at (part q) i ≡ bit
 
 -- The points of the hull agree with each bit on which all points agree for which this holds.
 abbrev pub IsHullWhere : (Point → Type 0) → Cube → Type 0

@@ -21,7 +21,7 @@ use Rattle.sl_spec.specs.Tables.{Field, Token}
 use Rattle.sl_spec.specs.declared.tables.Tables.{Tables}
 
 -- What a pattern is read with: the tables of its specification, how many bytes a pattern has where
--- it has a fixed number of them, and the hulls of the tables by their numbers, where they are known.
+-- it has a fixed number of them, and the hulls of tables by their numbers, where they are known.
 pub record Reading : Type 0 where
   pub tables : Tables
   pub bytes : Pattern → Option ℕ
@@ -38,7 +38,8 @@ hull_at hulls i = option_and_then (λ h. h) (slice_get hulls i)
 
 -- the hull of the table of this name
 abbrev pub hull_named : Reading → Name → Option Cube
-hull_named r name = option_and_then (hull_at r.hulls) (index_named (λ b. b.name) name r.tables.tables)
+hull_named r name =
+    option_and_then (hull_at r.hulls) (index_named (λ b. b.name) name r.tables.tables)
 
 -- There is a hull, and it has the point.
 abbrev pub InHull : Option Cube → Point → Type 0
@@ -49,7 +50,8 @@ abbrev pub OpenOrIn : Bool → Option Cube → Point → Type 0
 OpenOrIn true hull p = Unit {0}
 OpenOrIn false hull p = InHull hull p
 
--- A name by itself holds at the point: `epsilon` and a field everywhere, a table where its hull does.
+-- A name by itself holds at the point: `epsilon` and a field everywhere, a table where its hull
+-- does.
 abbrev pub NameHolds : Reading → Name → Point → Type 0
 NameHolds r name p = OpenOrIn (is_open r.tables name) (hull_named r name) p
 
@@ -102,7 +104,8 @@ module _ (r : Reading) where
   PatternHolds (group q) place p = PatternHolds q place p
   PatternHolds (ellipsis q) place p = PatternHolds q place p
   PatternHolds (joined op left right) place p =
-      JoinedHolds op (PatternHolds left place p) (PatternHolds right (right_place op place (r.bytes left)) p)
+      JoinedHolds op (PatternHolds left place p)
+      (PatternHolds right (right_place op place (r.bytes left)) p)
 
 -- a number of bytes, or a place, as it is told: from 4,294,967,295 on as that
 abbrev pub told : ℕ → ℕ

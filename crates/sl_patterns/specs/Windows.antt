@@ -1,11 +1,13 @@
 -- meaning: the bytes that a pattern looks at.
-use Rattle.std.specs.Prelude.{◌≡◌, ℕ, ◌+◌, ◌-◌, ◌/◌, ◌⊎◌, Bool, true, false, Option, Some, None, if◌then◌else◌, ◌==◌}
+use Rattle.std.specs.Prelude.{◌≡◌, ℕ, ◌+◌, ◌-◌, ◌/◌, ◌⊎◌, ◌==◌, Bool, true, false}
+use Rattle.std.specs.Prelude.{Option, Some, None, if◌then◌else◌}
 use Rattle.std.specs.Int.{bit_at}
 use Rattle.sl_ast.specs.Trees.{Name, Pattern, bare, constraint, group, ellipsis, joined}
 use Rattle.sl_constraints.specs.Values.{Constraint}
 use Rattle.sl_constraints.specs.Windows.{Constrains, IsEnd}
 use Rattle.sl_cube.specs.declared.Cube.{Cube}
-use Rattle.sl_patterns.specs.Patterns.{Reading, constraint_of, hull_named, is_open, right_place, told}
+use Rattle.sl_patterns.specs.Patterns.{Reading, constraint_of, hull_named, is_open}
+use Rattle.sl_patterns.specs.Patterns.{right_place, told}
 
 -- The hull, where there is one, fixes a bit of this byte; the first byte stands highest.
 abbrev pub FixesByte : Option Cube → ℕ → Type 0

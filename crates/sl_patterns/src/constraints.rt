@@ -25,7 +25,8 @@ fn relation_of(written: patterns::Relation) -> Relation
     }
 }
 
-/// The constraint that is written; none where the name is no field's or the expression has no value.
+/// The constraint that is written; none where the name is no field's or the expression has no
+/// value.
 pub fn constraint_of<'r, 'a>(
     t: &'r Tables<'a>,
     name: &[u8],

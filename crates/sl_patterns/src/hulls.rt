@@ -32,8 +32,8 @@ fn set_hull(sets: &[CubeSet], number: CtorId) -> Option<Cube>
     hull_of(&set.cubes)
 }
 
-/// The hull of a table: the least cube that has all points of the sets of its constructors, and none
-/// where they have no point. The sets stand at the constructors' numbers.
+/// The hull of a table: the least cube that has all points of the sets of its constructors, and
+/// none where they have no point. The sets stand at the constructors' numbers.
 pub fn table_hull(sets: &[CubeSet], constructors: &[CtorId]) -> Option<Cube>
     ensures { IsHullOrNone (TableHas sets.now constructors.now) result }
 {

@@ -14,14 +14,15 @@ use std::alloc::{AllocError, Global};
 pub trait Lengths {
     ghost bytes: { Self → Pattern → Option ℕ };
 
-    /// The number of bytes of a pattern that has a fixed number of them, at most 4,294,967,295; none
-    /// where it has no fixed number.
+    /// The number of bytes of a pattern that has a fixed number of them, told up to 4,294,967,295;
+    /// none where it has no fixed number.
     fn bytes_of(&self, alloc: Global, of: &Pattern) -> Result<Option<u32>, AllocError>
         ensures { IfOk result (λ found. found ≡ capped (bytes self.now (pattern_of of.now))) };
 }
 
-/// What patterns are read with: the tables of their specification, how many bytes patterns have, and
-/// the hulls of the tables by their numbers, where they are known.
+/// What patterns are read with: the tables of their specification, how many bytes patterns have,
+/// and the hulls of the tables by their numbers, where they are known.
+#[derive(Drop)]
 pub struct Reader<'r, 'a, L> {
     pub tables: &'r Tables<'a>,
     pub lengths: &'r L,
