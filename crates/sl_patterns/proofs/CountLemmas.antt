@@ -1,11 +1,9 @@
 -- The count of a pattern from those of its parts.
-use Rattle.std.proofs.Common.{◌≡◌, ℕ, ◌*◌, ◌≤◌, Option, None, Some, refl, sym, subst, arith}
+use Rattle.std.proofs.Common.{◌≡◌, ℕ, ◌*◌, ◌≤◌, refl, arith}
 use Rattle.sl_ast.specs.Trees as t
 use Rattle.sl_ast.specs.declared.patterns.Relation.{Relation}
 use Rattle.sl_ast.specs.declared.patterns.PatternOp.{PatternOp}
 use Rattle.sl_ast.specs.declared.patterns.PatternOp.TheVariants.{And, Then, Or}
-use Rattle.sl_constraints.specs.Counts.{HasCount}
-use Rattle.sl_constraints.specs.Values.{Constraint}
 use Rattle.sl_patterns.specs.Counts.{HasPatternCount, IfCount, IsTold, joined_count}
 use Rattle.sl_patterns.specs.Patterns.{constraint_of, told}
 use Rattle.sl_spec.specs.declared.tables.Tables.{Tables}

@@ -1,11 +1,11 @@
 -- A pattern is read alike where its tables and its left sides are.
-use Rattle.std.proofs.Common.{◌≡◌, ◌↔◌, ℕ, ◌⊎◌, List, Option, sym, subst, inl, inr}
+use Rattle.std.proofs.Common.{◌↔◌, ℕ, ◌⊎◌, List, Option, sym, subst, inl, inr}
 use Rattle.sl_ast.specs.Trees as t
 use Rattle.sl_constraints.specs.Places.{seen}
 use Rattle.sl_cube.specs.declared.Cube.{Cube}
 use Rattle.sl_cube.specs.declared.Point.{Point}
 use Rattle.sl_patterns.specs.Laws.{AreAlike, IsReadAlike, reading}
-use Rattle.sl_patterns.specs.Patterns.{OpenOrIn, PatternHolds, Reading, hull_named, is_open, right_place}
+use Rattle.sl_patterns.specs.Patterns.{OpenOrIn, PatternHolds, Reading, is_open, right_place}
 use Rattle.sl_patterns.specs.Windows.{FromPlace, IfFixesByte, PatternConstrains}
 use Rattle.sl_patterns.proofs.UnionLemmas.{joined_same}
 use Rattle.sl_spec.specs.declared.tables.Tables.{Tables}

@@ -1,15 +1,14 @@
 -- The window of a pattern from those of its parts.
-use Rattle.std.proofs.Common.{◌≡◌, ℕ, ◌+◌, ◌-◌, ◌/◌, ◌<◌, ◌^◌, ◌⊎◌, max, Bool, true, false, nat_eq, Option, None, Some, refl, sym, ap, subst, ◌∙◌, arith, inl, inr}
+use Rattle.std.proofs.Common.{◌≡◌, ℕ, ◌+◌, ◌-◌, ◌/◌, ◌<◌, ◌^◌, ◌⊎◌, max, Bool, true, false, nat_eq, Option, Some, refl, sym, subst, ◌∙◌, arith, inl, inr}
 use Rattle.std.specs.Prelude.{if◌then◌else◌}
-use Rattle.std.specs.Int.{bit_at, trailing_zeros, w128}
+use Rattle.std.specs.Int.{trailing_zeros, w128}
 use Rattle.std.proofs.lemmas.Bool.{cases_lt, cases_eq, eqb-true, eq-eqb, false≢true}
-use Rattle.std.proofs.lemmas.Nat.Bits.{bit_at-zero, bit_at-trailing_zeros}
+use Rattle.std.proofs.lemmas.Nat.Bits.{bit_at-trailing_zeros}
 use Rattle.sl_ast.specs.Trees as t
 use Rattle.sl_ast.specs.declared.patterns.Relation.{Relation}
 use Rattle.sl_ast.specs.declared.patterns.PatternOp.{PatternOp}
 use Rattle.sl_ast.specs.declared.patterns.PatternOp.TheVariants.{And}
-use Rattle.sl_constraints.specs.Values.{Constraint}
-use Rattle.sl_constraints.specs.Windows.{Constrains, IsEnd}
+use Rattle.sl_constraints.specs.Windows.{IsEnd}
 use Rattle.sl_cube.specs.declared.Cube.{Cube}
 use Rattle.sl_patterns.specs.Patterns.{Reading, constraint_of, right_place, told}
 use Rattle.sl_patterns.specs.Windows.{FixesByte, FromPlace, IfConstrains, IfFixesByte, IsWindow, NameConstrains, PatternConstrains, end_from}

@@ -1,12 +1,12 @@
 //! The sets of patterns as unions of cubes.
 
-ghost use Rattle.std.specs.Prelude.{◌≡◌, ℕ, Option, IfOk};
+ghost use Rattle.std.specs.Prelude.{◌≡◌, ℕ, IfOk};
 ghost use Rattle.sl_ast.specs.Views.{expression_of, pattern_of};
 ghost use Rattle.sl_constraints.specs.Places.{seen};
 ghost use Rattle.sl_constraints.specs.Sets.{IsUnionOf};
 ghost use Rattle.sl_cube.specs.Points.{IsInSome};
 ghost use Rattle.sl_patterns.specs.Patterns.{IfHolds, JoinedHolds, NameHolds, PatternHolds};
-ghost use Rattle.sl_patterns.specs.Patterns.{capped, constraint_of, right_place, told};
+ghost use Rattle.sl_patterns.specs.Patterns.{constraint_of, right_place, told};
 ghost use Rattle.sl_patterns.specs.Views.{reading_of};
 
 use crate::constraints::constraint_of;
@@ -17,18 +17,6 @@ use sl_constraints::{meets_of, put_all, put_moved};
 use sl_cube::Cube;
 use sl_spec::Tables;
 use std::alloc::{AllocError, Global};
-
-/// The place of the right side of two joined patterns.
-pub fn right_place(op: PatternOp, place: u32, bytes: Option<u32>) -> u32
-    ensures { (at : ℕ) (count : Option ℕ) → place ≡ told at → bytes ≡ capped count
-        → result ≡ told (right_place op at count) }
-{
-    match op {
-        PatternOp::Then => place.saturating_add(bytes.unwrap_or(0)),
-        PatternOp::And => place,
-        PatternOp::Or => place,
-    }
-}
 
 /// The points at which the constraint holds, as they are seen from the place.
 fn constraint_cubes(
@@ -92,6 +80,27 @@ impl<L: Lengths> Reader<'_, '_, L> {
         Ok(cubes)
     }
 
+    /// The place of the right side of two joined patterns.
+    pub(crate) fn right_place(
+        &self,
+        alloc: Global,
+        op: PatternOp,
+        place: u32,
+        left: &Pattern,
+    ) -> Result<u32, AllocError>
+        ensures { IfOk result (λ from. (at : ℕ) → place ≡ told at → from ≡ told
+            (right_place op at (L.bytes self.now.lengths.now (pattern_of left.now)))) }
+    {
+        match op {
+            PatternOp::Then => {
+                let bytes = self.lengths.bytes_of(alloc, left)?;
+                Ok(place.saturating_add(bytes.unwrap_or(0)))
+            }
+            PatternOp::And => Ok(place),
+            PatternOp::Or => Ok(place),
+        }
+    }
+
     /// The points at which the pattern holds, read from the place on. A place from 4,294,967,295 on
     /// is told as that.
     pub fn pattern_cubes(
@@ -122,9 +131,8 @@ impl<L: Lengths> Reader<'_, '_, L> {
                 Ok(cubes)
             }
             Pattern::Joined(op, left, right) => {
-                let bytes = self.lengths.bytes_of(alloc, left)?;
                 let first = self.pattern_cubes(alloc, left, place)?;
-                let from = right_place(*op, place, bytes);
+                let from = self.right_place(alloc, *op, place, left)?;
                 let second = self.pattern_cubes(alloc, right, from)?;
                 let cubes = joined_cubes(alloc, *op, first, &second)?;
                 Ok(cubes)

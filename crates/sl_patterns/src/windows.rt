@@ -11,7 +11,6 @@ ghost use Rattle.sl_spec.specs.Unfolded.{heads_of, placed, under};
 
 use crate::constraints::constraint_of;
 use crate::reader::{Lengths, Reader};
-use crate::sets::right_place;
 use sl_ast::constructors::Constructor;
 use sl_ast::expressions::Expr;
 use sl_ast::patterns::{Pattern, Relation};
@@ -85,9 +84,8 @@ impl<L: Lengths> Reader<'_, '_, L> {
                 Ok(window)
             }
             Pattern::Joined(op, left, right) => {
-                let bytes = self.lengths.bytes_of(alloc, left)?;
                 let first = self.pattern_window(alloc, left, place)?;
-                let from = right_place(*op, place, bytes);
+                let from = self.right_place(alloc, *op, place, left)?;
                 let second = self.pattern_window(alloc, right, from)?;
                 Ok(first.max(second))
             }

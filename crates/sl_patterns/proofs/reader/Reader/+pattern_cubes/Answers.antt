@@ -3,7 +3,7 @@ use Rattle.sl_ast.specs.Trees.{Pattern}
 use Rattle.sl_ast.specs.Views.{pattern_of, expression_of}
 use Rattle.sl_ast.specs.declared.patterns.Pattern as p
 use Rattle.sl_constraints.specs.Sets.{IsUnionOf}
-use Rattle.sl_patterns.specs.Patterns.{PatternHolds, capped, right_place}
+use Rattle.sl_patterns.specs.Patterns.{PatternHolds, right_place, told}
 use Rattle.sl_patterns.specs.Views.{reading_of}
 use Rattle.sl_patterns.proofs.ViewLemmas.{seen_name, seen_constraint, seen_paren, seen_ellipsis, seen_joined}
 use Rattle.sl_patterns.proofs.UnionLemmas.{union_name, union_constraint, union_group, union_ellipsis, union_both}
@@ -43,13 +43,12 @@ pub returns-in_ok-cubes-in-Joined : goal.returns-in_ok-cubes-in-Joined
 returns-in_ok-cubes-in-Joined g t c = λ at e.
     let r = reading_of g.L.Lengths.bytes c.args.self.now in
     let cubes = c.in_ok-cubes-in-Joined.cubes.items in
-    let left = c.deref-in-Joined-2.result.now in
+    let left = c.deref-in-Joined.result.now in
     let right = c.deref-in-Joined-3.result.now in
-    let same : c.deref-in-Joined.result.now ≡ left = c.deref-in-Joined.ensures ∙ sym c.deref-in-Joined-2.ensures in
-    let bytes = c.in_ok-bytes-in-Joined.ensures ∙ ap (λ (y : p.Pattern). capped (r.bytes (pattern_of y))) same in
-    let from = c.right_place-from.ensures at (r.bytes (pattern_of left)) e bytes in
+    let same : c.deref-in-Joined-2.result.now ≡ left = c.deref-in-Joined-2.ensures ∙ sym c.deref-in-Joined.ensures in
+    let from = c.in_ok-from-in-Joined.ensures at e ∙ ap (λ (y : p.Pattern). told (right_place c.in-Joined.op at (r.bytes (pattern_of y)))) same in
     subst (λ (x : Pattern). IsUnionOf (PatternHolds r x at) cubes)
-    (sym (seen_joined c.args.of.now left right c.in-Joined.op c.in-Joined.left c.in-Joined.right c.in-Joined.is c.deref-in-Joined-2.ensures c.deref-in-Joined-3.ensures))
+    (sym (seen_joined c.args.of.now left right c.in-Joined.op c.in-Joined.left c.in-Joined.right c.in-Joined.is c.deref-in-Joined.ensures c.deref-in-Joined-3.ensures))
     (union_both r c.in-Joined.op (pattern_of left) (pattern_of right) at cubes c.in_ok-first-in-Joined.first.items c.in_ok-second-in-Joined.second.items
     (c.in_ok-first-in-Joined.ensures at e) (c.in_ok-second-in-Joined.ensures (right_place c.in-Joined.op at (r.bytes (pattern_of left))) from)
     (rw c.deref-in-Joined-4.ensures.value at c.in_ok-cubes-in-Joined.ensures))
