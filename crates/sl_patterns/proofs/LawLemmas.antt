@@ -1,6 +1,7 @@
 -- A pattern is read alike where its tables and its left sides are.
-use Rattle.std.proofs.Common.{◌↔◌, ℕ, ◌⊎◌, List, Option, sym, subst, inl, inr}
+use Rattle.std.proofs.Common.{◌≡◌, ◌↔◌, ℕ, List, Option, sym, subst}
 use Rattle.sl_ast.specs.Trees as t
+use Rattle.sl_ast.specs.declared.patterns.PatternOp.TheVariants.{Or}
 use Rattle.sl_constraints.specs.Places.{seen}
 use Rattle.sl_cube.specs.declared.Cube.{Cube}
 use Rattle.sl_cube.specs.declared.Point.{Point}
@@ -9,12 +10,6 @@ use Rattle.sl_patterns.specs.Patterns.{OpenOrIn, PatternHolds, Reading, is_open,
 use Rattle.sl_patterns.specs.Windows.{FromPlace, IfFixesByte, PatternConstrains}
 use Rattle.sl_patterns.proofs.UnionLemmas.{joined_same}
 use Rattle.sl_spec.specs.declared.tables.Tables.{Tables}
-
-either_same : (A B C D : Type 0) → (A ↔ C) → (B ↔ D) → (A ⊎ B) ↔ (C ⊎ D)
-either_same A B C D f g = (
-  λ x. elim x [ inl a ↦ inl (f.0 a) | inr b ↦ inr (g.0 b) ],
-  λ x. elim x [ inl a ↦ inl (f.1 a) | inr b ↦ inr (g.1 b) ],
-)
 
 module _ (tables : Tables) (bytes others : t.Pattern → Option ℕ) (hulls more : List (Option Cube)) where
   abbrev a : Reading
@@ -48,7 +43,7 @@ module _ (tables : Tables) (bytes others : t.Pattern → Option ℕ) (hulls more
   looks_alike (t.group x) place i e = looks_alike x place i e
   looks_alike (t.ellipsis x) place i e = looks_alike x place i e
   looks_alike (t.joined op x y) place i e =
-      either_same (PatternConstrains a x place i) (PatternConstrains a y (right_place op place (bytes x)) i)
+      joined_same Or (PatternConstrains a x place i) (PatternConstrains a y (right_place op place (bytes x)) i)
       (PatternConstrains b x place i) (PatternConstrains b y (right_place op place (others x)) i) (looks_alike x place i e.0)
       (subst (λ (n : Option ℕ). PatternConstrains a y (right_place op place (bytes x)) i ↔ PatternConstrains b y (right_place op place n) i) e.2
       (looks_alike y (right_place op place (bytes x)) i e.1))
