@@ -1,0 +1,6 @@
+pub mod Counts
+pub mod Hulls
+pub mod Laws
+pub mod Patterns
+pub mod Views
+pub mod Windows
