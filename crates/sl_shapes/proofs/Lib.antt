@@ -1,0 +1,4 @@
+pub mod ListLemmas
+pub mod NodeLemmas
+pub mod ShapeLemmas
+pub mod WalkLemmas

@@ -1,0 +1,6 @@
+pub mod Comparing
+pub mod Lists
+pub mod Meets
+pub mod Nodes
+pub mod Shapes
+pub mod Walks
