@@ -1,14 +1,12 @@
 -- Lists as they are added, and as they are found.
-use Rattle.std.proofs.Common.{◌≡◌, ℕ, zero, suc, ◌+◌, ◌<◌, ◌≤◌, max, ◌⊎◌, inl, inr, ◌==◌, Bool, true, false, cond, List, [], ◌∷◌, ◌++◌, length, get_or, take, Option, Some, None, refl, sym, ap, ◌∙◌, subst, arith}
+use Rattle.std.proofs.Common.{◌≡◌, ℕ, ◌+◌, ◌<◌, ◌≤◌, inl, inr, ◌==◌, Bool, true, false, cond, List, [], ◌∷◌, ◌++◌, length, get_or, Option, Some, None, refl, sym, ap, ◌∙◌, subst, arith}
 use Rattle.std.specs.Prelude.{nat_lt, IfSome}
-use Rattle.std.proofs.lemmas.Bool.{cases_eq}
 use Rattle.std.proofs.lemmas.List.{append_assoc, append-nil, get_or_append_left, get_or_at, get_or_past, length-append, length_push}
 use Rattle.sl_shapes.specs.Comparing.{common_prefix, compared}
-use Rattle.sl_shapes.specs.Lists.{IsAmong, Keeps, limited, list_at, list_of}
-use Rattle.sl_shapes.specs.Nodes.{AreBelow, list_step, lists_of, reach, reckoned}
+use Rattle.sl_shapes.specs.Lists.{IsAmong, Keeps, limited, list_at}
+use Rattle.sl_shapes.specs.Nodes.{AreBelow, list_step, lists_of, reach}
 use Rattle.sl_shapes.specs.Walks.{IsSplit}
 use Rattle.sl_shapes.specs.declared.nodes.Node.{Node}
-use Rattle.sl_shapes.specs.declared.nodes.Node.TheVariants.{One, Joined}
 use Rattle.sl_shapes.specs.declared.shapes.Compared.{Compared}
 use Rattle.sl_shapes.specs.declared.shapes.Compared.TheVariants.{Same, FirstShorter, SecondShorter, Apart}
 use Rattle.sl_shapes.specs.declared.walking.Split.{Split}

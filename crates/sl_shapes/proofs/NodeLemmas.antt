@@ -1,7 +1,7 @@
 -- What nodes come to, one after another.
 use Rattle.std.proofs.Common.{◌≡◌, ℕ, zero, suc, ◌+◌, ◌<◌, ◌≤◌, max, ◌⊎◌, inl, inr, List, [], ◌∷◌, ◌++◌, length, get_or, take, drop, refl, sym, ap, ◌∙◌, subst, arith}
 use Rattle.std.proofs.lemmas.Bool.{cases_eq}
-use Rattle.std.proofs.lemmas.List.{append_assoc, append-nil, get_or_append_left, get_or_at, get_or_default, length_push, length-append, take-append-drop, length-take-le}
+use Rattle.std.proofs.lemmas.List.{get_or_append_left, get_or_at, length_push, length-append, take-append-drop, length-take-le}
 use Rattle.sl_shapes.specs.Nodes.{AreBelow, list_step, lists_of, reach, reckoned}
 use Rattle.sl_shapes.specs.Walks.{weight_step, weights_of}
 use Rattle.sl_shapes.specs.declared.nodes.Node.{Node}
@@ -106,6 +106,7 @@ values_all {A} step P d each done (n ∷ ns) are so i below =
       | inl less ↦ subst P (sym (get_or_append_left done (x ∷ []) d j less)) (before less)
       | inr same ↦ subst P (sym (get_or_at done x [] d j (sym same))) p
     ]
+
     next : (j : ℕ) → j < length (done ++ step done n ∷ []) → P (get_or (done ++ step done n ∷ []) j d)
     next j b = pushed (step done n) (each done n (let h = are 0 n (omega arith) in omega arith) so) j (omega (arith, length_push done (step done n))) (so j)
 

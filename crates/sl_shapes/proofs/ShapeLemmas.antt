@@ -1,5 +1,5 @@
 -- The shape of a table, constructor after constructor.
-use Rattle.std.proofs.Common.{◌≡◌, ℕ, ◌+◌, ◌<◌, ◌&&◌, Bool, true, false, cond, List, [], ◌∷◌, ◌++◌, fold, length, get_or, map, take, refl, sym, ap, ◌∙◌, subst, arith}
+use Rattle.std.proofs.Common.{◌≡◌, ℕ, ◌+◌, ◌<◌, ◌&&◌, Bool, true, false, cond, List, [], ◌∷◌, fold, length, get_or, map, take, refl, sym, ap, ◌∙◌}
 use Rattle.std.specs.List.{list_all}
 use Rattle.std.proofs.lemmas.List.{map_push, take_more}
 use Rattle.std.proofs.lemmas.List.Sums.{fold-append}
@@ -73,5 +73,5 @@ pub within_same : (old now : List (List ℕ)) → Keeps old now → (s r : Shape
     → seen now r ≡ seen old s
 within_same old now keeps s r limit long kind tokens =
     let t : list_of now r.tokens ≡ list_of old s.tokens =
-        ap (list_at now) (tokens ∙ ap (λ n. limited n s.tokens.0) long) ∙ keeps_limited old now keeps s.tokens.0 in
+    ap (list_at now) (tokens ∙ ap (λ n. limited n s.tokens.0) long) ∙ keeps_limited old now keeps s.tokens.0 in
     λ k. record { kind = kind k; tokens = t k }

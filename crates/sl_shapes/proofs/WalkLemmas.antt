@@ -1,7 +1,7 @@
 -- Steps of a walk over two lists.
-use Rattle.std.proofs.Common.{◌≡◌, ℕ, zero, suc, ◌+◌, ◌<◌, ◌==◌, Bool, true, false, cond, List, [], ◌∷◌, ◌++◌, length, get_or, Option, Some, None, Result, Ok, Err, refl, sym, ap, ◌∙◌, subst, arith}
+use Rattle.std.proofs.Common.{◌≡◌, ℕ, ◌+◌, ◌<◌, ◌==◌, true, false, cond, List, [], ◌∷◌, ◌++◌, length, get_or, Option, Some, None, Result, Ok, Err, refl, sym, ap, ◌∙◌, subst, arith}
 use Rattle.std.specs.Prelude.{IfOk}
-use Rattle.std.proofs.lemmas.List.{append_assoc, append-nil, length-append, nil_from_length}
+use Rattle.std.proofs.lemmas.List.{append_assoc, append-nil, length-append}
 use Rattle.sl_shapes.specs.Comparing.{common_prefix, compared}
 use Rattle.sl_shapes.specs.Nodes.{AreBelow, lists_of}
 use Rattle.sl_shapes.specs.Walks.{AreIn, Ends, IsEnd, IsLeafStep, IsMet, IsSplit, IsStep, Passes, Tells, pending, weights_of, work, work_left, written}
@@ -229,7 +229,7 @@ module _ (nodes : List Node) (are : AreBelow nodes) where
       let xs : get_or L x [] ++ pending L mid.left.items ≡ pending L left = sym (pending_push L mid.left.items x) ∙ ap (pending L) (sym l_is) in
       let ys : get_or L y [] ++ pending L mid.right.items ≡ pending L right = sym (pending_push L mid.right.items y) ∙ ap (pending L) (sym r_is) in
       let w : get_or W x 0 + get_or W y 0 + work_left nodes mid ≡ load =
-          (let a = ap (work W) l_is in let b = ap (work W) r_is in let d = work_push W mid.left.items x in let e = work_push W mid.right.items y in omega arith) in
+      (let a = ap (work W) l_is in let b = ap (work W) r_is in let d = work_push W mid.left.items x in let e = work_push W mid.right.items y in omega arith) in
       subst (λ n. IsStep nodes (pending L left) (pending L right) n mid.common.items new r) w
       (subst (λ v. IsStep nodes (pending L left) v (get_or W x 0 + get_or W y 0 + work_left nodes mid) mid.common.items new r) ys
       (subst (λ u. IsStep nodes u (get_or L y [] ++ pending L mid.right.items) (get_or W x 0 + get_or W y 0 + work_left nodes mid) mid.common.items new r) xs met))

@@ -1,5 +1,5 @@
 -- view: lists that share their parts: each is one token, or two earlier ones behind one another.
-use Rattle.std.specs.Prelude.{ℕ, zero, suc, ◌+◌, ◌<◌, ◌≤◌, max, List, [], ◌∷◌, ◌++◌, length, get_or}
+use Rattle.std.specs.Prelude.{ℕ, ◌+◌, ◌<◌, ◌≤◌, max, List, [], ◌∷◌, ◌++◌, length, get_or}
 use Rattle.sl_shapes.specs.declared.nodes.Node.{Node}
 use Rattle.sl_shapes.specs.declared.nodes.Node.TheVariants.{One, Joined}
 

@@ -16,7 +16,7 @@ use std::marker::Model;
 /// lists, in the order in which they came.
 #[derive(Drop)]
 pub struct Lists {
-    nodes: Vec<Node>,
+    pub(crate) nodes: Vec<Node>,
 }
 
 impl Model for Lists {
@@ -31,17 +31,11 @@ impl Model for Lists {
 }
 
 /// The list of a number below the limit, and else the empty one.
-pub fn limited(list: TokenList, limit: usize) -> Option<usize>
+pub(crate) fn limited(list: TokenList, limit: usize) -> Option<usize>
     ensures { result ≡ spec.limited limit list.0 }
 {
     match list.0 {
-        Some(number) => {
-            if number < limit {
-                Some(number)
-            } else {
-                None
-            }
-        }
+        Some(number) => { if number < limit { Some(number) } else { None } }
         None => None,
     }
 }
@@ -56,14 +50,14 @@ impl Lists {
     }
 
     /// How many lists there are.
-    pub fn len(&self) -> usize
+    pub(crate) fn len(&self) -> usize
         ensures { result ≡ length self.now }
     {
         self.nodes.len()
     }
 
     /// Adds the list of one token.
-    pub fn one(&mut self, token: u32) -> Result<TokenList, AllocError>
+    pub(crate) fn one(&mut self, token: u32) -> Result<TokenList, AllocError>
         ensures keeps { Keeps self.old self.new }
         ensures there { IfOk result (λ l. IsAmong self.new l.0) }
         ensures list { IfOk result (λ l. list_of self.new l ≡ token ∷ []) }
@@ -74,7 +68,7 @@ impl Lists {
     }
 
     /// The number of the list, if it has a token.
-    pub fn some(&self, list: TokenList) -> Option<usize>
+    pub(crate) fn some(&self, list: TokenList) -> Option<usize>
         ensures same { list_at self.now result ≡ list_of self.now list }
         ensures there { IsAmong self.now result }
         ensures full { IfSome result (λ _. 0 < length (list_at self.now result)) }
@@ -97,7 +91,7 @@ impl Lists {
     }
 
     /// Two lists behind one another.
-    pub fn joined(
+    pub(crate) fn joined(
         &mut self,
         first: TokenList,
         second: TokenList,
@@ -119,7 +113,7 @@ impl Lists {
     }
 
     /// How two lists lie to one another.
-    pub fn compare(
+    pub(crate) fn compare(
         &self,
         alloc: Global,
         first: TokenList,
@@ -184,7 +178,7 @@ impl Lists {
     }
 
     /// The longest list with which both begin.
-    pub fn common(
+    pub(crate) fn common(
         &mut self,
         alloc: Global,
         first: TokenList,

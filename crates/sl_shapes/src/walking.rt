@@ -89,12 +89,12 @@ impl Walk {
     fn at_leaves(
         &mut self,
         number: usize,
-        first: u32,
-        second: u32,
+        token: u32,
+        other: u32,
     ) -> Result<Option<Compared>, AllocError>
-        ensures { IfOk result (IsLeafStep self.old number first second self.new) }
+        ensures { IfOk result (IsLeafStep self.old number token other self.new) }
     {
-        if first == second {
+        if token == other {
             self.common.push(number)?;
             return Ok(None);
         }

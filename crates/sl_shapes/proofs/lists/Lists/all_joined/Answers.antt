@@ -1,4 +1,4 @@
-use Rattle.std.proofs.Common.{◌≡◌, ◌+◌, ◌++◌, ◌∷◌, [], ℕ, List, length, take, get_or, Some, sym, ap, ◌∙◌, arith}
+use Rattle.std.proofs.Common.{◌≡◌, ◌++◌, [], ℕ, List, length, take, get_or, Some, sym, ap, ◌∙◌, arith}
 use Rattle.std.proofs.lemmas.List.{take_more}
 use Rattle.sl_shapes.specs.Lists.{limited, list_at}
 use Rattle.sl_shapes.specs.Walks.{written}
@@ -15,7 +15,7 @@ parts-preserved c =
     let long = lists_length c.self.inside.nodes.items in
     let limit : c.len-limit.result ≡ length old = omega (arith, long, ap (λ (l : List (List ℕ)). length l) c.self.view_is, c.len-limit.ensures, c.self.inside.nodes.ok.0) in
     let next : list_at now c.limited.result ≡ get_or old part [] =
-        ap (list_at now) (c.limited.ensures ∙ ap (λ n. limited n (Some part)) limit) ∙ keeps_limited old now c.parts.invariant.keeps (Some part) in
+    ap (list_at now) (c.limited.ensures ∙ ap (λ n. limited n (Some part)) limit) ∙ keeps_limited old now c.parts.invariant.keeps (Some part) in
     record {
       keeps = keeps_more old now c.joined.new.self c.parts.invariant.keeps c.in_ok-all.ensures.keeps;
       there = c.in_ok-all.ensures.there;

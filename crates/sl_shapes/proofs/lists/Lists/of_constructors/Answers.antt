@@ -1,4 +1,4 @@
-use Rattle.std.proofs.Common.{◌≡◌, List, ℕ, None, fold, get_or, length, map, ap, ◌∙◌}
+use Rattle.std.proofs.Common.{List, None, fold, get_or, map, ap, ◌∙◌}
 use Rattle.std.proofs.lemmas.List.{take_all}
 use Rattle.sl_shapes.specs.Lists.{seen}
 use Rattle.sl_shapes.specs.Meets.{met, start}

@@ -1,5 +1,4 @@
-use Rattle.std.proofs.Common.{◌≡◌, List, ℕ, Option, length, sym, ap, ◌∙◌, subst, arith}
-use Rattle.std.specs.Prelude.{IfSome}
+use Rattle.std.proofs.Common.{◌≡◌, List, ℕ, length, sym, ap, ◌∙◌, subst, arith}
 use Rattle.sl_shapes.specs.Lists.{IsAmong, limited, list_at}
 use Rattle.sl_shapes.proofs.ListLemmas.{limited_same, limited_there, some_full}
 use Rattle.sl_shapes.proofs.NodeLemmas.{lists_length}

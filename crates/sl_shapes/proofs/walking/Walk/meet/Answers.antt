@@ -1,7 +1,6 @@
 use Rattle.std.proofs.Common.{[], get_or, refl, ap}
 use Rattle.std.proofs.lemmas.List.{get_or_default}
 use Rattle.sl_shapes.specs.Nodes.{lists_of}
-use Rattle.sl_shapes.specs.declared.nodes.Node.{Node}
 use Rattle.sl_shapes.specs.declared.nodes.Node.TheVariants.{One}
 use Rattle.sl_shapes.proofs.WalkLemmas.{met_first, met_leaves, met_same, met_second, ok_also}
 use Rattle.sl_shapes.proofs.walking.Walk.meet.Goals as goal
@@ -34,6 +33,6 @@ returns-in-Leaves c =
     let two = get_or nodes c.args.second (One 0) in
     let fronts = c.in-Leaves.ensures in
     ok_also c.at_leaves.result c.at_leaves.ensures (λ r step.
-        met_leaves nodes c.requires.below c.args.first c.args.second c.in-Leaves.token c.in-Leaves.other one two c.args.self.now c.at_leaves.new.self c.requires.first c.requires.second
-        (get_or_default nodes c.args.first (One 0) one c.requires.first) fronts.0 (get_or_default nodes c.args.second (One 0) two c.requires.second) fronts.1
-        c.requires.left c.requires.right r step)
+    met_leaves nodes c.requires.below c.args.first c.args.second c.in-Leaves.token c.in-Leaves.other one two c.args.self.now c.at_leaves.new.self c.requires.first c.requires.second
+    (get_or_default nodes c.args.first (One 0) one c.requires.first) fronts.0 (get_or_default nodes c.args.second (One 0) two c.requires.second) fronts.1
+    c.requires.left c.requires.right r step)
