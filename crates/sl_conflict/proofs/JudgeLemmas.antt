@@ -26,14 +26,6 @@ err_then (Err e) h f = f e h
 pub judged_here : (tables : List TableSets) (t n : ℕ) (kept : TableSets) → slice_get tables t ≡ Some kept → HasChoices kept → IsJudged tables t n
 judged_here tables t n kept there has = λ k begins. subst (λ (x : TableSets). HasChoices x) (same_Some kept k (sym there ∙ begins.kept_is)) has
 
-pub judged_not : (tables : List TableSets) (t n : ℕ) (kept : TableSets) → slice_get tables t ≡ Some kept → (slice_get kept.ctors.items 0 ≡ Some n → ⊥) → IsJudged tables t n
-judged_not tables t n kept there other = λ k begins.
-    let same : k ≡ kept = same_Some k kept (sym begins.kept_is ∙ there) in
-    absurd (other (subst (λ (x : TableSets). slice_get x.ctors.items 0 ≡ Some n) same begins.first_is))
-
-pub judged_none : (tables : List TableSets) (t n : ℕ) → slice_get tables t ≡ None → IsJudged tables t n
-judged_none tables t n none = λ k begins. let never : None ≡ Some k = sym none ∙ begins.kept_is in absurd cc
-
 pub report_here : (tables : List TableSets) (t n : ℕ) (kept : TableSets) → slice_get tables t ≡ Some kept → slice_get kept.ctors.items 0 ≡ Some n
     → (error : ConflictError) → IsReportOf kept t error → IsReportAt tables t n error
 report_here tables t n kept there first (Ambiguous u a b both apart) h = (kept, record { kept_is = there; first_is = first }, h.0, h.1)

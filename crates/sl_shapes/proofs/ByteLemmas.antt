@@ -55,9 +55,3 @@ module _ (ns : List Node) (lists : List (List ℕ)) (are : lists_of ns ≡ lists
 -- at the end all are known
 pub knows_all : (sizes known : List ℕ) (lists : List (List ℕ)) (i : ℕ) → length lists ≤ i → known ≡ map (bytes_of sizes) (take i lists) → known ≡ map (bytes_of sizes) lists
 knows_all sizes known lists i end so = so ∙ ap (map (bytes_of sizes)) (take_all i lists end)
-
--- what was known at the beginning
-pub knows_first : (sizes known : List ℕ) (old lists : List (List ℕ)) (i : ℕ) → known ≡ map (bytes_of sizes) old → Keeps old lists → i ≡ length known → known ≡ map (bytes_of sizes) (take i lists)
-knows_first sizes known old lists i knows keeps here =
-    let long : length old ≡ i = sym (length-map old (bytes_of sizes)) ∙ ap (λ (l : List ℕ). length l) (sym knows) ∙ sym here in
-    knows ∙ ap (map (bytes_of sizes)) (sym (ap (take i) keeps.is ∙ take_at old keeps.more i long))

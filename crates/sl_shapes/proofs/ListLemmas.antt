@@ -79,16 +79,9 @@ some_full ns lists are below (Some i) among =
 pub keeps_more : (a b c : List (List ℕ)) → Keeps a b → Keeps b c → Keeps a c
 keeps_more a b c ab bc = record { more = ab.more ++ bc.more; is = bc.is ∙ ap (λ (l : List (List ℕ)). l ++ bc.more) ab.is ∙ append_assoc a ab.more bc.more }
 
-pub keeps_same : (a : List (List ℕ)) → Keeps a a
-keeps_same a = record { more = []; is = sym (append-nil a) }
-
 pub keeps_at : (old now : List (List ℕ)) → Keeps old now → (l : Option ℕ) → IsAmong old l → list_at now l ≡ list_at old l
 keeps_at old now keeps None among = refl
 keeps_at old now keeps (Some i) among = ap (λ (l : List (List ℕ)). get_or l i []) keeps.is ∙ get_or_append_left old keeps.more [] i among
-
-pub keeps_there : (old now : List (List ℕ)) → Keeps old now → (l : Option ℕ) → IsAmong old l → IsAmong now l
-keeps_there old now keeps None among = tt
-keeps_there old now keeps (Some i) among = let e = ap (λ (l : List (List ℕ)). length l) keeps.is in let f = length-append old keeps.more in omega arith
 
 -- a number below the first length means the list that it meant
 pub keeps_limited : (old now : List (List ℕ)) → Keeps old now → (l : Option ℕ) → list_at now (limited (length old) l) ≡ list_at old l

@@ -242,11 +242,3 @@ tells_more nodes xs ys before old new load so passes = record {
   compared_same = so.compared_same ∙ passes.tells.compared_same;
   common_same = so.common_same ∙ passes.tells.common_same;
 }
-
-pub split_ends : (nodes : List Node) (xs ys before : List ℕ) (old : Walk) (common : List ℕ) (c : Compared) (found : Split) → before ≡ [] → found.compared ≡ c → found.common.items ≡ common
-    → Tells (lists_of nodes) xs ys before old → Ends nodes (pending (lists_of nodes) old.left.items) (pending (lists_of nodes) old.right.items) old.common.items common c
-    → IsSplit (lists_of nodes) xs ys found
-split_ends nodes xs ys before old common c found none c_is common_is so ends = record {
-  compared_is = c_is ∙ ends.compared_is ∙ sym so.compared_same;
-  common_is = ap (written (lists_of nodes)) common_is ∙ ends.common_is ∙ sym so.common_same ∙ ap (λ (l : List ℕ). written (lists_of nodes) l ++ common_prefix xs ys) none;
-}
