@@ -5,6 +5,8 @@ mod constructor;
 mod exports;
 mod sizing;
 mod stop;
+#[cfg(test)]
+mod tests;
 
 pub use constructor::Constructor;
 pub use sizing::{Sizes, all_sizes};
