@@ -1,6 +1,7 @@
 //! Sizes of a few constructors.
 
 use super::*;
+use sl_equations::assigned;
 use sl_section::{Export, Section, Step, Storage, Symbol, Term};
 use sl_sizes::SizeError;
 use sl_word::{AddressSize, Size, SpaceId};
@@ -89,5 +90,19 @@ fn tables_hand_their_sizes_on(rt: HostRuntime) -> Result<(), Fail> {
     let number = open(alloc)?;
     let unfixed = SizingError::Sizes(1, SizeError::Unfixed(0));
     assert_eq!(rt; sized(alloc, &below, &number), Err(unfixed));
+    Ok(())
+}
+
+#[test]
+fn assigned_operands_are_listed(rt: HostRuntime) -> Result<(), Fail> {
+    let alloc = rt.alloc();
+    let mut steps = Vec::new(alloc);
+    steps.push(Step::Set(Symbol::Table(3), Term::Number(5, 0)))?;
+    let section = Section {
+        steps,
+        variables: 1,
+    };
+    let operands = assigned(alloc, &section)?;
+    assert_eq!(rt; operands.as_slice(), [3].as_slice());
     Ok(())
 }
