@@ -54,33 +54,35 @@ Refuses n es (f.Clash index) = IsFirstClash n es index
 Refuses n es (f.Unfixed x) = IsFirstUnfixed n es x
 Refuses n es f.NoMemory = ⊥
 
--- by the sizes of addresses, those that the operands export, and that of earlier exports of the table
-module _ (address : Option ℕ → ℕ) (operand : ℕ → Option ℕ) (earlier : Option ℕ) where
+-- by the sizes of addresses, and those that the operands export
+module _ (address : Option ℕ → ℕ) (operand : ℕ → Option ℕ) where
   abbrev pub equations_of : Constructor → List Equation
   equations_of c = section_equations address operand (steps_in c)
-
-  -- whether rule 40 holds
-  abbrev pub keeps_rule : Constructor → List Size → Bool
-  keeps_rule c sizes = section_fits (bytes_at sizes) operand (steps_in c)
-      && is_alike earlier (exported_size sizes (steps_in c))
 
   -- Each variable of the section has its only size.
   pub record HasSizes (c : Constructor) (sizes : List Size) : Type 0 where
     pub count : length sizes ≡ c.section.now.variables
     pub only : IsOnlySolution c.section.now.variables (equations_of c) (bytes_at sizes)
 
+-- by the size of earlier exports of the table, too
+module _ (address : Option ℕ → ℕ) (operand : ℕ → Option ℕ) (earlier : Option ℕ) where
+  -- whether rule 40 holds
+  abbrev pub keeps_rule : Constructor → List Size → Bool
+  keeps_rule c sizes = section_fits (bytes_at sizes) operand (steps_in c)
+      && is_alike earlier (exported_size sizes (steps_in c))
+
   pub record IsSizedBy (c : Constructor) (sizes : List Size) : Type 0 where
-    pub has : HasSizes c sizes
+    pub has : HasSizes address operand c sizes
     pub keeps : keeps_rule c sizes ≡ true
 
   pub record BreaksRule (c : Constructor) : Type 0 where
     pub sizes : List Size
-    pub has : HasSizes c sizes
+    pub has : HasSizes address operand c sizes
     pub breaks : keeps_rule c sizes ≡ false
 
   -- Why there are no sizes that keep the rule; memory may run out at any point.
   abbrev pub StopsBy : Constructor → Stop → Type 0
-  StopsBy c (p.Sizes error) = Refuses c.section.now.variables (equations_of c) error
+  StopsBy c (p.Sizes error) = Refuses c.section.now.variables (equations_of address operand c) error
   StopsBy c p.Rule = BreaksRule c
   StopsBy c p.NoMemory = ⊤
 

@@ -3,11 +3,13 @@
 
 mod constructor;
 mod exports;
+mod laws;
 mod sizing;
 mod stop;
 #[cfg(test)]
 mod tests;
 
 pub use constructor::Constructor;
+pub use laws::operands_have_last_sizes;
 pub use sizing::{Sizes, all_sizes};
 pub use stop::{SizingError, Stop};
