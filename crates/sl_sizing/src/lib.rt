@@ -10,6 +10,6 @@ mod stop;
 mod tests;
 
 pub use constructor::Constructor;
-pub use laws::operands_have_last_sizes;
+pub use laws::sizes_are_of_the_whole;
 pub use sizing::{Sizes, all_sizes};
 pub use stop::{SizingError, Stop};
