@@ -114,7 +114,8 @@ module _ (address : Option ℕ → ℕ) where
   FirstStop exports [] index stop = ⊥
   FirstStop exports (c ∷ cs) zero stop = StopsAt exports c stop
   FirstStop exports (c ∷ cs) (suc index) stop =
-      (sizes : List Size) × IsSized exports c sizes × FirstStop (after exports c sizes) cs index stop
+      (sizes : List Size) × IsSized exports c sizes
+      × FirstStop (after exports c sizes) cs index stop
 
   abbrev pub IsError : List (Option ℕ) → List Constructor → SizingError → Type 0
   IsError exports cs (e.Sizes index error) = FirstStop exports cs index (p.Sizes error)

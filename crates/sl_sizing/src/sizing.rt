@@ -86,8 +86,8 @@ fn next_sizes(
     constructor: &Constructor<'_, '_>,
 ) -> Result<Vec<Size>, Stop>
     ensures sizes { IfOk result (λ sizes.
-        z.IsSized (address_in (addresses_of spaces.now) default.bytes) (exports_of exports.old.items)
-        constructor.now sizes.items) }
+        z.IsSized (address_in (addresses_of spaces.now) default.bytes)
+        (exports_of exports.old.items) constructor.now sizes.items) }
     ensures kept { IfOk result (λ sizes. exports_of exports.new.items
         ≡ z.after (address_in (addresses_of spaces.now) default.bytes)
         (exports_of exports.old.items) constructor.now sizes.items) }
