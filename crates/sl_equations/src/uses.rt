@@ -192,8 +192,8 @@ fn put_assigned(out: &mut Vec<u32>, step: &Step<'_>) -> Result<(), AllocError>
     }
 }
 
-/// The operands that are tables and that the section assigns, whole or in part, by their numbers, in
-/// its order. One that is assigned twice stands there twice.
+/// The operands that are tables and that the section assigns, whole or in part, by their numbers.
+/// One that is assigned twice stands there twice.
 pub fn assigned(alloc: Global, section: &Section<'_>) -> Result<Vec<u32>, AllocError>
     ensures { IfOk result (λ v. v.items ≡ u.assigned (steps_of section.now.steps.items)) }
 {
