@@ -1,0 +1,3 @@
+pub mod ExportLemmas
+pub mod LastLemmas
+pub mod RunLemmas
