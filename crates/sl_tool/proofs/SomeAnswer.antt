@@ -16,7 +16,7 @@ use Rattle.sl_tool.specs.Request.{CheckSpec, Command, ListImage, RunImage, Reque
 use Rattle.sl_tool.specs.Running.{IsRun}
 use Rattle.sl_tool.specs.Stage.{HasSomeResult, Then}
 use Rattle.sl_tool.specs.Stage.Then.{goes}
-use Rattle.sl_tool.specs.Stages.{Accepts, Loads, Reads}
+use Rattle.sl_tool.specs.Stages.{Accepts, Reads}
 use Rattle.sl_tool.specs.Values.{Bound, Input, Shown, Tables, Tree, shown}
 use Rattle.sl_tool.specs.declared.problem.Problem.TheVariants.{NotYet}
 use Rattle.sl_tool.specs.declared.refusal.Refusal.{Refusal}

@@ -1,11 +1,11 @@
-use Rattle.std.proofs.Common.{ℕ, List, [], Option, Ok, Err, subst, sym}
+use Rattle.std.proofs.Common.{ℕ, List, Option, Ok, Err, subst, sym}
 use Rattle.std.proofs.lemmas.Result.{err_from_is_err_and}
 use Rattle.sl_outside.specs.Folder.{Folder}
 use Rattle.sl_preproc.specs.Asks.{AsksFor as AsksForText}
 use Rattle.sl_request.specs.Views.{target}
 use Rattle.sl_tool.specs.Answers.{Answers, AsksAfter, AsksFor, Displays, Follows, UsesFilesFor, Waits}
-use Rattle.sl_tool.specs.Outcomes.{FailsToRead, IsEarly, Writes}
-use Rattle.sl_tool.specs.Request.{CheckSpec, ShowImage, spec_of}
+use Rattle.sl_tool.specs.Outcomes.{FailsToRead, IsEarly}
+use Rattle.sl_tool.specs.Request.{spec_of}
 use Rattle.sl_tool.specs.Requests.{command, request}
 use Rattle.sl_tool.specs.SourceView.{source_view}
 use Rattle.sl_tool.specs.Stage.{Then}
@@ -106,8 +106,8 @@ returns-in-Check-clause-sink g c =
 
 -- ---- an image is shown
 
-pub returns-in-Show-clause-writes : goal.returns-in-Show-clause-writes
-returns-in-Show-clause-writes g c =
+pub returns-clause-writes : goal.returns-clause-writes
+returns-clause-writes g c =
     let told = g.F.Files.told c.args.files.now in
     let r = request c.args.request.now in
     let s = source_view c.in_ok-source.source in
@@ -119,8 +119,8 @@ returns-in-Show-clause-writes g c =
     writes_map (Displays (g.F.Files.told c.read.new.files) k t u) (Answers told r) _ _ c.shown.result
     (λ x d. goes read (subst (λ (q : Request). Follows told (request q) u x) (sym c.in-Show.is) (subst (λ (f : Option Folder). Displays f k t u x) same d))) c.shown.ensures.writes
 
-pub returns-in-Show-clause-files : goal.returns-in-Show-clause-files
-returns-in-Show-clause-files g c =
+pub returns-clause-files : goal.returns-clause-files
+returns-clause-files g c =
     let told = g.F.Files.told c.args.files.now in
     let r = request c.args.request.now in
     let s = source_view c.in_ok-source.source in
