@@ -9,5 +9,6 @@ mod set_names;
 mod written;
 
 pub use actions::judge_actions;
+pub use rules::is_global;
 pub use set_names::{ActionRef, action_names};
 pub use written::actions_of_unfolded;

@@ -58,7 +58,7 @@ fn is_built_in(name: &[u8]) -> bool
 }
 
 /// Whether the name is a global one.
-fn is_global(all: &Named<Table>, t: &Tables, name: &[u8]) -> bool
+pub fn is_global(all: &Named<Table>, t: &Tables, name: &[u8]) -> bool
     ensures { result ≡ is_global all.now t.now name.now }
 {
     is_built_in(name)

@@ -17,6 +17,7 @@ mod terms;
 mod work;
 
 pub use macros::MacroBody;
-pub use names::{NamedSymbol, Names};
-pub use reach::{Reach, reach_of};
+pub use names::{NamedSymbol, Names, add_symbol};
+pub use reach::{Reach, if_below, reach_of};
 pub use sections::resolve;
+pub use terms::is_dropped;

@@ -1,6 +1,6 @@
 //! Expressions.
 
-ghost use Rattle.std.specs.Prelude.{◌≡◌, ◌+◌, ◌<◌, ◌≤◌, min, IfOk, OnOk, option_map, map};
+ghost use Rattle.std.specs.Prelude.{◌≡◌, ◌+◌, min, is_some, IfOk, OnOk, option_map};
 ghost use Rattle.sl_ast.specs.Views.{arguments, expression_of, expressions_of};
 ghost use Rattle.sl_section.specs.Sections as s;
 ghost use Rattle.sl_section.specs.Sections.{bounded};
@@ -173,6 +173,14 @@ fn dropped_of(t: &Tables, names: &Names, name: &[u8], es: &[Expr]) -> Option<(Sy
     let symbol = names.symbol_named(t, name)?;
     let n = single_integer(es)?;
     Some((symbol, n))
+}
+
+/// Whether a call drops bytes of what its name stands for.
+pub fn is_dropped(t: &Tables, names: &Names, name: &[u8], es: &[Expr]) -> bool
+    ensures { result ≡ is_some (dropped_of (symbol_named t.now names.now name.now)
+        (single_integer (arguments (expressions_of es.now)))) }
+{
+    dropped_of(t, names, name, es).is_some()
 }
 
 /// A name's value without its least bytes.
