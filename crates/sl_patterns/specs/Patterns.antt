@@ -13,7 +13,7 @@ use Rattle.sl_constraints.specs.Places.{seen}
 use Rattle.sl_constraints.specs.Values.{Constraint, Holds}
 use Rattle.sl_constructors.specs.ConstraintValues.{constraint_value}
 use Rattle.sl_constructors.specs.Operands.{is_epsilon}
-use Rattle.sl_cube.specs.Points.{IsIn}
+use Rattle.sl_cube.specs.Points.{InRange, IsIn}
 use Rattle.sl_cube.specs.declared.Cube.{Cube}
 use Rattle.sl_cube.specs.declared.Point.{Point}
 use Rattle.sl_spec.specs.Named.{has_name, index_named, named}
@@ -106,6 +106,10 @@ module _ (r : Reading) where
   PatternHolds (joined op left right) place p =
       JoinedHolds op (PatternHolds left place p)
       (PatternHolds right (right_place op place (r.bytes left)) p)
+
+-- The pattern, read from the first byte on, holds at each point.
+abbrev pub HoldsEverywhere : Reading → Pattern → Type 0
+HoldsEverywhere r q = (p : Point) → InRange p → PatternHolds r q 0 p
 
 -- a number of bytes, or a place, as it is told: from 4,294,967,295 on as that
 abbrev pub told : ℕ → ℕ

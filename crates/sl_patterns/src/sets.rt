@@ -1,20 +1,22 @@
 //! The sets of patterns as unions of cubes.
 
-ghost use Rattle.std.specs.Prelude.{◌≡◌, ℕ, IfOk};
+ghost use Rattle.std.specs.Prelude.{◌≡◌, ◌↔◌, ℕ, IfOk, IsTrue};
 ghost use Rattle.sl_ast.specs.Views.{expression_of, pattern_of};
 ghost use Rattle.sl_constraints.specs.Places.{seen};
 ghost use Rattle.sl_constraints.specs.Sets.{IsUnionOf};
 ghost use Rattle.sl_cube.specs.Points.{IsInSome};
-ghost use Rattle.sl_patterns.specs.Patterns.{IfHolds, JoinedHolds, NameHolds, PatternHolds};
+ghost use Rattle.sl_patterns.specs.Patterns.{HoldsEverywhere, IfHolds, JoinedHolds};
+ghost use Rattle.sl_patterns.specs.Patterns.{NameHolds, PatternHolds};
 ghost use Rattle.sl_patterns.specs.Patterns.{constraint_of, right_place, told};
 ghost use Rattle.sl_patterns.specs.Views.{reading_of};
 
 use crate::constraints::constraint_of;
+use crate::names::everywhere;
 use crate::reader::{Lengths, Reader};
 use sl_ast::expressions::Expr;
 use sl_ast::patterns::{Pattern, PatternOp, Relation};
 use sl_constraints::{meets_of, put_all, put_moved};
-use sl_cube::Cube;
+use sl_cube::{Cube, is_covered};
 use sl_spec::Tables;
 use std::alloc::{AllocError, Global};
 
@@ -138,5 +140,15 @@ impl<L: Lengths> Reader<'_, '_, L> {
                 Ok(cubes)
             }
         }
+    }
+
+    /// Whether the pattern, read from the first byte on, holds at each point.
+    pub fn holds_everywhere(&self, alloc: Global, of: &Pattern) -> Result<bool, AllocError>
+        ensures { IfOk result (λ holds. IsTrue holds
+            ↔ HoldsEverywhere (reading_of L.bytes self.now) (pattern_of of.now)) }
+    {
+        let cubes = self.pattern_cubes(alloc, of, 0)?;
+        let covered = is_covered(alloc, &everywhere(), &cubes)?;
+        Ok(covered)
     }
 }
