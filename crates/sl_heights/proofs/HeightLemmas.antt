@@ -12,14 +12,6 @@ use Rattle.sl_levels.proofs.LevelLemmas.{meet_equations}
 
 -- ---- the greatest of some nodes
 
-pub above_more : (height : ℕ → ℕ) (nodes : List ℕ) (i most whole : ℕ) → i < length nodes → max most (above height (drop i nodes)) ≡ whole
-    → max (max most (1 + height (get_or nodes i 0))) (above height (drop (i + 1) nodes)) ≡ whole
-above_more height nodes i most whole below so =
-    let e = ap (above height) (drop_more nodes i 0 below) in omega (arith, so, e)
-
-pub above_all : (height : ℕ → ℕ) (nodes : List ℕ) (i most whole : ℕ) → length nodes ≤ i → max most (above height (drop i nodes)) ≡ whole → most ≡ whole
-above_all height nodes i most whole end so = let e = ap (above height) (drop_all i nodes end) in omega (arith, so, e)
-
 below_or_past : (a b : ℕ) → (a < b) ⊎ (b ≤ a)
 below_or_past a b = split (nat_lt a b) refl
   where

@@ -136,6 +136,3 @@ appearing_more count i ctors c below is =
     sym (ap (λ l. fold (met count) [] (map (λ (x : Ctor). x.table) l)) (take_more ctors i c below ∙ ap (λ x. take i ctors ++ x ∷ []) (sym is))
     ∙ ap (fold (met count) []) (map_push (λ (x : Ctor). x.table) (take i ctors) c)
     ∙ fold-append (met count) [] (map (λ (x : Ctor). x.table) (take i ctors)) (c.table ∷ []))
-
-pub appearing_all : (count i : ℕ) (ctors : List Ctor) → length ctors ≤ i → fold (met count) [] (map (λ (x : Ctor). x.table) (take i ctors)) ≡ appearing count ctors
-appearing_all count i ctors end = ap (λ l. fold (met count) [] (map (λ (x : Ctor). x.table) l)) (take_all i ctors end)
