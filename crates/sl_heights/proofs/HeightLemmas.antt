@@ -1,9 +1,9 @@
 -- Heights, node after node in an order.
-use Rattle.std.proofs.Common.{◌≡◌, ℕ, zero, suc, ◌+◌, ◌<◌, ◌≤◌, max, ◌⊎◌, inl, inr, Bool, true, false, List, [], ◌∷◌, length, get_or, set, drop, refl, sym, ap, ◌∙◌, subst, arith}
+use Rattle.std.proofs.Common.{◌≡◌, ℕ, zero, suc, ◌+◌, ◌<◌, ◌≤◌, max, ◌⊎◌, inl, inr, Bool, true, false, List, [], ◌∷◌, length, get_or, set, refl, sym, ap, ◌∙◌, subst, arith}
 use Rattle.std.specs.List.{Contains}
 use Rattle.std.specs.Prelude.{nat_lt}
 use Rattle.std.proofs.lemmas.Bool.{cases_eq}
-use Rattle.std.proofs.lemmas.List.{drop_all, drop_more, get_or-set_other, get_or-set_same, get_or_past}
+use Rattle.std.proofs.lemmas.List.{get_or-set_other, get_or-set_same, get_or_past}
 use Rattle.sl_heights.specs.Heights.{AreHeights, above}
 use Rattle.sl_levels.specs.Levels.{TakesSuccessors, level, value}
 use Rattle.sl_levels.specs.Orders.{IsOrder}
@@ -11,14 +11,6 @@ use Rattle.sl_levels.specs.Reaching.{Graph, successors}
 use Rattle.sl_levels.proofs.LevelLemmas.{meet_equations}
 
 -- ---- the greatest of some nodes
-
-pub above_more : (height : ℕ → ℕ) (nodes : List ℕ) (i most whole : ℕ) → i < length nodes → max most (above height (drop i nodes)) ≡ whole
-    → max (max most (1 + height (get_or nodes i 0))) (above height (drop (i + 1) nodes)) ≡ whole
-above_more height nodes i most whole below so =
-    let e = ap (above height) (drop_more nodes i 0 below) in omega (arith, so, e)
-
-pub above_all : (height : ℕ → ℕ) (nodes : List ℕ) (i most whole : ℕ) → length nodes ≤ i → max most (above height (drop i nodes)) ≡ whole → most ≡ whole
-above_all height nodes i most whole end so = let e = ap (above height) (drop_all i nodes end) in omega (arith, so, e)
 
 below_or_past : (a b : ℕ) → (a < b) ⊎ (b ≤ a)
 below_or_past a b = split (nat_lt a b) refl

@@ -1,14 +1,14 @@
 -- Tables, constructor after constructor.
-use Rattle.std.proofs.Common.{◌≡◌, ℕ, zero, suc, ◌+◌, ◌<◌, ◌≤◌, ◌==◌, ◌&&◌, ◌||◌, inl, inr, Bool, true, false, cond, List, [], ◌∷◌, ◌++◌, Vec, Global, length, get_or, set, take, map, fold, Some, refl, sym, ap, ◌∙◌, subst, arith}
-use Rattle.std.specs.Prelude.{nat_lt, slice_get}
+use Rattle.std.proofs.Common.{◌≡◌, ℕ, zero, suc, ◌+◌, ◌<◌, ◌≤◌, ◌==◌, inl, inr, true, false, cond, List, [], ◌∷◌, ◌++◌, Vec, Global, length, get_or, set, take, map, fold, Some, refl, sym, ap, ◌∙◌, subst, arith}
+use Rattle.std.specs.Prelude.{slice_get}
 use Rattle.std.specs.List.{range_with_len}
 use Rattle.std.proofs.lemmas.Bool.{cases_eq}
-use Rattle.std.proofs.lemmas.List.{append-nil, append_assoc, get_or-set_other, get_or-set_same, length-set, map_push, take_all, take_more}
+use Rattle.std.proofs.lemmas.List.{append-nil, append_assoc, length-set, map_push, take_all, take_more}
 use Rattle.std.proofs.lemmas.List.Sums.{fold-append}
 use Rattle.std.proofs.lemmas.Option.{same_Some, slice_get_read, slice_get_within}
 use Rattle.sl_levels.specs.Views.{graph_of}
-use Rattle.sl_order.specs.Orders.{appearing, graph, has, met, named_by, tables_in}
-use Rattle.sl_order.specs.Steps.{IsGraphOf, Tells}
+use Rattle.sl_order.specs.Orders.{graph, met, named_by, tables_in}
+use Rattle.sl_order.specs.Steps.{IsGraphOf}
 use Rattle.sl_spec.specs.Tables.{Ctor}
 
 get_set_same : {X : Type 0} (xs : List X) (i : ℕ) (x : X) → i < length xs → slice_get (set xs i x) i ≡ Some x
@@ -85,57 +85,9 @@ graph_is count i ctors lists end are =
 
 -- ---- tables that come
 
-or_true : (b : Bool) → (b || true) ≡ true
-or_true true = refl
-or_true false = refl
-
-has_same : (done : List ℕ) (t : ℕ) → has (done ++ t ∷ []) t ≡ true
-has_same [] t = ap (λ b. b || false) (test_is t t refl)
-has_same (d ∷ done) t = ap (λ b. (d == t) || b) (has_same done t) ∙ or_true (d == t)
-
-has_other : (done : List ℕ) (t u : ℕ) → (t ≡ u → ⊥) → has (done ++ t ∷ []) u ≡ has done u
-has_other [] t u n = ap (λ b. b || false) (test_not t u n)
-has_other (d ∷ done) t u n = ap (λ b. (d == u) || b) (has_other done t u n)
-
-less_test : (a b : ℕ) → a < b → nat_lt a b ≡ true
-less_test a b e = grind arith
-
-past_test : (a b : ℕ) → b ≤ a → nat_lt a b ≡ false
-past_test a b e = grind arith
-
-pub met_past : (count : ℕ) (done : List ℕ) (t : ℕ) → count ≤ t → done ≡ met count done t
-met_past count done t past = ap (λ b. cond (b && cond (has done t) false true) (done ++ t ∷ []) done) (sym (past_test t count past))
-
-and_false : (b : Bool) → (b && false) ≡ false
-and_false true = refl
-and_false false = refl
-
-pub met_known : (count : ℕ) (done : List ℕ) (t : ℕ) → has done t ≡ true → done ≡ met count done t
-met_known count done t known =
-    sym (ap (λ b. cond (nat_lt t count && cond b false true) (done ++ t ∷ []) done) known ∙ ap (λ b. cond b (done ++ t ∷ []) done) (and_false (nat_lt t count)))
-
-pub met_new : (count : ℕ) (done : List ℕ) (t : ℕ) → t < count → has done t ≡ false → done ++ t ∷ [] ≡ met count done t
-met_new count done t below fresh =
-    sym (ap (λ b. cond (b && cond (has done t) false true) (done ++ t ∷ []) done) (less_test t count below)
-    ∙ ap (λ b. cond (cond b false true) (done ++ t ∷ []) done) fresh)
-
-pub tells_more : (count : ℕ) (done new : List ℕ) (seen next : List Bool) (t : ℕ) → t < length seen → new ≡ done ++ t ∷ [] → next ≡ set seen t true
-    → Tells count done seen → Tells count new next
-tells_more count done new seen next t below pushed marked so = record {
-  counted = ap (λ (l : List Bool). length l) marked ∙ length-set seen t true ∙ so.counted;
-  each = λ u less. ap (λ (l : List Bool). get_or l u false) marked ∙ elim (cases_eq u t) [
-    | inl same ↦ ap (λ v. get_or (set seen t true) v false) same ∙ get_or-set_same seen t true false below ∙ sym (has_same done t)
-        ∙ ap (has (done ++ t ∷ [])) (sym same) ∙ ap (λ (l : List ℕ). has l u) (sym pushed)
-    | inr other ↦ get_or-set_other seen t u true false other ∙ so.each u less ∙ sym (has_other done t u (λ e. other (sym e))) ∙ ap (λ (l : List ℕ). has l u) (sym pushed)
-  ];
-}
-
 pub appearing_more : (count i : ℕ) (ctors : List Ctor) (c : Ctor) → i < length ctors → c ≡ get_or ctors i c
     → met count (fold (met count) [] (map (λ (x : Ctor). x.table) (take i ctors))) c.table ≡ fold (met count) [] (map (λ (x : Ctor). x.table) (take (i + 1) ctors))
 appearing_more count i ctors c below is =
     sym (ap (λ l. fold (met count) [] (map (λ (x : Ctor). x.table) l)) (take_more ctors i c below ∙ ap (λ x. take i ctors ++ x ∷ []) (sym is))
     ∙ ap (fold (met count) []) (map_push (λ (x : Ctor). x.table) (take i ctors) c)
     ∙ fold-append (met count) [] (map (λ (x : Ctor). x.table) (take i ctors)) (c.table ∷ []))
-
-pub appearing_all : (count i : ℕ) (ctors : List Ctor) → length ctors ≤ i → fold (met count) [] (map (λ (x : Ctor). x.table) (take i ctors)) ≡ appearing count ctors
-appearing_all count i ctors end = ap (λ l. fold (met count) [] (map (λ (x : Ctor). x.table) l)) (take_all i ctors end)

@@ -1,10 +1,9 @@
 -- The bytes of lists, node after node.
 use Rattle.std.proofs.Common.{◌≡◌, ℕ, zero, suc, ◌+◌, ◌<◌, ◌≤◌, min, List, [], ◌∷◌, ◌++◌, length, get_or, map, take, refl, sym, ap, ◌∙◌, arith}
 use Rattle.std.specs.Prelude.{sum_by}
-use Rattle.std.proofs.lemmas.List.{get_or-take, length-map, map_push, take_all, take_at, take_more}
+use Rattle.std.proofs.lemmas.List.{get_or-take, map_push, take_all, take_more}
 use Rattle.std.proofs.lemmas.List.Sums.{sum_by-append, sum_by-cons}
 use Rattle.sl_shapes.specs.Bytes.{bytes_of, capped_sum, cost, most_bytes}
-use Rattle.sl_shapes.specs.Lists.{Keeps}
 use Rattle.sl_shapes.specs.Nodes.{AreBelow, lists_of}
 use Rattle.sl_shapes.specs.declared.nodes.Node.{Node}
 use Rattle.sl_shapes.specs.declared.nodes.Node.TheVariants.{One, Joined}

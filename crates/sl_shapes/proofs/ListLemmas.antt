@@ -1,7 +1,7 @@
 -- Lists as they are added, and as they are found.
 use Rattle.std.proofs.Common.{◌≡◌, ℕ, ◌+◌, ◌<◌, ◌≤◌, inl, inr, ◌==◌, Bool, true, false, cond, List, [], ◌∷◌, ◌++◌, length, get_or, Option, Some, None, refl, sym, ap, ◌∙◌, subst, arith}
 use Rattle.std.specs.Prelude.{nat_lt, IfSome}
-use Rattle.std.proofs.lemmas.List.{append_assoc, append-nil, get_or_append_left, get_or_at, get_or_past, length-append, length_push}
+use Rattle.std.proofs.lemmas.List.{append_assoc, get_or_append_left, get_or_at, get_or_past, length_push}
 use Rattle.sl_shapes.specs.Comparing.{common_prefix, compared}
 use Rattle.sl_shapes.specs.Lists.{IsAmong, Keeps, limited, list_at}
 use Rattle.sl_shapes.specs.Nodes.{AreBelow, list_step, lists_of, reach}

@@ -4,12 +4,11 @@ use Rattle.std.specs.Prelude.{IfOk}
 use Rattle.std.proofs.lemmas.List.{append_assoc, append-nil, length-append}
 use Rattle.sl_shapes.specs.Comparing.{common_prefix, compared}
 use Rattle.sl_shapes.specs.Nodes.{AreBelow, lists_of}
-use Rattle.sl_shapes.specs.Walks.{AreIn, Ends, IsEnd, IsLeafStep, IsMet, IsSplit, IsStep, Passes, Tells, pending, weights_of, work, work_left, written}
+use Rattle.sl_shapes.specs.Walks.{AreIn, Ends, IsEnd, IsLeafStep, IsMet, IsStep, Passes, Tells, pending, weights_of, work, work_left, written}
 use Rattle.sl_shapes.specs.declared.nodes.Node.{Node}
 use Rattle.sl_shapes.specs.declared.nodes.Node.TheVariants.{One, Joined}
 use Rattle.sl_shapes.specs.declared.shapes.Compared.{Compared}
 use Rattle.sl_shapes.specs.declared.shapes.Compared.TheVariants.{Same, FirstShorter, SecondShorter, Apart}
-use Rattle.sl_shapes.specs.declared.walking.Split.{Split}
 use Rattle.sl_shapes.specs.declared.walking.Walk.{Walk}
 use Rattle.sl_shapes.proofs.NodeLemmas.{joined_list, joined_reach, joined_weight, one_list, some_token, some_weight}
 
