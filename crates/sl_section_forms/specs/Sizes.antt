@@ -1,5 +1,5 @@
--- meaning: written sizes and counts of bits of a section or macro, a part of rule 26 (SLEIGH manual,
--- "Expressions", "Statements").
+-- meaning: written sizes and counts of bits of a section or macro, a part of rule 26 (SLEIGH
+-- manual, "Expressions", "Statements").
 use Rattle.std.specs.Prelude.{ℕ, nat_le, ◌&&◌, Bool, true, List, Option, Some, None}
 use Rattle.std.specs.List.{list_all}
 use Rattle.sl_ast.specs.Trees.{Expression, Expressions, integer, named, paren, call, sized, dropped}
