@@ -30,7 +30,10 @@ static LINES: [(&str, &str); 63] = [
     (NOT_YET, "define space rom type=rom_space size=8;"),
     ("s:10: rule 4\n", "define space rom type=rom_space size=9;"),
     (NOT_YET, "define space io type=ram_space size=1;"),
-    ("s:10: rule 5\n", "define space io type=ram_space size=1 default;"),
+    (
+        "s:10: rule 5\n",
+        "define space io type=ram_space size=1 default;",
+    ),
     (NOT_YET, "define ram offset=0 size=16 D;"),
     ("s:10: rule 6\n", "define ram offset=0 size=17 D;"),
     (NOT_YET, "define register offset=0xfffe size=2 D;"),
@@ -51,7 +54,10 @@ static LINES: [(&str, &str); 63] = [
     (NOT_YET, "attach names x [ \"eq\" ne _ ];"),
     ("s:10: rule 14\n", "attach names x [ \"eq\" 1 ];"),
     (NOT_YET, "attach values x [ -1 _ 0x10 ];"),
-    ("s:10: rule 14\n", "attach values x [ 9223372036854775808 ];"),
+    (
+        "s:10: rule 14\n",
+        "attach values x [ 9223372036854775808 ];",
+    ),
     (NOT_YET, "attach values [ x l ] [ 1 2 ];"),
     ("s:10: rule 15\n", "attach values [ x l ] [ 1 2 3 ];"),
     (NOT_YET, "r: \"s\" is a=14 {}"),
@@ -68,14 +74,26 @@ static LINES: [(&str, &str); 63] = [
     ("s:10: rule 20\n", ":n is a=1/(2-2) {}"),
     (NOT_YET, ":n is r & x ; a=1 [ m = 1; m = x; s = 4; ] {}"),
     ("s:10: rule 21\n", ":n is r & x ; a=1 [ s = 1; s = 2; ] {}"),
-    (NOT_YET, ":n is r & x ; a=1 [ s = a + m; q = inst_next + s; ] {}"),
+    (
+        NOT_YET,
+        ":n is r & x ; a=1 [ s = a + m; q = inst_next + s; ] {}",
+    ),
     ("s:10: rule 22\n", ":n is r & x ; a=1 [ q = s; s = 1; ] {}"),
     (NOT_YET, ":n is r & x ; a=1 [ m = x + inst_start; ] {}"),
     ("s:10: rule 23\n", ":n is r & x ; a=1 [ m = a; ] {}"),
     (NOT_YET, ":n is r & x ; a=1 [ globalset(inst_next, m); ] {}"),
-    ("s:10: rule 24\n", ":n is r & x ; a=1 [ globalset(inst_next, x); ] {}"),
-    (NOT_YET, ":n is r & x ; a=1 [ s = x * 4; globalset(s, m); ] {}"),
-    ("s:10: rule 25\n", ":n is r & x ; a=1 [ globalset(a, m); ] {}"),
+    (
+        "s:10: rule 24\n",
+        ":n is r & x ; a=1 [ globalset(inst_next, x); ] {}",
+    ),
+    (
+        NOT_YET,
+        ":n is r & x ; a=1 [ s = x * 4; globalset(s, m); ] {}",
+    ),
+    (
+        "s:10: rule 25\n",
+        ":n is r & x ; a=1 [ globalset(a, m); ] {}",
+    ),
     (NOT_YET, "with r : a=14 { :\"q\" is epsilon {} }"),
     (NOT_YET, "macro p(v) { v = v; }"),
     ("s:10: rule 3\n", "macro r() { }"),
@@ -89,10 +107,7 @@ static LINES: [(&str, &str); 63] = [
 
 /// What is printed of a whole text.
 static TEXTS: [(&str, &str); 8] = [
-    (
-        "s:0: rule 32\n",
-        "",
-    ),
+    ("s:0: rule 32\n", ""),
     (
         "s:1: rule 1\n",
         "define alignment=2;
