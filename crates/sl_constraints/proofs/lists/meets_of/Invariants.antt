@@ -1,0 +1,7 @@
+use Rattle.std.proofs.Common.{[]}
+use Rattle.sl_cube.specs.Points.{IsIn, IsInSome}
+use Rattle.sl_constraints.proofs.LoopLemmas.{AddsFirst}
+use Rattle.sl_constraints.proofs.lists.meets_of.Given as goal
+
+abbrev pub invariant-loop-cube : goal.invariant-loop-cube
+invariant-loop-cube l = AddsFirst (λ p x. IsIn p x × IsInSome l.fn.right p) l.left [] l.cube-index l.met.items

@@ -1,0 +1,10 @@
+pub mod Codes
+pub mod Counts
+pub mod FixedBits
+pub mod Homes
+pub mod Places
+pub mod Rooms
+pub mod Sets
+pub mod Values
+pub mod Views
+pub mod Windows
