@@ -1,0 +1,4 @@
+pub mod JudgeLemmas
+pub mod RowLemmas
+pub mod SpreadLemmas
+pub mod TableLemmas

@@ -1,0 +1,4 @@
+pub mod Ambiguity
+pub mod Judged
+pub mod Kept
+pub mod Rows

@@ -1,0 +1,5 @@
+pub mod ByteLemmas
+pub mod ListLemmas
+pub mod NodeLemmas
+pub mod ShapeLemmas
+pub mod WalkLemmas
