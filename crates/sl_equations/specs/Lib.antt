@@ -1,0 +1,4 @@
+pub mod Equations
+pub mod Fits
+pub mod Known
+pub mod Uses
