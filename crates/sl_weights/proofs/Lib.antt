@@ -1,3 +1,4 @@
 pub mod SizeLemmas
 pub mod BodyLemmas
 pub mod WeightLemmas
+pub mod PositionLemmas

@@ -1,6 +1,7 @@
 -- What a table weighs depends on its tables alone, up to any cap.
 use Rattle.std.proofs.Common.{◌≡◌, ℕ, ◌+◌, ◌≤◌, max, min, Bool, List, [], ◌∷◌, ◌++◌, length, get_or, Option, Some, None, map, sum_by, refl, ap, ◌∙◌, sym, nat_lt, arith}
 use Rattle.std.specs.List.{Contains}
+use Rattle.std.specs.Prelude.{position}
 use Rattle.std.proofs.lemmas.Bool.Decides.{nat_tests}
 use Rattle.std.proofs.lemmas.List.{get_or_past, length-map}
 use Rattle.sl_ast.specs.Trees.{Constructor, Head}
@@ -21,7 +22,7 @@ use Rattle.sl_ast.specs.Unfolding.{Placed}
 use Rattle.sl_tables.proofs.JudgeLemmas.{none_reaches}
 use Rattle.sl_tables.proofs.CapLemmas.{max_keeps}
 use Rattle.sl_tables.proofs.StepLemmas.{Alike, all_left, all_of, all_right, sum_as, sums_alike, tables_at}
-use Rattle.sl_weights.specs.Weights.{heavy_fault, macro_weights, row_weight, section_weight, step, table_weight}
+use Rattle.sl_weights.specs.Weights.{first_heavy, is_heavy, macro_weights, row_weight, section_weight, step, table_weight}
 
 -- blocks leave the section alone
 pub under_section : (hs : List Head) (c : Constructor) → (under hs c).section ≡ c.section
@@ -96,25 +97,20 @@ none_reach t cs h =
     (nowhere 34 (reaching_place gs rs) (first_fault (amount_rules t gs rs)) (none_behind (early_rules t rs) ((34, reaching_place gs rs) ∷ amount_rules t gs rs) h))
 
 module _ (macros : List MacroBody) (gs : List (List Row)) where
-  abbrev pub heavy : Row → Bool
-  heavy r = nat_lt 65536 (row_weight macros (table_weight macros gs) r)
-
   abbrev pub heavy_by : List ℕ → Row → Bool
   heavy_by values r = nat_lt 65536 (min (row_weight macros (λ u. get_or values u 0) r) 65537)
 
   pub heavy_as : (values : List ℕ) (rs : List Row) → ((v : ℕ) → get_or values v 0 ≡ min (table_weight macros gs v) 65537)
-      → first_place (heavy_by values) rs ≡ first_place heavy rs
-  heavy_as values rs right = λ i. first_place (λ r. tests r i) rs
+      → position (heavy_by values) rs ≡ position (is_heavy macros gs) rs
+  heavy_as values rs right = λ i. position (λ r. tests r i) rs
     where
-      tests : (r : Row) → heavy_by values r ≡ heavy r
+      tests : (r : Row) → heavy_by values r ≡ is_heavy macros gs r
       tests r = heavy_alike (row_weight macros (λ u. get_or values u 0) r) (row_weight macros (table_weight macros gs) r)
           (row_alike macros 65537 (λ u. get_or values u 0) (table_weight macros gs) r
           (all_of (λ u. min (get_or values u 0) 65537 ≡ min (table_weight macros gs u) 65537) (tables_of r.0) (λ u c. let e = right u in omega arith)))
 
-pub fault_as : (t : Tables) (macros : List MacroBody) (cs : List (Placed Constructor)) (rs : List Row) (gs : List (List Row)) (place : Option Place) → rs ≡ rows t cs → gs ≡ groups (length t.tables) rs
-    → place ≡ first_place (heavy macros gs) rs → fault_or 38 place None ≡ heavy_fault t macros cs
-unfolding heavy_fault
-fault_as t macros cs rs gs place is grouped at =
-    ap (λ p. fault_or 38 p None) at
-    ∙ ap (λ x. fault_or 38 (first_place (heavy macros x) rs) None) grouped
-    ∙ ap (λ x. fault_or 38 (first_place (heavy macros (groups (length t.tables) x)) x) None) is
+pub first_as : (t : Tables) (macros : List MacroBody) (cs : List (Placed Constructor)) (rs : List Row) (gs : List (List Row)) → rs ≡ rows t cs → gs ≡ groups (length t.tables) rs
+    → position (is_heavy macros gs) rs ≡ first_heavy t macros cs
+unfolding first_heavy
+first_as t macros cs rs gs is grouped =
+    ap (λ x. position (is_heavy macros x) rs) grouped ∙ ap (λ x. position (is_heavy macros (groups (length t.tables) x)) x) is

@@ -1,6 +1,6 @@
 -- meaning: the weight of constructors, and rule 38's limit on it.
-use Rattle.std.specs.Prelude.{ℕ, ◌+◌, nat_lt, List, [], ◌∷◌, ◌++◌, Option, Some, None}
-use Rattle.std.specs.Prelude.{fold, get_or, length, map, sum_by}
+use Rattle.std.specs.Prelude.{ℕ, ◌+◌, nat_lt, Bool, List, [], ◌∷◌, ◌++◌, Option, Some, None}
+use Rattle.std.specs.Prelude.{fold, get_or, length, map, position, sum_by}
 use Rattle.sl_ast.specs.Spelling.{spell_all, spell_statement}
 use Rattle.sl_ast.specs.Trees.{Constructor, Section, Statement, invoke, statements, unimplemented}
 use Rattle.sl_ast.specs.Unfolding.{Placed}
@@ -11,8 +11,6 @@ use Rattle.sl_spec.specs.Named.{index_named}
 use Rattle.sl_spec.specs.declared.tables.Tables.{Tables}
 use Rattle.sl_tables.specs.Lengths.{greatest}
 use Rattle.sl_tables.specs.Rows.{Row, graph, group as group_of, groups, rows, tables_of}
-use Rattle.sl_tables.specs.TableRules.{fault_or, first_place}
-use Rattle.sl_tables.specs.declared.faults.LateFault.{LateFault}
 
 -- how many tokens statements have
 unfoldable pub tokens : List Statement → ℕ
@@ -63,10 +61,12 @@ table_weight macros gs = value (graph gs) (step macros) (group_of gs)
 abbrev pub most_weight : ℕ
 most_weight = 65536
 
--- 38: the weight of each constructor is at most 65,536. The first that weighs more.
-unfoldable pub heavy_fault : Tables → List MacroBody → List (Placed Constructor) → Option LateFault
-heavy_fault t macros constructors =
+-- 38: the weight of each constructor is at most 65,536
+abbrev pub is_heavy : List MacroBody → List (List Row) → Row → Bool
+is_heavy macros gs r = nat_lt most_weight (row_weight macros (table_weight macros gs) r)
+
+-- the number of the first constructor that weighs more
+unfoldable pub first_heavy : Tables → List MacroBody → List (Placed Constructor) → Option ℕ
+first_heavy t macros constructors =
     let rs = rows t constructors in
-    let gs = groups (length t.tables) rs in
-    fault_or 38
-    (first_place (λ r. nat_lt most_weight (row_weight macros (table_weight macros gs) r)) rs) None
+    position (is_heavy macros (groups (length t.tables) rs)) rs

@@ -1,22 +1,22 @@
 //! The weights of constructors and tables, and the first constructor that weighs too much.
 
-ghost use Rattle.std.specs.Prelude.{◌≡◌, ◌≤◌, ◌+◌, ℕ, None, nat_lt, set, get_or, map, min, IfOk};
+ghost use Rattle.std.specs.Prelude.{◌≡◌, ◌≤◌, ◌+◌, ℕ, None, nat_lt, set, get_or, map, min, IfOk, position};
 ghost use Rattle.sl_levels.specs.Orders.{IsOrder};
 ghost use Rattle.sl_spec.specs.Unfolded.{all_placed};
 ghost use Rattle.sl_tables.specs.Amounts.{node_amount};
 ghost use Rattle.sl_tables.specs.Lengths.{put_together};
 ghost use Rattle.sl_tables.specs.Rows.{graph, group};
-ghost use Rattle.sl_tables.specs.TableRules.{fault_or, first_place, late_fault};
+ghost use Rattle.sl_tables.specs.TableRules.{late_fault};
 ghost use Rattle.sl_tables.specs.Views.{groups_of, row_of, rows_of};
 ghost use Rattle.sl_weights.specs.Weights as w;
-ghost use Rattle.sl_weights.specs.Weights.{heavy_fault, macro_weights, row_weight, step};
+ghost use Rattle.sl_weights.specs.Weights.{first_heavy, macro_weights, row_weight, step};
 
 use crate::macros::{known, macro_weights, section_weight};
 use crate::sizes::{ENOUGH, sum};
 use sl_levels::order_of;
 use sl_resolve::MacroBody;
 use sl_spec::{Means, Named, Operand, Tables, Unfolded};
-use sl_tables::{LateFault, Place, Row, all_rows, graph, grouped, number};
+use sl_tables::{Row, all_rows, graph, grouped, number};
 use std::alloc::{AllocError, Global};
 
 /// How much a constructor may weigh.
@@ -147,56 +147,39 @@ fn is_heavy<'s, 'a>(
     row_weight(macros, weights, values, row) > MOST_WEIGHT
 }
 
-/// The place of a constructor.
-fn place(row: &Row) -> Place
-    ensures { result ≡ Place.Item row.now.ctor.now.item }
-{
-    let ctor = row.ctor;
-    Place::Item(ctor.item)
-}
-
-/// The place of the first constructor that weighs more than it may.
-fn heavy_place<'s, 'a>(
+/// The number of the first constructor that weighs more than it may.
+fn heavy_index<'s, 'a>(
     macros: &Named<'a, MacroBody<'s, 'a>>,
     weights: &[usize],
     values: &[usize],
     rows: &[Row<'_, '_, 'a>],
-) -> Option<Place>
+) -> Option<usize>
     requires { weights.now ≡ map (λ n. min n 65537) (macro_weights macros.now) }
-    ensures { result ≡ first_place (λ r. nat_lt 65536
+    ensures { result ≡ position (λ r. nat_lt 65536
         (min (row_weight macros.now (λ u. get_or values.now u 0) r) 65537)) (rows_of rows.now) }
 {
     'rows: for index in 0..rows.len() {
         let row = rows[index];
         if is_heavy(macros, weights, values, &row) {
-            return Some(place(&row));
+            return Some(index);
         }
     }
     None
 }
 
-/// Rule 38 at a place.
-fn fault(place: Option<Place>) -> Option<LateFault>
-    ensures { result ≡ fault_or 38 place None }
-{
-    match place {
-        Some(place) => Some(LateFault { rule: 38, place }),
-        None => None,
-    }
-}
-
-/// The first constructor of a text, in its order, that weighs more than 65,536 (rule 38), where
-/// rules 32 to 37 hold. `macros` has all macros of the text in its order, and `constructors` are
-/// those of `t` as they are written, in the same order. Weights are reckoned of the text as it is
-/// written, with no macro taken out. The only error is want of memory.
+/// The first constructor of a text, in its order, that weighs more than 65,536 (rule 38), by its
+/// number among all constructors, where rules 32 to 37 hold. `macros` has all macros of the text in
+/// its order, and `constructors` are those of `t` as they are written, in the same order. Weights
+/// are reckoned of the text as it is written, with no macro taken out. The only error is want of
+/// memory.
 pub fn first_heavy<'s, 'a>(
     alloc: Global,
     t: &Tables<'a>,
     macros: &Named<'a, MacroBody<'s, 'a>>,
     constructors: &[Unfolded<'s, 'a>],
-) -> Result<Option<LateFault>, AllocError>
-    ensures { IfOk result (λ fault. late_fault t.now (all_placed constructors.now) ≡ None
-        → fault ≡ heavy_fault t.now macros.now (all_placed constructors.now)) }
+) -> Result<Option<usize>, AllocError>
+    ensures { IfOk result (λ index. late_fault t.now (all_placed constructors.now) ≡ None
+        → index ≡ first_heavy t.now macros.now (all_placed constructors.now)) }
 {
     let rows = all_rows(alloc, t.constructors.as_slice(), constructors)?;
     let groups = grouped(alloc, t.tables.len(), rows.as_slice())?;
@@ -206,6 +189,6 @@ pub fn first_heavy<'s, 'a>(
     let weights = macro_weights(alloc, macros)?;
     let weights = weights.as_slice();
     let values = table_weights(alloc, macros, weights, groups.as_slice(), order)?;
-    let place = heavy_place(macros, weights, values.as_slice(), rows.as_slice());
-    Ok(fault(place))
+    let index = heavy_index(macros, weights, values.as_slice(), rows.as_slice());
+    Ok(index)
 }

@@ -1,16 +1,16 @@
 use Rattle.std.proofs.Common.{◌≡◌, ◌∷◌, None, Option, List, ℕ, length, get_or, min, ap, sym, subst, ◌∙◌}
 use Rattle.std.specs.List.{zip}
+use Rattle.std.specs.Prelude.{position}
 use Rattle.sl_levels.specs.Orders.{IsOrder, NoneReaches}
 use Rattle.sl_levels.specs.Reaching.{Graph}
 use Rattle.sl_levels.specs.Views.{graph_of}
 use Rattle.sl_spec.specs.Tables.{Ctor}
 use Rattle.sl_spec.specs.Unfolded.{all_placed}
 use Rattle.sl_tables.specs.Rows as spec
-use Rattle.sl_tables.specs.TableRules.{first_place}
 use Rattle.sl_tables.specs.Views.{groups_of, rows_of}
 use Rattle.sl_tables.specs.declared.rows.Row.{Row}
 use Rattle.sl_weights.specs.Weights.{table_weight}
-use Rattle.sl_weights.proofs.WeightLemmas.{fault_as, heavy, heavy_as, heavy_by, none_reach}
+use Rattle.sl_weights.proofs.WeightLemmas.{first_as, heavy_as, heavy_by, none_reach}
 use Rattle.sl_weights.proofs.weights.first_heavy.Goals as goal
 
 pub returns : goal.returns
@@ -28,8 +28,7 @@ returns c = λ holds.
     let right : (v : ℕ) → get_or c.in_ok-values.values.items v 0 ≡ min (table_weight macros gs v) 65537 =
     subst (λ x. (v : ℕ) → get_or c.in_ok-values.values.items v 0 ≡ min (table_weight macros (groups_of x) v) 65537) c.as_slice-5.ensures.value
     (c.in_ok-values.ensures (subst (λ x. IsOrder (spec.graph (groups_of x)) c.as_slice-order.result.now) (sym c.as_slice-5.ensures.value) (subst (λ l. IsOrder (spec.graph gs) l) (sym c.as_slice-order.ensures.value) order))) in
-    let place : c.heavy_place-place.result ≡ first_place (heavy macros gs) rs = c.heavy_place-place.ensures
-    ∙ ap (λ (l : List ℕ). first_place (heavy_by macros gs l) (rows_of c.as_slice-7.result.now)) c.as_slice-6.ensures.value
-    ∙ ap (λ (l : List Row). first_place (heavy_by macros gs c.in_ok-values.values.items) (rows_of l)) c.as_slice-7.ensures.value
-    ∙ heavy_as macros gs c.in_ok-values.values.items rs right in
-    c.fault.ensures ∙ fault_as t macros cs rs gs c.heavy_place-place.result is grouped place
+    c.heavy_index-index.ensures
+    ∙ ap (λ (l : List ℕ). position (heavy_by macros gs l) (rows_of c.as_slice-7.result.now)) c.as_slice-6.ensures.value
+    ∙ ap (λ (l : List Row). position (heavy_by macros gs c.in_ok-values.values.items) (rows_of l)) c.as_slice-7.ensures.value
+    ∙ heavy_as macros gs c.in_ok-values.values.items rs right ∙ first_as t macros cs rs gs is grouped
