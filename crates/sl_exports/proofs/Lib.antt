@@ -1,2 +1,4 @@
+pub mod UnexportedLemmas
+pub mod RowLemmas
 pub mod MarkLemmas
 pub mod SpreadLemmas

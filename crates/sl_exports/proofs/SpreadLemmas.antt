@@ -217,12 +217,13 @@ pub visiting_goes : (graph : Graph) (v : ℕ) (next : List ℕ) (old_marks : Lis
 visiting_goes graph v next old_marks old marks stack new stack' i is below visits so_far starts first follows begins =
     let now = so_far starts first follows begins in
     let w = get_or next i 0 in
-    let has : Contains (successors graph v) w = subst (λ (l : List ℕ). Contains l w) (sym is) (at_index next i below) in
-    (visited graph starts first (λ u. u ≡ v) marks new stack stack' w (follows_one graph starts v w follows has) visits now.0,
-    λ k less. elim (cases_lt k i) [
-      | inl h ↦ marked_still marks new w (get_or next k 0) visits.marks (now.1 k h)
-      | inr h ↦ let e : k ≡ i = omega arith in ap (λ j. mark_of new (get_or next j 0)) e ∙ marked_now marks new w visits.marks
-    ])
+    let has : Contains (successors graph v) w = subst (λ (l : List ℕ). Contains l w) (sym is) (at_index next i below) in (
+      visited graph starts first (λ u. u ≡ v) marks new stack stack' w (follows_one graph starts v w follows has) visits now.0,
+      λ k less. elim (cases_lt k i) [
+        | inl h ↦ marked_still marks new w (get_or next k 0) visits.marks (now.1 k h)
+        | inr h ↦ let e : k ≡ i = omega arith in ap (λ j. mark_of new (get_or next j 0)) e ∙ marked_now marks new w visits.marks
+      ],
+    )
 
 pub visiting_ends : (graph : Graph) (v : ℕ) (next : List ℕ) (old_marks : List Bool) (old : List ℕ) (marks : List Bool) (stack : List ℕ) (i : ℕ)
     → successors graph v ≡ next → length next ≤ i → Visiting graph v next old_marks old marks stack i → VisitsAll graph old_marks old v marks stack

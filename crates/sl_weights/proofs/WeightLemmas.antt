@@ -4,13 +4,12 @@ use Rattle.std.specs.List.{Contains}
 use Rattle.std.specs.Prelude.{position}
 use Rattle.std.proofs.lemmas.Bool.Decides.{nat_tests}
 use Rattle.std.proofs.lemmas.List.{get_or_past, length-map}
-use Rattle.sl_ast.specs.Trees.{Constructor, Head}
+use Rattle.sl_ast.specs.Trees.{Constructor}
 use Rattle.sl_levels.specs.Levels.{TakesSuccessors}
 use Rattle.sl_levels.specs.Orders.{NoneReaches}
 use Rattle.sl_levels.specs.Reaching.{successors}
 use Rattle.sl_resolve.specs.declared.macros.MacroBody.{MacroBody}
 use Rattle.sl_rules.specs.Gathered.{gathered}
-use Rattle.sl_spec.specs.Unfolded.{under}
 use Rattle.sl_tables.specs.Amounts.{node_amount}
 use Rattle.sl_tables.specs.Lengths.{put_together}
 use Rattle.sl_tables.specs.Rows.{Row, graph, group as group_of, groups, rows, tables_in, tables_of}
@@ -23,11 +22,6 @@ use Rattle.sl_tables.proofs.JudgeLemmas.{none_reaches}
 use Rattle.sl_tables.proofs.CapLemmas.{max_keeps}
 use Rattle.sl_tables.proofs.StepLemmas.{Alike, all_left, all_of, all_right, sum_as, sums_alike, tables_at}
 use Rattle.sl_weights.specs.Weights.{first_heavy, is_heavy, macro_weights, row_weight, section_weight, step, table_weight}
-
--- blocks leave the section alone
-pub under_section : (hs : List Head) (c : Constructor) → (under hs c).section ≡ c.section
-under_section [] c = refl
-under_section (h ∷ hs) c = under_section hs c
 
 pub row_as : (macros : List MacroBody) (f : ℕ → ℕ) (r : Row)
     → row_weight macros f r ≡ put_together (λ m n. m + n) (section_weight macros (macro_weights macros) r.1.1.section) (map (λ o. node_amount f o.means) r.0.operands)

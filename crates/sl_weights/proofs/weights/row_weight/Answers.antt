@@ -6,10 +6,11 @@ use Rattle.sl_spec.specs.Unfolded.{heads_of}
 use Rattle.sl_tables.specs.Amounts.{node_amount}
 use Rattle.sl_tables.specs.Lengths.{put_together}
 use Rattle.sl_tables.specs.Views.{row_of}
+use Rattle.sl_tables.proofs.HeadLemmas.{under_section}
 use Rattle.sl_tables.proofs.CapLemmas.{sum_keeps, together_alike}
 use Rattle.sl_weights.specs.Weights.{macro_weights, section_weight}
 use Rattle.sl_weights.proofs.BodyLemmas.{cut}
-use Rattle.sl_weights.proofs.WeightLemmas.{row_as, under_section}
+use Rattle.sl_weights.proofs.WeightLemmas.{row_as}
 use Rattle.sl_weights.proofs.weights.row_weight.Goals as goal
 
 pub returns : goal.returns
