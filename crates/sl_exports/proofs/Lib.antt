@@ -1,3 +1,5 @@
+pub mod MisusedLemmas
+pub mod GraphLemmas
 pub mod UnexportedLemmas
 pub mod RowLemmas
 pub mod MarkLemmas

@@ -4,6 +4,7 @@ use Rattle.std.specs.List.{Contains, list_any}
 use Rattle.std.proofs.lemmas.List.Elements.{Contains-append_cases, Contains-append_left, Contains-append_right}
 use Rattle.std.proofs.lemmas.Bool.{cases_lt}
 use Rattle.std.proofs.lemmas.List.{get_or_past, take_all, take_more}
+use Rattle.sl_tables.proofs.PositionLemmas.{read_alike}
 use Rattle.sl_levels.proofs.Closure as closure
 use Rattle.sl_levels.specs.Reaching.{Graph, Reaches, direct, further, reaches_over, successors}
 use Rattle.sl_exports.specs.Spreading.{is_one_of, is_reached}
@@ -33,11 +34,6 @@ is_same a b h = grind arith
 
 same_is : (a b : ℕ) → a ≡ b → (a == b) ≡ true
 same_is a b h = grind arith
-
-read_alike : {X : Type 0} (xs : List X) (i : ℕ) (c d : X) → i < length xs → get_or xs i c ≡ get_or xs i d
-read_alike [] i c d below = absurd (omega arith)
-read_alike (x ∷ xs) zero c d below = refl
-read_alike (x ∷ xs) (suc i) c d below = read_alike xs i c d (omega arith)
 
 has_first : {X : Type 0} (x : X) (xs : List X) → Contains (x ∷ xs) x
 has_first x xs = (0, omega arith, refl)

@@ -2,9 +2,14 @@
 #![tactic(auto)]
 
 mod exporting;
+mod graphs;
+mod handing;
 mod marks;
+mod misused;
 mod rows;
 mod spread;
+mod standing;
 mod unexported;
 
+pub use misused::misused_place;
 pub use unexported::unexported_place;

@@ -65,7 +65,7 @@ fn uses_marked(alloc: Global, exporting: &[bool], of: &Sectioned) -> Result<bool
 }
 
 /// Whether a table has both marks.
-fn has_both(exporting: &[bool], silent: &[bool], of: &Sectioned) -> bool
+pub fn has_both(exporting: &[bool], silent: &[bool], of: &Sectioned) -> bool
     ensures { result ≡ (mark_of exporting.now (row_of of.now).0.0.table
         && mark_of silent.now (row_of of.now).0.0.table) }
 {

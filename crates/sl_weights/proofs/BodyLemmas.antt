@@ -12,6 +12,7 @@ use Rattle.sl_tables.specs.Lengths.{put_together}
 use Rattle.sl_weights.specs.Sizes.{statement_size}
 use Rattle.sl_weights.specs.Weights.{body_weight, call_weight, macro_weights, number_at, tokens, with_macro}
 use Rattle.sl_tables.proofs.CapLemmas.{maps_alike, sum_keeps}
+use Rattle.sl_tables.proofs.PositionLemmas.{at_slice}
 use Rattle.sl_weights.proofs.SizeLemmas.{tokens_more}
 
 abbrev pub cut : ℕ → ℕ
@@ -64,11 +65,6 @@ macro_more macros weights now m n is at =
     ap (λ (l : List ℕ). l ++ n ∷ []) is
     ∙ ap (λ k. map cut weights ++ k ∷ []) (at ∙ ap (λ (l : List ℕ). cut (body_weight macros l (body_of m))) is ∙ body_alike macros weights (body_of m))
     ∙ sym (map_push cut weights (body_weight macros weights (body_of m)))
-
-at_slice : {A : Type 0} (xs : List A) (i : ℕ) (x : A) → slice_get xs i ≡ Some x → x ≡ get_or xs i x
-at_slice [] i x is = absurd (let h : ⊥ = cc in h)
-at_slice (y ∷ ys) zero x is = let e : y ≡ x = cc in sym e
-at_slice (y ∷ ys) (suc i) x is = at_slice ys i x is
 
 pub macros_more : (macros : List MacroBody) (now : List ℕ) (i n : ℕ) (m : MacroBody) → i < length macros → slice_get macros i ≡ Some m
     → now ≡ map cut (fold (with_macro macros) [] (take i macros)) → n ≡ cut (body_weight macros now (body_of m))

@@ -1,4 +1,3 @@
 pub mod SizeLemmas
 pub mod BodyLemmas
 pub mod WeightLemmas
-pub mod PositionLemmas

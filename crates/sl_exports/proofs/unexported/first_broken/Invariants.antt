@@ -9,5 +9,5 @@ use Rattle.sl_exports.proofs.unexported.first_broken.Given as goal
 abbrev pub invariant-rows : goal.invariant-rows
 invariant-rows l =
     let test : Row → Bool = λ r. not (not (mark_of l.exporting r.0.0.table && mark_of l.silent r.0.0.table)
-        && each_used_passes (flag (operand_flags (mark_of l.exporting) r.0.0)) r.1) in
+    && each_used_passes (flag (operand_flags (mark_of l.exporting) r.0.0)) r.1) in
     IsNotBefore test (rows_of l.rows) l.index

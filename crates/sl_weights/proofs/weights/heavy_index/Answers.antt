@@ -3,7 +3,7 @@ use Rattle.sl_rules.proofs.Seen.{below_map, past_map, seen_map}
 use Rattle.sl_tables.specs.Rows as spec
 use Rattle.sl_tables.specs.Views.{row_of, rows_of}
 use Rattle.sl_weights.specs.Weights.{row_weight}
-use Rattle.sl_weights.proofs.PositionLemmas.{is_first, is_later, is_nowhere}
+use Rattle.sl_tables.proofs.PositionLemmas.{is_first, is_later, is_nowhere}
 use Rattle.sl_weights.proofs.weights.heavy_index.Goals as goal
 
 pub rows-preserved : goal.rows-preserved

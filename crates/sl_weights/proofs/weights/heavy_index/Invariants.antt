@@ -2,7 +2,7 @@ use Rattle.std.proofs.Common.{ℕ, Bool, get_or, min, nat_lt}
 use Rattle.sl_tables.specs.Rows.{Row}
 use Rattle.sl_tables.specs.Views.{rows_of}
 use Rattle.sl_weights.specs.Weights.{row_weight}
-use Rattle.sl_weights.proofs.PositionLemmas.{IsNotBefore}
+use Rattle.sl_tables.proofs.PositionLemmas.{IsNotBefore}
 use Rattle.sl_weights.proofs.weights.heavy_index.Given as goal
 
 abbrev pub invariant-rows : goal.invariant-rows

@@ -1,14 +1,19 @@
 -- The index of the first member that passes a test.
 use Rattle.std.proofs.Common.{◌≡◌, ℕ, zero, suc, ◌+◌, ◌<◌, ◌≤◌, inl, inr, Bool, true, false, cond, nat_lt, List, [], ◌∷◌, length, get_or, Some, None, refl, sym, ap, ◌∙◌, arith}
-use Rattle.std.specs.Prelude.{position}
+use Rattle.std.specs.Prelude.{position, slice_get}
 use Rattle.std.proofs.lemmas.Bool.{cases_lt}
 use Rattle.std.proofs.lemmas.Bool.Decides.{nat_tests}
 use Rattle.std.proofs.lemmas.List.Sums.{position_or_len_is}
 
-read_alike : {X : Type 0} (xs : List X) (i : ℕ) (c d : X) → i < length xs → get_or xs i c ≡ get_or xs i d
+pub read_alike : {X : Type 0} (xs : List X) (i : ℕ) (c d : X) → i < length xs → get_or xs i c ≡ get_or xs i d
 read_alike [] i c d below = absurd (omega arith)
 read_alike (x ∷ xs) zero c d below = refl
 read_alike (x ∷ xs) (suc i) c d below = read_alike xs i c d (omega arith)
+
+pub at_slice : {X : Type 0} (xs : List X) (i : ℕ) (x : X) → slice_get xs i ≡ Some x → x ≡ get_or xs i x
+at_slice [] i x is = absurd (let h : ⊥ = cc in h)
+at_slice (y ∷ ys) zero x is = let e : y ≡ x = cc in sym e
+at_slice (y ∷ ys) (suc i) x is = at_slice ys i x is
 
 module _ {X : Type 0} (test : X → Bool) (xs : List X) where
   -- no member before the index passes
