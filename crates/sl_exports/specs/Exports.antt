@@ -16,6 +16,8 @@ use Rattle.sl_spec.specs.declared.constructors.Means.TheVariants as m
 use Rattle.sl_spec.specs.declared.tables.Tables.{Tables}
 use Rattle.sl_tables.specs.Rows as all
 use Rattle.sl_tables.specs.Rows.{table_of}
+use Rattle.sl_tables.specs.TableRules.{first_fault}
+use Rattle.sl_tables.specs.declared.faults.LateFault.{LateFault}
 use Rattle.sl_tables.specs.declared.faults.Place.{Place}
 use Rattle.sl_tables.specs.declared.faults.Place.TheVariants.{Item}
 use Rattle.sl_exports.specs.Spreading.{is_one_of, is_reached}
@@ -172,3 +174,24 @@ unfoldable pub misused_place : Tables → List (Placed Constructor) → List (Li
 misused_place t constructors sections =
     let rs = rows t constructors sections in
     first_place (λ r. not (keeps_39 (default_space t) (length t.tables) rs r)) rs
+
+-- ---- both rules
+
+-- the place of a constructor that weighs too much, by its number
+abbrev pub heavy_place : Tables → Option ℕ → Option Place
+heavy_place t None = None
+heavy_place t (Some i) = option_map (λ c. Item c.item) (slice_get t.constructors i)
+
+-- the demands of rules 38 and 39 with the places where they are broken; the sections are those of
+-- all constructors before the first that weighs too much
+abbrev pub section_rules : Tables → List (Placed Constructor) → List (List Step) → Option ℕ
+    → List (ℕ × Option Place)
+section_rules t constructors sections heavy =
+    (38, unexported_place t constructors sections) ∷ (38, heavy_place t heavy) ∷
+    (39, misused_place t constructors sections) ∷ []
+
+-- the first broken one of rules 38 and 39
+abbrev pub section_fault : Tables → List (Placed Constructor) → List (List Step) → Option ℕ
+    → Option LateFault
+section_fault t constructors sections heavy =
+    first_fault (section_rules t constructors sections heavy)

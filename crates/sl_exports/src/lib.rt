@@ -4,6 +4,7 @@
 mod exporting;
 mod graphs;
 mod handing;
+mod judge;
 mod marks;
 mod misused;
 mod rows;
@@ -11,5 +12,4 @@ mod spread;
 mod standing;
 mod unexported;
 
-pub use misused::misused_place;
-pub use unexported::unexported_place;
+pub use judge::judge_sections;
