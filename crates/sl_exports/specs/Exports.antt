@@ -1,5 +1,6 @@
 -- meaning: what the constructors of tables export, and rules 38 and 39 on it.
-use Rattle.std.specs.Prelude.{ℕ, ◌==◌, ◌&&◌, Bool, true, false, cond, not, List, [], ◌∷◌, find, length}
+use Rattle.std.specs.Prelude.{ℕ, ◌==◌, ◌&&◌, Bool, true, false, cond, not, List, [], ◌∷◌}
+use Rattle.std.specs.Prelude.{find, length}
 use Rattle.std.specs.Prelude.{Option, Some, None, map, option_map, position, slice_get, unwrap_or}
 use Rattle.std.specs.List.{list_any, range_with_len, zip}
 use Rattle.sl_ast.specs.Trees.{Constructor, Section, Statement, export, statements, unimplemented}

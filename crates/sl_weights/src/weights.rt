@@ -1,6 +1,7 @@
 //! The weights of constructors and tables, and the first constructor that weighs too much.
 
-ghost use Rattle.std.specs.Prelude.{◌≡◌, ◌≤◌, ◌+◌, ℕ, None, nat_lt, set, get_or, map, min, IfOk, position};
+ghost use Rattle.std.specs.Prelude.{◌≡◌, ◌≤◌, ◌+◌, ℕ, None, nat_lt, set, get_or, map, min};
+ghost use Rattle.std.specs.Prelude.{IfOk, position};
 ghost use Rattle.sl_levels.specs.Orders.{IsOrder};
 ghost use Rattle.sl_spec.specs.Unfolded.{all_placed};
 ghost use Rattle.sl_tables.specs.Amounts.{node_amount};
