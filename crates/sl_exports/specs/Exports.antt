@@ -77,8 +77,8 @@ passes test (m.Action n) = false
 abbrev pub operand_flags : (ℕ → Bool) → Ctor → List Bool
 operand_flags test c = map (λ o. passes test o.means) c.operands
 
--- 38: a table operand that is read, assigned, jumped to, exported or the pointer of an exported star
--- has a constructor that exports
+-- 38: a table operand that is read, assigned, jumped to, exported or the pointer of an exported
+-- star has a constructor that exports
 abbrev pub uses_exports : List all.Row → Row → Bool
 uses_exports rs r = each_used_passes (flag (operand_flags (is_one_of (exporting rs)) r.0.0)) r.1
 
@@ -87,7 +87,8 @@ abbrev pub keeps_38 : List all.Row → Row → Bool
 keeps_38 rs r = all_or_none rs r.0.0.table && uses_exports rs r
 
 -- the first constructor at which one of these demands is broken; a table stands at its first one
-unfoldable pub unexported_place : Tables → List (Placed Constructor) → List (List Step) → Option Place
+unfoldable pub unexported_place : Tables → List (Placed Constructor) → List (List Step)
+    → Option Place
 unexported_place t constructors sections =
     first_place (λ r. not (keeps_38 (all.rows t constructors) r)) (rows t constructors sections)
 
@@ -155,7 +156,8 @@ module _ (default tables : ℕ) (rs : List Row) where
   -- a table may stand for storage that is no target of a jump, its own or that of a re-export
   abbrev pub is_no_target : ℕ → Bool
   is_no_target table =
-      is_reached (graph_with tables (map swapped (re_exports default rs))) (storages default rs) table
+      let re_exporters = graph_with tables (map swapped (re_exports default rs)) in
+      is_reached re_exporters (storages default rs) table
 
   -- 39: a table that is assigned, directly or through a re-export, exports no constant
   abbrev pub is_assignable : ℕ → Bool
