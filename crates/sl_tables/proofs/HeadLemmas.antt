@@ -9,6 +9,11 @@ use Rattle.sl_tables.specs.Heads.{bytes_or_none, head_bytes, heads_bytes}
 use Rattle.sl_tables.specs.Lengths.{pattern_bytes, put_together}
 use Rattle.sl_tables.proofs.CapLemmas.{together_first}
 
+-- blocks leave the section alone
+pub under_section : (hs : List Head) (c : Constructor) → (under hs c).section ≡ c.section
+under_section [] c = refl
+under_section (h ∷ hs) c = under_section hs c
+
 module _ (t : Tables) (f : ℕ → ℕ) (os : List Operand) where
   under_one : (h : Option Pattern) (p : Pattern) → pattern_bytes t f os (block.under h p) ≡ max (bytes_or_none t f os h) (pattern_bytes t f os p)
   unfolding pattern_bytes

@@ -5,3 +5,4 @@ pub mod ViewLemmas
 pub mod StepLemmas
 pub mod RuleLemmas
 pub mod JudgeLemmas
+pub mod PositionLemmas

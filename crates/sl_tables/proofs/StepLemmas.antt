@@ -22,11 +22,11 @@ use Rattle.sl_tables.specs.declared.quantities.Quantity.{Quantity}
 use Rattle.sl_tables.specs.declared.quantities.Quantity.TheVariants.{Least, Greatest, Nodes}
 use Rattle.sl_tables.proofs.CapLemmas.{Keeps, max_keeps, min_keeps, sum_keeps, together_alike}
 
-all_left : {X : Type 0} (P : X → Type 0) (xs ys : List X) → AllByRecursion P (xs ++ ys) → AllByRecursion P xs
+pub all_left : {X : Type 0} (P : X → Type 0) (xs ys : List X) → AllByRecursion P (xs ++ ys) → AllByRecursion P xs
 all_left P [] ys h = tt
 all_left P (x ∷ xs) ys h = (h.0, all_left P xs ys h.1)
 
-all_right : {X : Type 0} (P : X → Type 0) (xs ys : List X) → AllByRecursion P (xs ++ ys) → AllByRecursion P ys
+pub all_right : {X : Type 0} (P : X → Type 0) (xs ys : List X) → AllByRecursion P (xs ++ ys) → AllByRecursion P ys
 all_right P [] ys h = h
 all_right P (x ∷ xs) ys h = all_right P xs ys h.1
 
@@ -36,7 +36,7 @@ all_of P (x ∷ xs) each = (each x (0, omega arith, refl), all_of P xs (λ y c. 
 
 -- ---- nodes one operand after another
 
-sum_as : (f : ℕ → ℕ) (os : List spec.Operand) (n : ℕ) → n + sum_by f (gathered (λ o. table_of o.means) os) ≡ put_together (λ a b. a + b) n (map (λ o. node_amount f o.means) os)
+pub sum_as : (f : ℕ → ℕ) (os : List spec.Operand) (n : ℕ) → n + sum_by f (gathered (λ o. table_of o.means) os) ≡ put_together (λ a b. a + b) n (map (λ o. node_amount f o.means) os)
 unfolding gathered
 sum_as f [] n = omega arith
 sum_as f (o ∷ os) n = by o.means (λ k. sum_as f os k)
@@ -70,17 +70,27 @@ from_start Least (n ∷ ns) some = together_alike 1025 min (min_keeps 1025) (min
 from_start Greatest (n ∷ ns) some = refl
 from_start Nodes (n ∷ ns) some = refl
 
-module _ (cap : ℕ) (t : Tables) (f g : ℕ → ℕ) where
+module _ (cap : ℕ) (f g : ℕ → ℕ) where
   -- alike up to the cap at these tables
   abbrev pub Alike : List ℕ → Type 0
   Alike us = AllByRecursion (λ u. min (f u) cap ≡ min (g u) cap) us
 
-  means_alike : (m : Means) → Alike (table_of m) → min (means_bytes t f m) cap ≡ min (means_bytes t g m) cap
+  pub sums_alike : (us : List ℕ) → Alike us → min (sum_by f us) cap ≡ min (sum_by g us) cap
+  sums_alike [] h = refl
+  sums_alike (u ∷ us) h =
+      let rest = sums_alike us h.1 in
+      let one = h.0 in
+      let a = sum_by-cons f u us in
+      let b = sum_by-cons g u us in
+      omega arith
+
+module _ (cap : ℕ) (t : Tables) (f g : ℕ → ℕ) where
+  means_alike : (m : Means) → Alike cap f g (table_of m) → min (means_bytes t f m) cap ≡ min (means_bytes t g m) cap
   means_alike (Table id) h = h.0
   means_alike (Field id) h = refl
   means_alike (Action n) h = refl
 
-  operand_alike : (name : List ℕ) (os : List spec.Operand) → Alike (gathered (λ o. table_of o.means) os)
+  operand_alike : (name : List ℕ) (os : List spec.Operand) → Alike cap f g (gathered (λ o. table_of o.means) os)
       → min (operand_bytes t f (named (λ o. o.name) name os)) cap ≡ min (operand_bytes t g (named (λ o. o.name) name os)) cap
   unfolding gathered
   operand_alike name [] h = refl
@@ -96,7 +106,7 @@ module _ (cap : ℕ) (t : Tables) (f g : ℕ → ℕ) where
   joined_alike Then a b m n h e = sum_keeps cap a b m n h e
   joined_alike Or a b m n h e = max_keeps cap a b m n h e
 
-  pattern_alike : (os : List spec.Operand) → Alike (gathered (λ o. table_of o.means) os) → (p : Pattern) → min (pattern_bytes t f os p) cap ≡ min (pattern_bytes t g os p) cap
+  pattern_alike : (os : List spec.Operand) → Alike cap f g (gathered (λ o. table_of o.means) os) → (p : Pattern) → min (pattern_bytes t f os p) cap ≡ min (pattern_bytes t g os p) cap
   unfolding pattern_bytes
   pattern_alike os h (bare name) = operand_alike name os h
   pattern_alike os h (constraint name relation e) = refl
@@ -104,21 +114,12 @@ module _ (cap : ℕ) (t : Tables) (f g : ℕ → ℕ) where
   pattern_alike os h (ellipsis p) = pattern_alike os h p
   pattern_alike os h (joined op p q) = joined_alike op _ _ _ _ (pattern_alike os h p) (pattern_alike os h q)
 
-  sums_alike : (us : List ℕ) → Alike us → min (sum_by f us) cap ≡ min (sum_by g us) cap
-  sums_alike [] h = refl
-  sums_alike (u ∷ us) h =
-      let rest = sums_alike us h.1 in
-      let one = h.0 in
-      let a = sum_by-cons f u us in
-      let b = sum_by-cons g u us in
-      omega arith
-
-  pub amount_alike : (q : Quantity) (r : Row) → Alike (tables_of r.0) → min (amount q t f r) cap ≡ min (amount q t g r) cap
+  pub amount_alike : (q : Quantity) (r : Row) → Alike cap f g (tables_of r.0) → min (amount q t f r) cap ≡ min (amount q t g r) cap
   amount_alike Least r h = pattern_alike r.0.operands h r.1.1.pattern
   amount_alike Greatest r h = pattern_alike r.0.operands h r.1.1.pattern
-  amount_alike Nodes r h = let e = sums_alike (tables_of r.0) h in omega arith
+  amount_alike Nodes r h = let e = sums_alike cap f g (tables_of r.0) h in omega arith
 
-  together : (q : Quantity) (k : ℕ → ℕ → ℕ) → Keeps cap k → (rs : List Row) → Alike (tables_in rs) → (a b : ℕ) → min a cap ≡ min b cap
+  together : (q : Quantity) (k : ℕ → ℕ → ℕ) → Keeps cap k → (rs : List Row) → Alike cap f g (tables_in rs) → (a b : ℕ) → min a cap ≡ min b cap
       → min (put_together k a (map (amount q t f) rs)) cap ≡ min (put_together k b (map (amount q t g) rs)) cap
   unfolding gathered
   together q k keeps [] h a b e = e
@@ -126,7 +127,7 @@ module _ (cap : ℕ) (t : Tables) (f g : ℕ → ℕ) where
       together q k keeps rs (all_right _ (tables_of r.0) _ h) (k a (amount q t f r)) (k b (amount q t g r))
       (keeps a b (amount q t f r) (amount q t g r) e (amount_alike q r (all_left _ (tables_of r.0) (gathered (λ r. tables_of r.0) rs) h)))
 
-  pub step_alike : (q : Quantity) (rs : List Row) → Alike (tables_in rs) → min (step q t f rs) cap ≡ min (step q t g rs) cap
+  pub step_alike : (q : Quantity) (rs : List Row) → Alike cap f g (tables_in rs) → min (step q t f rs) cap ≡ min (step q t g rs) cap
   unfolding gathered
   step_alike Greatest rs h = together Greatest max (max_keeps cap) rs h 0 0 refl
   step_alike Nodes rs h = together Nodes max (max_keeps cap) rs h 0 0 refl
@@ -135,15 +136,16 @@ module _ (cap : ℕ) (t : Tables) (f g : ℕ → ℕ) where
       together Least min (min_keeps cap) rs (all_right _ (tables_of r.0) _ h) (amount Least t f r) (amount Least t g r)
       (amount_alike Least r (all_left _ (tables_of r.0) (gathered (λ r. tables_of r.0) rs) h))
 
-module _ (q : Quantity) (t : Tables) (gs : List (List Row)) where
-  pub tables_at : (v : ℕ) → successors (graph gs) v ≡ tables_in (group_of gs v)
-  unfolding gathered
-  tables_at v = at_map tables_in gs v []
+-- the successors of a table
+pub tables_at : (gs : List (List Row)) (v : ℕ) → successors (graph gs) v ≡ tables_in (group_of gs v)
+unfolding gathered
+tables_at gs v = at_map tables_in gs v []
 
+module _ (q : Quantity) (t : Tables) (gs : List (List Row)) where
   at_successors : (cap v : ℕ) (f g : ℕ → ℕ) → ((w : ℕ) → Contains (successors (graph gs) v) w → min (f w) cap ≡ min (g w) cap)
       → min (step q t f (group_of gs v)) cap ≡ min (step q t g (group_of gs v)) cap
   at_successors cap v f g each = step_alike cap t f g q (group_of gs v)
-      (all_of (λ u. min (f u) cap ≡ min (g u) cap) (tables_in (group_of gs v)) (λ w c. each w (rw (tables_at v) c)))
+      (all_of (λ u. min (f u) cap ≡ min (g u) cap) (tables_in (group_of gs v)) (λ w c. each w (rw (tables_at gs v) c)))
 
   pub caps : (cap v : ℕ) (f g : ℕ → ℕ) → ((w : ℕ) → Contains (successors (graph gs) v) w → f w ≡ min (g w) cap)
       → min (step q t f (group_of gs v)) cap ≡ min (step q t g (group_of gs v)) cap

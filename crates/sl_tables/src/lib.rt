@@ -11,3 +11,4 @@ mod rules;
 
 pub use faults::{LateFault, Place};
 pub use judge::judge_tables;
+pub use rows::{Row, all_rows, graph, grouped, number};

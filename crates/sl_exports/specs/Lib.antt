@@ -1,0 +1,4 @@
+pub mod Exports
+pub mod Spreading
+pub mod Spreads
+pub mod Views

@@ -1,0 +1,10 @@
+use Rattle.std.proofs.Common.{ap, sym, ◌∙◌}
+use Rattle.sl_ast.specs.Views.{statement_of}
+use Rattle.sl_weights.specs.Weights.{call_weight, number_at}
+use Rattle.sl_weights.proofs.macros.call_weight.Goals as goal
+
+pub returns-in-Some : goal.returns-in-Some
+returns-in-Some c =
+    let macros = c.args.macros.now in
+    let weights = c.args.weights.now in
+    c.known.ensures ∙ ap (number_at weights) (sym c.in-Some.is ∙ c.index_of.ensures) ∙ ap (λ s. call_weight macros weights (statement_of s)) (sym c.in-Invoke.is)
