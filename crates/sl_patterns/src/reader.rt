@@ -22,6 +22,7 @@ pub trait Lengths {
 
 /// What patterns are read with: the tables of their specification, how many bytes patterns have, and
 /// the hulls of the tables by their numbers, where they are known.
+#[derive(Drop)]
 pub struct Reader<'r, 'a, L> {
     pub tables: &'r Tables<'a>,
     pub lengths: &'r L,

@@ -1,0 +1,12 @@
+//! The shapes of patterns.
+#![tactic(auto)]
+
+mod below;
+mod constructor;
+mod extent;
+mod extents;
+mod faults;
+mod joining;
+mod leaves;
+mod lengths;
+mod stop;
