@@ -1,6 +1,9 @@
 pub mod AlikeLemmas
 pub mod BelowLemmas
+pub mod CarryLemmas
 pub mod ExtentLemmas
 pub mod ExtentOfShapeLemmas
 pub mod HoldLemmas
 pub mod JoinLemmas
+pub mod MadeLemmas
+pub mod OrderLemmas

@@ -1,7 +1,9 @@
+pub mod Adding
 pub mod Below
 pub mod Extents
 pub mod Faults
 pub mod Made
 pub mod PatternShapes
 pub mod Stops
+pub mod Tables
 pub mod Views

@@ -3,10 +3,13 @@
 
 mod below;
 mod constructor;
+mod errors;
 mod extent;
 mod extents;
 mod faults;
 mod joining;
 mod leaves;
 mod lengths;
+mod order;
 mod stop;
+mod tables;
