@@ -7,3 +7,5 @@ pub mod HoldLemmas
 pub mod JoinLemmas
 pub mod MadeLemmas
 pub mod OrderLemmas
+pub mod NamedLemmas
+pub mod AddedLemmas
