@@ -30,11 +30,11 @@ use Rattle.sl_shape.proofs.ExtentOfShapeLemmas.{inside_some}
 pub seen_more : (old now : List (List ℕ)) → Keeps old now → (s : code.Shape) → IsThere old s → seen now s ≡ seen old s
 seen_more old now keeps s there = λ i. record { kind = s.kind; tokens = keeps_at old now keeps s.tokens.0 there i }
 
-all_there : (old now : List (List ℕ)) → Keeps old now → (ss : List code.Shape) → AllByRecursion (IsThere old) ss → AllByRecursion (IsThere now) ss
+pub all_there : (old now : List (List ℕ)) → Keeps old now → (ss : List code.Shape) → AllByRecursion (IsThere old) ss → AllByRecursion (IsThere now) ss
 all_there old now keeps [] all = tt
 all_there old now keeps (s ∷ ss) all = (keeps_there old now keeps s.tokens.0 all.0, all_there old now keeps ss all.1)
 
-all_seen : (old now : List (List ℕ)) → Keeps old now → (ss : List code.Shape) → AllByRecursion (IsThere old) ss → map (seen now) ss ≡ map (seen old) ss
+pub all_seen : (old now : List (List ℕ)) → Keeps old now → (ss : List code.Shape) → AllByRecursion (IsThere old) ss → map (seen now) ss ≡ map (seen old) ss
 all_seen old now keeps [] all = refl
 all_seen old now keeps (s ∷ ss) all = λ i. seen_more old now keeps s all.0 i ∷ all_seen old now keeps ss all.1 i
 

@@ -138,7 +138,7 @@ module _ (t : Tables) (s r : Shapes) (h k : List (Option Cube)) where
     if_shape (Some p) all = ap (λ o. unwrap_or o of_nothing) (shape_same p all)
 
     -- They agree on the tables that a constructor names.
-    abbrev AgreeAt : ℕ → Type 0
+    abbrev pub AgreeAt : ℕ → Type 0
     AgreeAt i = AllByRecursion Agree (named_by t (pattern_at cs i))
 
     pub set_same : (sets : List CubeSet) (i : ℕ) → AgreeAt i → IsSetAt t cs s h sets i → IsSetAt t cs r k sets i

@@ -9,3 +9,6 @@ pub mod MadeLemmas
 pub mod OrderLemmas
 pub mod NamedLemmas
 pub mod AddedLemmas
+pub mod AddLoopLemmas
+pub mod NextLemmas
+pub mod ShapeTableLemmas

@@ -1,5 +1,6 @@
 -- The tables that patterns name, part after part.
-use Rattle.std.proofs.Common.{◌≡◌, ℕ, ◌<◌, ◌≤◌, zero, suc, length, arith, List, [], ◌∷◌, ◌++◌, append_assoc, append-nil, map, Option, Some, None, Result, Ok, Err, refl, sym, ap, ◌∙◌, subst}
+use Rattle.std.proofs.Common.{◌≡◌, ℕ, ◌+◌, ◌<◌, ◌≤◌, get_or, take, zero, suc, length, arith, List, [], ◌∷◌, ◌++◌, append_assoc, append-nil, map, Option, Some, None, Result, Ok, Err, refl, sym, ap, ◌∙◌, subst}
+use Rattle.std.proofs.lemmas.List.{map_push, take_more}
 use Rattle.std.specs.Prelude.{OnOk, option_map, slice_get}
 use Rattle.sl_ast.specs.Trees.{Pattern, bare, constraint, group, ellipsis, joined}
 use Rattle.sl_ast.specs.Trees as trees
@@ -61,3 +62,15 @@ pattern_here us i u e = ap (option_map (λ c. c.1.pattern)) (get_mapped placed u
 
 pub pattern_past : (us : List Unfolded) (i : ℕ) → length us ≤ i → pattern_at (all_placed us) i ≡ None
 pattern_past us i past = ap (option_map (λ c. c.1.pattern)) (get_mapped placed us i ∙ ap (option_map placed) (get_past us i past))
+
+pub read_some : {A : Type 0} (xs : List A) (i : ℕ) (x : A) → slice_get xs i ≡ Some x → (i < length xs) × (get_or xs i x ≡ x)
+read_some [] i x e = absurd cc
+read_some (y ∷ xs) zero x e = (omega arith, ap (λ o. elim o [ Some z ↦ z | None ↦ x ]) e)
+read_some (y ∷ xs) (suc i) x e = let r = read_some xs i x e in (omega (arith, r.0), r.1)
+
+-- one list more of a graph
+pub graph_more : {A : Type 0} (f : A → List ℕ) (xs : List A) (i : ℕ) (x : A) (old : List (List ℕ)) → slice_get xs i ≡ Some x → old ≡ map f (take i xs)
+    → old ++ f x ∷ [] ≡ map f (take (i + 1) xs)
+graph_more f xs i x old e so =
+    let r = read_some xs i x e in
+    ap (λ (l : List (List ℕ)). l ++ f x ∷ []) so ∙ sym (ap (map f) (take_more xs i x r.0 ∙ ap (λ y. take i xs ++ y ∷ []) r.1) ∙ map_push f (take i xs) x)

@@ -3,6 +3,7 @@ pub mod Below
 pub mod Extents
 pub mod Faults
 pub mod Made
+pub mod Next
 pub mod PatternShapes
 pub mod Stops
 pub mod Tables

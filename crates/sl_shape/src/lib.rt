@@ -11,5 +11,6 @@ mod joining;
 mod leaves;
 mod lengths;
 mod order;
+mod shaping;
 mod stop;
 mod tables;
