@@ -12,3 +12,4 @@ pub mod AddedLemmas
 pub mod AddLoopLemmas
 pub mod NextLemmas
 pub mod ShapeTableLemmas
+pub mod OrderedLemmas

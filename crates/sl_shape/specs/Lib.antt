@@ -4,6 +4,7 @@ pub mod Extents
 pub mod Faults
 pub mod Made
 pub mod Next
+pub mod Ordered
 pub mod PatternShapes
 pub mod Stops
 pub mod Tables

@@ -132,14 +132,13 @@ pub record AreShaped (t : Tables) (cs : List (Placed Constructor)) (sets : List 
   pub tables : AllByRecursion (IsTable t cs shapes hulls) (order_by t heights)
   pub have_sets : AllByRecursion (HasSets t cs shapes hulls sets) (order_by t heights)
 
--- The first constructor with a fault: those of the tables before its own have none, nor have those before it in its table.
-pub record IsFirstFault (t : Tables) (cs : List (Placed Constructor)) (ctor : ℕ) (f : Fault) : Type 0 where
-  pub heights : List ℕ
-  pub are_heights : AreHeights (table_graph t cs) heights
+-- The first constructor with a fault, where tables are taken in this order: those of the tables
+-- before its own have none, nor have those before it in its table.
+pub record IsFirstAmong (t : Tables) (cs : List (Placed Constructor)) (order : List ℕ) (ctor : ℕ) (f : Fault) : Type 0 where
   pub before : List ℕ
   pub table : ℕ
   pub after : List ℕ
-  pub order_is : order_by t heights ≡ before ++ table ∷ after
+  pub order_is : order ≡ before ++ table ∷ after
   pub shapes : Shapes
   pub hulls : List (Option Cube)
   pub tables : AllByRecursion (IsTable t cs shapes hulls) before
@@ -148,6 +147,12 @@ pub record IsFirstFault (t : Tables) (cs : List (Placed Constructor)) (ctor : �
   pub numbers_are : constructors_of t table ≡ earlier ++ ctor ∷ later
   pub sound : AllByRecursion (λ i. CtorTells t cs shapes hulls i None) earlier
   pub tells : CtorTells t cs shapes hulls ctor (Some f)
+
+-- The first constructor with a fault, tables being taken by their heights.
+pub record IsFirstFault (t : Tables) (cs : List (Placed Constructor)) (ctor : ℕ) (f : Fault) : Type 0 where
+  pub heights : List ℕ
+  pub are_heights : AreHeights (table_graph t cs) heights
+  pub first : IsFirstAmong t cs (order_by t heights) ctor f
 
 -- what an error tells; want of memory is free
 abbrev pub IsError : (ℕ → Fault → Type 0) → ShapeError → Type 0

@@ -1,6 +1,7 @@
 use Rattle.std.proofs.Common.{◌≡◌, ℕ, ◌<◌, List, Some, length, map, set, arith, refl, sym, ap, ◌∙◌, subst}
 use Rattle.std.proofs.lemmas.List.{length-map, length-set}
 use Rattle.std.proofs.lemmas.Result.{err_from_is_err_and}
+use Rattle.std.specs.Prelude.{option_copied}
 use Rattle.sl_patterns.specs.Hulls.{IsHullOrNone, TableHas}
 use Rattle.sl_settle.specs.declared.CubeSet.{CubeSet}
 use Rattle.sl_shape.specs.Adding.{AreAdded}
@@ -19,7 +20,7 @@ use Rattle.sl_shape.proofs.shaping.Known.shape_table.Goals as goal
 
 pub returns-in_default-clause-next : goal.returns-in_default-clause-next
 returns-in_default-clause-next c =
-    none_next c.args.t.now (all_placed c.args.constructors.now) c.args.self.now (length c.args.constructors.now) c.args.table c.requires (sym c.at.ensures ∙ c.in_default.is)
+    none_next c.args.t.now (all_placed c.args.constructors.now) c.args.self.now (length c.args.constructors.now) c.args.table c.requires (sym c.at.ensures ∙ ap option_copied c.in_default.is)
 
 pub returns-in_err-found-clause-fault : goal.returns-in_err-found-clause-fault
 returns-in_err-found-clause-fault c =
