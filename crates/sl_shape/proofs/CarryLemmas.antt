@@ -116,11 +116,16 @@ module _ (t : Tables) (s r : Shapes) (h k : List (Option Cube)) where
   tells_same p all e =
       let w = e.1.1.0 in
       let x = e.1.1.1 in
-      let same = constrains_alike t (pattern_bytes t s) (pattern_bytes t r) h k p (alike_same p all) 0 in
-      (e.0, (sound_same p all e.1.0, (
-        (w.0, record { all = λ i c. w.1.all i ((same i).1 c); last = λ some. (same (w.0 - 1)).0 (w.1.last some) }, w.2),
-        (x.0, x.1, (holds_same p all x.0).0 x.2),
-      )))
+      let same = constrains_alike t (pattern_bytes t s) (pattern_bytes t r) h k p (alike_same p all) 0 in (
+        e.0,
+        (
+          sound_same p all e.1.0,
+          (
+            (w.0, record { all = λ i c. w.1.all i ((same i).1 c); last = λ some. (same (w.0 - 1)).0 (w.1.last some) }, w.2),
+            (x.0, x.1, (holds_same p all x.0).0 x.2),
+          ),
+        ),
+      )
 
   -- ---- constructors and tables
 

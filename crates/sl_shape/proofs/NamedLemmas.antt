@@ -69,8 +69,8 @@ read_some (y ∷ xs) zero x e = (omega arith, ap (λ o. elim o [ Some z ↦ z | 
 read_some (y ∷ xs) (suc i) x e = let r = read_some xs i x e in (omega (arith, r.0), r.1)
 
 -- one list more of a graph
-pub graph_more : {A : Type 0} (f : A → List ℕ) (xs : List A) (i : ℕ) (x : A) (old : List (List ℕ)) → slice_get xs i ≡ Some x → old ≡ map f (take i xs)
+pub graph_more : {A B : Type 0} (f : A → B) (xs : List A) (i : ℕ) (x : A) (old : List B) → slice_get xs i ≡ Some x → old ≡ map f (take i xs)
     → old ++ f x ∷ [] ≡ map f (take (i + 1) xs)
 graph_more f xs i x old e so =
     let r = read_some xs i x e in
-    ap (λ (l : List (List ℕ)). l ++ f x ∷ []) so ∙ sym (ap (map f) (take_more xs i x r.0 ∙ ap (λ y. take i xs ++ y ∷ []) r.1) ∙ map_push f (take i xs) x)
+    ap (λ l. l ++ f x ∷ []) so ∙ sym (ap (map f) (take_more xs i x r.0 ∙ ap (λ y. take i xs ++ y ∷ []) r.1) ∙ map_push f (take i xs) x)

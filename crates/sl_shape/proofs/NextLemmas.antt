@@ -73,16 +73,19 @@ module _ (t : Tables) (cs : List (Placed Constructor)) (heights : List ℕ) (are
   -- tables before this one
   tables_still : (here : IsTable t cs r k table) (done : List ℕ) → AllByRecursion (λ u. level u ≤ level table) done → AllByRecursion (IsTable t cs s h) done → AllByRecursion (IsTable t cs r k) done
   tables_still here [] low all = tt
-  tables_still here (u ∷ done) low all = (elim (cases_eq u table) [
-    | inl same ↦ subst (λ (n : ℕ). IsTable t cs r k n) (sym same) here
-    | inr apart ↦ table_carried t s r h k cs u (agree_named u low.0) (agree_other u apart) all.0
-  ], tables_still here done low.1 all.1)
+  tables_still here (u ∷ done) low all = (
+    elim (cases_eq u table) [
+      | inl same ↦ subst (λ (n : ℕ). IsTable t cs r k n) (sym same) here
+      | inr apart ↦ table_carried t s r h k cs u (agree_named u low.0) (agree_other u apart) all.0
+    ],
+    tables_still here done low.1 all.1,
+  )
 
   sets_still : (done : List ℕ) → AllByRecursion (λ u. level u ≤ level table) done → AllByRecursion (HasSets t cs s h old.sets.items) done → AllByRecursion (HasSets t cs r k new.sets.items) done
   sets_still [] low all = tt
   sets_still (u ∷ done) low all = (
     sets_carried t s r h k cs new.sets.items u (agree_named u low.0)
-    (all_each (IfSetAt t cs s h old.sets.items) (IfSetAt t cs s h new.sets.items) (λ i f below. next.keeps i (f below)) (constructors_of t u) all.0),
+        (all_each (IfSetAt t cs s h old.sets.items) (IfSetAt t cs s h new.sets.items) (λ i f below. next.keeps i (f below)) (constructors_of t u) all.0),
     sets_still done low.1 all.1,
   )
 

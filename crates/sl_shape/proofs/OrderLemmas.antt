@@ -36,8 +36,8 @@ module _ (h : ℕ → ℕ) where
   sorted_both n [] ys a b s = s
   sorted_both n (x ∷ xs) ys a b s = (
     all_both (λ y. h x ≤ h y) xs ys
-    (all_each (λ v. h v ≡ n) (λ y. h x ≤ h y) (λ y e. let d = a.0 in omega (arith, e, d)) xs a.1)
-    (all_each (λ v. n ≤ h v) (λ y. h x ≤ h y) (λ y e. let d = a.0 in omega (arith, e, d)) ys b),
+        (all_each (λ v. h v ≡ n) (λ y. h x ≤ h y) (λ y e. let d = a.0 in omega (arith, e, d)) xs a.1)
+        (all_each (λ v. n ≤ h v) (λ y. h x ≤ h y) (λ y e. let d = a.0 in omega (arith, e, d)) ys b),
     sorted_both n xs ys a.1 b s,
   )
 

@@ -1,5 +1,5 @@
 -- Tables one after another.
-use Rattle.std.proofs.Common.{◌≡◌, ℕ, ◌+◌, ◌<◌, ◌≤◌, inl, inr, length, arith, List, [], ◌∷◌, ◌++◌, get_or, map, take, drop, Option, Some, None, refl, sym, ap, ◌∙◌, subst}
+use Rattle.std.proofs.Common.{◌≡◌, ℕ, zero, suc, ◌+◌, ◌<◌, ◌≤◌, inl, inr, length, arith, List, [], ◌∷◌, ◌++◌, get_or, map, take, drop, Option, Some, None, refl, sym, ap, ◌∙◌, subst}
 use Rattle.std.proofs.lemmas.Bool.{cases_lt}
 use Rattle.std.proofs.lemmas.List.{drop_more, get_or_past, length-map, take-append-drop, take_all, take_more}
 use Rattle.std.specs.List.{AllByRecursion, Any}
@@ -23,6 +23,11 @@ use Rattle.sl_shapes.specs.Lists.{seen}
 use Rattle.sl_shapes.specs.Shapes.{of_nothing, of_table}
 use Rattle.sl_spec.specs.declared.tables.Tables.{Tables}
 
+pub read_any : (xs : List ℕ) (i d e : ℕ) → i < length xs → get_or xs i d ≡ get_or xs i e
+read_any [] i d e below = absurd (omega arith)
+read_any (x ∷ xs) zero d e below = refl
+read_any (x ∷ xs) (suc i) d e below = read_any xs i d e (omega arith)
+
 module _ (t : Tables) (cs : List (Placed Constructor)) (order : List ℕ) (i table : ℕ) (below : i < length order) (at : table ≡ get_or order i table) where
   parts : order ≡ take i order ++ table ∷ drop (i + 1) order
   parts = sym (take-append-drop i order) ∙ ap (λ (l : List ℕ). take i order ++ l) (drop_more order i table below ∙ ap (λ n. n ∷ drop (i + 1) order) (sym at))
@@ -43,17 +48,19 @@ module _ (t : Tables) (cs : List (Placed Constructor)) (order : List ℕ) (i tab
         let wide = length-map new.shapes.items (seen new.lists.all) in
         elim (cases_lt table (length t.tables)) [
           | inl there ↦
-            let in_shapes : table < length (shapes_known old) = omega (arith, there, long, right.shapes) in
-            let in_hulls : table < length old.hulls.items = omega (arith, there, right.hulls) in
-            (subst (λ (l : List ℕ). AllByRecursion (IsTable t cs (shapes_known new) new.hulls.items) l) (sym more)
-              (next_tables t cs heights by.are_heights old new table next in_shapes in_hulls (take i order) l so.0),
+              let in_shapes : table < length (shapes_known old) = omega (arith, there, long, right.shapes) in
+              let in_hulls : table < length old.hulls.items = omega (arith, there, right.hulls) in (
+                subst (λ (l : List ℕ). AllByRecursion (IsTable t cs (shapes_known new) new.hulls.items) l) (sym more)
+                    (next_tables t cs heights by.are_heights old new table next in_shapes in_hulls (take i order) l so.0),
+                subst (λ (l : List ℕ). AllByRecursion (HasSets t cs (shapes_known new) new.hulls.items new.sets.items) l) (sym more)
+                    (next_sets t cs heights by.are_heights old new table next in_shapes in_hulls (take i order) l so.1),
+              )
+          | inr past ↦ (
+            subst (λ (l : List ℕ). AllByRecursion (IsTable t cs (shapes_known new) new.hulls.items) l) (sym more)
+                (tables_past t cs heights by.are_heights old new table next past (omega (arith, past, wide, was.shapes)) (omega (arith, past, was.hulls)) (take i order) l so.0),
             subst (λ (l : List ℕ). AllByRecursion (HasSets t cs (shapes_known new) new.hulls.items new.sets.items) l) (sym more)
-              (next_sets t cs heights by.are_heights old new table next in_shapes in_hulls (take i order) l so.1))
-          | inr past ↦
-            (subst (λ (l : List ℕ). AllByRecursion (IsTable t cs (shapes_known new) new.hulls.items) l) (sym more)
-              (tables_past t cs heights by.are_heights old new table next past (omega (arith, past, wide, was.shapes)) (omega (arith, past, was.hulls)) (take i order) l so.0),
-            subst (λ (l : List ℕ). AllByRecursion (HasSets t cs (shapes_known new) new.hulls.items new.sets.items) l) (sym more)
-              (sets_past t cs heights by.are_heights old new table next past (omega (arith, past, wide, was.shapes)) (omega (arith, past, was.hulls)) (take i order) l so.1))
+                (sets_past t cs heights by.are_heights old new table next past (omega (arith, past, wide, was.shapes)) (omega (arith, past, was.hulls)) (take i order) l so.1),
+          )
         ]
 
     pub faults_here : (e : ShapeError) → IsError (IsFirstOf t cs old table) e → FaultsIn t cs order e

@@ -83,4 +83,3 @@ module _ (t : Tables) (shapes : List Shape) (hulls : List (Option Cube)) where
   abbrev pub Tells : Pattern → Option Fault → Type 0
   Tells p found = OrElse (CountTells t p)
       (OrElse (ShapeTells p) (OrElse (WindowTells p) (PointTells p))) found
-

@@ -90,7 +90,10 @@ impl Extent {
     /// Of `P & Q` and `P | Q`, by the kind.
     fn beside(self, other: Extent, kind: Kind) -> Extent
         ensures { (a b : spec.Extent) → self ≡ kept a → other ≡ kept b → result ≡ kept (record {
-            kind = kind; is_empty = a.is_empty && b.is_empty; bytes = max a.bytes b.bytes }) }
+          kind = kind;
+          is_empty = a.is_empty && b.is_empty;
+          bytes = max a.bytes b.bytes;
+        }) }
     {
         Extent {
             kind,
@@ -120,4 +123,3 @@ impl Extent {
         None
     }
 }
-

@@ -16,4 +16,3 @@ pub struct Extents<'r, 'a> {
     ghost sizes: { bytes.now.sizes.items ≡ map (λ token. token.bits / 8) tables.now.tokens },
     ghost knows: { Knows bytes.now lists.now },
 }
-

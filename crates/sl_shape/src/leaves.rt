@@ -46,11 +46,7 @@ impl Below<'_, '_> {
     }
 
     /// The shape of a constraint on the field of this name.
-    pub fn constraint_shape(
-        &self,
-        name: &[u8],
-        lists: &mut TokenLists,
-    ) -> Result<Shape, AllocError>
+    pub fn constraint_shape(&self, name: &[u8], lists: &mut TokenLists) -> Result<Shape, AllocError>
         requires { AreSized self.now lists.old }
         ensures sized { IfOk result (λ _. AreSized self.now lists.new) }
         ensures shape { IfOk result (λ s. (shapes : Shapes) → Shows self.now lists.old shapes

@@ -1,4 +1,4 @@
-//! The shapes of patterns.
+//! The sets of all constructors and the hulls of all tables, or the first constructor with a fault.
 #![tactic(auto)]
 
 mod below;
@@ -14,3 +14,6 @@ mod order;
 mod shaping;
 mod stop;
 mod tables;
+
+pub use errors::ShapeError;
+pub use shaping::{Shapes, shape};

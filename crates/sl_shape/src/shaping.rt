@@ -1,11 +1,13 @@
 //! The sets of all constructors and the hulls of all tables.
 
-ghost use Rattle.std.specs.Prelude.{◌≡◌, IfErr, IfOk, length};
+ghost use Rattle.std.specs.Prelude.{◌≡◌, ℕ, List, IfErr, IfOk, length};
+ghost use Rattle.std.specs.List.{AllByRecursion};
 ghost use Rattle.sl_levels.specs.Orders.{NoneReaches};
 ghost use Rattle.sl_shape.specs.Next.{IsFirstOf, IsNext, IsRight};
 ghost use Rattle.sl_shape.specs.Ordered.{AreKnown, FaultsIn, IsOrdered};
 ghost use Rattle.sl_shape.specs.PatternShapes as spec;
 ghost use Rattle.sl_shape.specs.Tables.{AreShaped, IsError, IsFirstFault, table_graph};
+ghost use Rattle.sl_shapes.specs.Lists.{IsThere};
 ghost use Rattle.sl_spec.specs.Unfolded.{all_placed};
 
 use crate::below::{Below, TokenLists};
@@ -53,8 +55,13 @@ impl Known {
             hulls: self.hulls.as_slice(),
         };
         let ctors = of.constructors.as_slice();
-        let found =
-            below.add_constructors(alloc, constructors, ctors, &mut self.sets, &mut self.lists)?;
+        let found = below.add_constructors(
+            alloc,
+            constructors,
+            ctors,
+            &mut self.sets,
+            &mut self.lists,
+        )?;
         let shape = self.lists.all.of_table(alloc, found.as_slice())?;
         let hull = table_hull(self.sets.as_slice(), ctors);
         self.shapes[table] = shape;
@@ -109,6 +116,19 @@ fn empty_sets(alloc: Global, count: usize) -> Result<Vec<CubeSet>, AllocError>
     Ok(sets)
 }
 
+/// Shapes without tokens.
+fn no_shapes(alloc: Global, count: usize) -> Result<Vec<Shape>, AllocError>
+    ensures counted { IfOk result (λ shapes. length shapes.items ≡ count) }
+    ensures there { IfOk result (λ shapes. (lists : List (List ℕ))
+        → AllByRecursion (IsThere lists) shapes.items) }
+{
+    let mut shapes = Vec::new(alloc);
+    'shapes: for _index in 0..count {
+        shapes.push(of_nothing())?;
+    }
+    Ok(shapes)
+}
+
 /// Nothing is known of any table.
 fn nothing_known(alloc: Global, t: &Tables, count: usize) -> Result<Known, AllocError>
     ensures { IfOk result (IsRight t.now count) }
@@ -118,7 +138,7 @@ fn nothing_known(alloc: Global, t: &Tables, count: usize) -> Result<Known, Alloc
         all: Lists::new(alloc),
         bytes: ListBytes::new(alloc, sizes),
     };
-    let shapes = vec![in alloc; of_nothing(); t.tables.len()]?;
+    let shapes = no_shapes(alloc, t.tables.len())?;
     let hulls = vec![in alloc; None; t.tables.len()]?;
     let sets = empty_sets(alloc, count)?;
     Ok(Known {
@@ -139,11 +159,7 @@ pub struct Shapes {
 
 /// The order in which tables are shaped: by their heights, and those of one height in the order of
 /// the text.
-fn order_of(
-    alloc: Global,
-    t: &Tables,
-    constructors: &[Unfolded],
-) -> Result<Vec<usize>, AllocError>
+fn order_of(alloc: Global, t: &Tables, constructors: &[Unfolded]) -> Result<Vec<usize>, AllocError>
     ensures { IfOk result (λ order. NoneReaches (table_graph t.now (all_placed constructors.now))
         → IsOrdered t.now (all_placed constructors.now) order.items) }
 {
@@ -157,11 +173,7 @@ fn order_of(
 /// The sets of all constructors and the hulls of all tables, or the first constructor with a fault.
 /// Tables are taken by their heights, and those of one height in the order of the text.
 /// `constructors` are those of `t` as they are written, in the same order.
-pub fn shape(
-    alloc: Global,
-    t: &Tables,
-    constructors: &[Unfolded],
-) -> Result<Shapes, ShapeError>
+pub fn shape(alloc: Global, t: &Tables, constructors: &[Unfolded]) -> Result<Shapes, ShapeError>
     ensures shaped { IfOk result (λ shapes.
         NoneReaches (table_graph t.now (all_placed constructors.now))
         → AreShaped t.now (all_placed constructors.now) shapes.sets.items shapes.hulls.items) }

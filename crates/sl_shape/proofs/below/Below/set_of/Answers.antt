@@ -28,6 +28,6 @@ returns-in-None-clause-fault c = λ shapes s shows shape.
     let self = c.args.self.now in
     let p = (placed c.args.of.now).1.pattern in
     inr (
-        window_fine self.tables.now shapes self.hulls.now p s shape _ shows.are c.in_ok-window.window c.in_ok-window.ensures c.if-window-gt-MOST_WINDOW.false,
-        no_point self.tables.now shapes self.hulls.now p s shape _ shows.are c.in_ok-cubes.cubes.items c.in_ok-cubes.ensures (rw c.deref.ensures.value at c.in-None.ensures),
+      window_fine self.tables.now shapes self.hulls.now p s shape _ shows.are c.in_ok-window.window c.in_ok-window.ensures c.if-window-gt-MOST_WINDOW.false,
+      no_point self.tables.now shapes self.hulls.now p s shape _ shows.are c.in_ok-cubes.cubes.items c.in_ok-cubes.ensures (rw c.deref.ensures.value at c.in-None.ensures),
     )
