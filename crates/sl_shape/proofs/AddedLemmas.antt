@@ -1,14 +1,13 @@
 -- The sets of constructors as they are put.
-use Rattle.std.proofs.Common.{◌≡◌, ℕ, ◌<◌, ◌≤◌, zero, suc, inl, inr, length, arith, List, [], ◌∷◌, ◌++◌, map, set, Option, Some, None, refl, sym, ap, ◌∙◌, subst}
+use Rattle.std.proofs.Common.{◌≡◌, ℕ, ◌<◌, ◌≤◌, inl, inr, length, arith, List, set, Option, Some, None, refl, sym, ap, ◌∙◌, subst}
 use Rattle.std.proofs.lemmas.Bool.{cases_eq}
-use Rattle.std.proofs.lemmas.List.{length-set}
 use Rattle.std.specs.Prelude.{option_and_then, slice_get, unwrap_or}
 use Rattle.sl_ast.specs.Trees.{Constructor, Pattern}
 use Rattle.sl_ast.specs.Unfolding.{Placed}
 use Rattle.sl_constraints.specs.Sets.{IsUnionOf}
 use Rattle.sl_settle.specs.declared.CubeSet.{CubeSet}
-use Rattle.sl_shape.specs.Adding.{IsAdded, IsStop, KeepSets}
-use Rattle.sl_shape.specs.Below.{Gets, Shows}
+use Rattle.sl_shape.specs.Adding.{IsAdded, IsStop}
+use Rattle.sl_shape.specs.Below.{Shows}
 use Rattle.sl_shape.specs.Made.{IsMade}
 use Rattle.sl_shape.specs.PatternShapes.{Shapes, shape_of}
 use Rattle.sl_shape.specs.Stops.{Stops}
@@ -23,7 +22,7 @@ use Rattle.sl_shape.specs.declared.stop.Stop.TheVariants as stop
 use Rattle.sl_shape.proofs.BelowLemmas.{gets_same}
 use Rattle.sl_shape.proofs.OrderLemmas.{set_here, set_other}
 use Rattle.sl_shapes.specs.Lists.{IsThere, seen}
-use Rattle.sl_shapes.specs.Shapes.{Shape, of_nothing}
+use Rattle.sl_shapes.specs.Shapes.{of_nothing}
 use Rattle.sl_shapes.specs.declared.shapes.Shape as code
 
 module _ (b : Below) (cs : List (Placed Constructor)) (shapes : Shapes) (i : ℕ) where

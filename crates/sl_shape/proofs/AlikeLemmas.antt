@@ -1,5 +1,5 @@
 -- Readings that answer alike what a pattern asks of them.
-use Rattle.std.proofs.Common.{◌≡◌, ℕ, ◌⊎◌, inl, inr, List, Option, Some, None, refl, sym, ap, ◌∙◌, subst}
+use Rattle.std.proofs.Common.{◌≡◌, ℕ, ◌⊎◌, inl, inr, List, Option, Some, refl, sym, ap, ◌∙◌, subst}
 use Rattle.std.specs.Prelude.{◌↔◌, option_and_then}
 use Rattle.sl_ast.specs.Trees.{Pattern, bare, constraint, group, ellipsis, joined}
 use Rattle.sl_ast.specs.declared.patterns.PatternOp.{PatternOp}
@@ -9,7 +9,7 @@ use Rattle.sl_cube.specs.declared.Point.{Point}
 use Rattle.sl_constraints.specs.Places.{seen}
 use Rattle.sl_patterns.specs.Patterns.{JoinedHolds, OpenOrIn, PatternHolds, Reading, hull_named, is_open, right_place}
 use Rattle.sl_patterns.specs.Windows.{FromPlace, IfFixesByte, PatternConstrains}
-use Rattle.sl_shape.specs.Extents.{extent, extent_bytes, extent_of}
+use Rattle.sl_shape.specs.Extents.{extent_bytes, extent_of}
 use Rattle.sl_shape.specs.PatternShapes.{fixed_bytes, pattern_bytes, shape_of}
 use Rattle.sl_shape.proofs.ExtentOfShapeLemmas.{extent_shaped, inner_of, sides_of}
 use Rattle.sl_shapes.specs.Shapes.{Shape}

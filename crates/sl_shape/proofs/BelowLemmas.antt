@@ -1,5 +1,5 @@
 -- Shapes of the tables below while lists are added, and shapes of joined patterns.
-use Rattle.std.proofs.Common.{◌≡◌, ◌≢◌, ℕ, ◌⊎◌, inl, inr, Bool, true, false, cond, List, [], ◌∷◌, map, Option, Some, None, refl, sym, ap, ◌∙◌, subst}
+use Rattle.std.proofs.Common.{◌≡◌, ℕ, inl, inr, Bool, true, false, cond, List, [], ◌∷◌, map, Option, Some, None, refl, sym, ap, ◌∙◌, subst}
 use Rattle.std.specs.List.{AllByRecursion}
 use Rattle.std.specs.Prelude.{option_and_then, option_map}
 use Rattle.sl_ast.specs.Trees.{Pattern, bare, constraint, group, ellipsis, joined}
@@ -7,7 +7,7 @@ use Rattle.sl_ast.specs.Trees as trees
 use Rattle.sl_ast.specs.declared.patterns.PatternOp.{PatternOp}
 use Rattle.sl_ast.specs.declared.patterns.PatternOp.TheVariants.{And, Then, Or}
 use Rattle.sl_ast.specs.declared.patterns.Relation.{Relation}
-use Rattle.sl_shape.specs.Below.{AreSized, Gets, IsJoined, IsShaped, IsSide, Shows, shapes_in}
+use Rattle.sl_shape.specs.Below.{AreSized, Gets, IsJoined, IsShaped, IsSide, Shows}
 use Rattle.sl_shape.specs.Faults.{BehindTells, DifferTells, JoinTells, OrElse, ShapeTells}
 use Rattle.sl_shape.specs.PatternShapes.{fixed_bytes, joined_both, list_bytes, joined_shape, name_shape, pattern_bytes, shape_by, shape_of}
 use Rattle.sl_shape.specs.Stops.{Stops}
@@ -23,7 +23,6 @@ use Rattle.sl_shapes.specs.Shapes.{Shape, both, either, extended, followed, is_f
 use Rattle.sl_shapes.specs.declared.shapes.Shape as code
 use Rattle.sl_shapes.proofs.ListLemmas.{keeps_at, keeps_more, keeps_same, keeps_there}
 use Rattle.sl_spec.specs.Named.{named}
-use Rattle.sl_shape.proofs.ExtentOfShapeLemmas.{inside_some}
 
 -- ---- lists are added
 

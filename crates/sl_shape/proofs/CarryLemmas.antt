@@ -1,5 +1,5 @@
 -- What is told by the shapes and hulls of the tables below is told by others that agree on them.
-use Rattle.std.proofs.Common.{◌≡◌, ℕ, zero, suc, ◌<◌, ◌-◌, ◌≤◌, length, arith, cond, inl, inr, List, [], ◌∷◌, ◌++◌, get_or, map, Option, Some, None, refl, sym, ap, ◌∙◌, subst}
+use Rattle.std.proofs.Common.{◌≡◌, ℕ, zero, suc, ◌<◌, ◌-◌, length, arith, cond, List, [], ◌∷◌, ◌++◌, get_or, map, Option, Some, None, refl, sym, ap, ◌∙◌, subst}
 use Rattle.std.specs.List.{AllByRecursion, Any}
 use Rattle.std.specs.Prelude.{option_and_then, option_map, unwrap_or, ◌↔◌}
 use Rattle.sl_ast.specs.Trees.{Constructor, Pattern, bare, constraint, group, ellipsis, joined}
@@ -7,14 +7,13 @@ use Rattle.sl_ast.specs.Unfolding.{Placed}
 use Rattle.sl_ast.specs.declared.patterns.PatternOp.{PatternOp}
 use Rattle.sl_ast.specs.declared.patterns.PatternOp.TheVariants.{And, Then, Or}
 use Rattle.sl_constructors.specs.Operands.{is_epsilon}
-use Rattle.sl_cube.specs.Points.{InRange}
 use Rattle.sl_cube.specs.declared.Cube.{Cube}
 use Rattle.sl_cube.specs.declared.Point.{Point}
 use Rattle.sl_patterns.specs.Hulls.{IsHullOrNone}
 use Rattle.sl_patterns.specs.Patterns.{hull_at}
 use Rattle.sl_patterns.proofs.HullLemmas.{found_same}
 use Rattle.sl_settle.specs.declared.CubeSet.{CubeSet}
-use Rattle.sl_shape.specs.Faults.{BehindTells, DifferTells, Holds, JoinTells, PointTells, ShapeTells, Tells, WindowTells}
+use Rattle.sl_shape.specs.Faults.{BehindTells, DifferTells, Holds, JoinTells, ShapeTells, Tells}
 use Rattle.sl_shape.specs.PatternShapes.{Shapes, fixed_bytes, joined_shape, pattern_bytes, shape_by, shape_of, table_shape}
 use Rattle.sl_shape.specs.Tables.{CtorHolds, CtorTells, IfHolds, IfSetAt, IfTells, IsSetAt, IsTable, constructors_of, ctor_shape, named_by, one_or_none, pattern_at, tables_named}
 use Rattle.sl_shape.proofs.AlikeLemmas.{AreAlike, constrains_alike, holds_alike}

@@ -1,13 +1,13 @@
 -- Extents of the leaves of patterns, and of one level of a pattern.
-use Rattle.std.proofs.Common.{◌≡◌, ◌≤◌, length, arith, ℕ, zero, suc, Bool, true, List, [], ◌∷◌, get_or, map, Option, Some, None, refl, sym, ap, ◌∙◌, subst}
+use Rattle.std.proofs.Common.{◌≡◌, ◌≤◌, length, arith, ℕ, zero, suc, List, [], ◌∷◌, get_or, map, None, refl}
 use Rattle.std.specs.Prelude.{slice_get}
 use Rattle.sl_ast.specs.Trees as t
 use Rattle.sl_ast.specs.declared.patterns.Relation.{Relation}
 use Rattle.sl_ast.specs.declared.patterns.PatternOp.{PatternOp}
-use Rattle.sl_shape.specs.Extents.{Extent, extended_extent, extent, extent_of, joined_extents, kept}
+use Rattle.sl_shape.specs.Extents.{extended_extent, extent, extent_of, joined_extents, kept}
 use Rattle.sl_shape.specs.PatternShapes.{name_shape, shape_by}
 use Rattle.sl_shape.specs.declared.extent.Extent as code
-use Rattle.sl_shapes.specs.Shapes.{Shape, extended_kind}
+use Rattle.sl_shapes.specs.Shapes.{Shape}
 use Rattle.sl_spec.specs.Named.{named}
 use Rattle.sl_spec.specs.declared.tables.Tables.{Tables}
 

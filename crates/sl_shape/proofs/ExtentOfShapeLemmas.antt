@@ -1,14 +1,14 @@
 -- Where the tokens of a pattern don't differ, its extent is that of its shape.
-use Rattle.std.proofs.Common.{◌≡◌, ℕ, zero, suc, ◌+◌, ◌≤◌, max, ◌&&◌, ◌||◌, ◌==◌, Bool, true, false, cond, List, [], ◌∷◌, ◌++◌, get_or, Option, Some, None, refl, sym, ap, ◌∙◌, subst, arith}
-use Rattle.std.specs.Prelude.{option_map, sum_by}
+use Rattle.std.proofs.Common.{◌≡◌, ℕ, ◌+◌, max, ◌&&◌, ◌||◌, ◌==◌, Bool, true, false, cond, List, [], ◌∷◌, ◌++◌, get_or, Option, Some, None, refl, sym, ap, ◌∙◌, arith}
+use Rattle.std.specs.Prelude.{option_map}
 use Rattle.std.proofs.lemmas.List.Sums.{sum_by-append}
 use Rattle.sl_ast.specs.Trees.{Pattern, bare, constraint, group, ellipsis, joined}
 use Rattle.sl_ast.specs.declared.patterns.PatternOp.{PatternOp}
 use Rattle.sl_ast.specs.declared.patterns.PatternOp.TheVariants.{And, Then, Or}
-use Rattle.sl_shape.specs.Extents.{Extent, both_kinds, extended_extent, extent, extent_of, followed_extents_by, joined_extents}
+use Rattle.sl_shape.specs.Extents.{both_kinds, extended_extent, extent, extent_of, followed_extents_by, joined_extents}
 use Rattle.sl_shape.specs.PatternShapes.{joined_both, joined_shape, list_bytes, name_shape, shape_by, shape_of, token_sizes}
 use Rattle.sl_shapes.specs.Comparing.{compared}
-use Rattle.sl_shapes.specs.Shapes.{Shape, beside, both_where, either_where, extended, followed_by, is_empty, is_fixed, longer_kind, or_empty, same_kind}
+use Rattle.sl_shapes.specs.Shapes.{Shape, both_where, either_where, extended, followed_by, is_empty, is_fixed, longer_kind, same_kind}
 use Rattle.sl_shapes.specs.declared.shapes.Compared.{Compared}
 use Rattle.sl_shapes.specs.declared.shapes.Compared.TheVariants.{Same, FirstShorter, SecondShorter, Apart}
 use Rattle.sl_shapes.specs.declared.shapes.Kind.{Kind}

@@ -1,8 +1,8 @@
 -- Where a pattern with a shape holds, by the cubes that are read.
-use Rattle.std.proofs.Common.{◌≡◌, ℕ, List, Option, Some, None, map, sym, ap, ◌∙◌, subst}
+use Rattle.std.proofs.Common.{◌≡◌, List, Option, Some, subst}
 use Rattle.sl_ast.specs.Trees.{Pattern}
 use Rattle.sl_constraints.specs.Sets.{IsCubeOf, IsUnionOf}
-use Rattle.sl_cube.specs.Points.{Covers, InRange, IsIn, IsInSome, IsLeastOutside}
+use Rattle.sl_cube.specs.Points.{Covers, InRange, IsLeastOutside}
 use Rattle.sl_cube.specs.declared.Cube.{Cube}
 use Rattle.sl_cube.specs.declared.Point.{Point}
 use Rattle.sl_patterns.specs.Patterns.{PatternHolds, Reading}

@@ -1,5 +1,5 @@
 -- The set of a constructor that has a shape, and what is told of it.
-use Rattle.std.proofs.Common.{◌≡◌, ℕ, ◌<◌, ◌≤◌, ◌-◌, ◌⊎◌, inl, inr, List, [], ◌∷◌, length, Option, Some, None, refl, sym, ap, ◌∙◌, subst, arith}
+use Rattle.std.proofs.Common.{◌≡◌, ℕ, ◌<◌, ◌≤◌, ◌-◌, List, [], ◌∷◌, Option, Some, None, refl, ap, subst, arith}
 use Rattle.std.specs.Prelude.{slice_get}
 use Rattle.sl_ast.specs.Trees.{Pattern}
 use Rattle.sl_constraints.specs.Sets.{IsUnionOf}
@@ -7,14 +7,11 @@ use Rattle.sl_constraints.specs.Windows.{IsEnd}
 use Rattle.sl_cube.specs.Points.{InRange, IsIn, IsInSome}
 use Rattle.sl_cube.specs.declared.Cube.{Cube}
 use Rattle.sl_cube.specs.declared.Point.{Point}
-use Rattle.sl_patterns.specs.Patterns.{PatternHolds, told}
+use Rattle.sl_patterns.specs.Patterns.{PatternHolds}
 use Rattle.sl_patterns.specs.Windows.{IsWindow, PatternConstrains}
-use Rattle.sl_settle.specs.declared.CubeSet.{CubeSet}
 use Rattle.sl_shape.specs.Extents.{extent_bytes, extent_of}
-use Rattle.sl_shape.specs.Faults.{Holds, OrElse, PointTells, WindowTells, most_window}
-use Rattle.sl_shape.specs.Made.{IsSetOf}
+use Rattle.sl_shape.specs.Faults.{PointTells, WindowTells}
 use Rattle.sl_shape.specs.PatternShapes.{Shapes, pattern_bytes, shape_of}
-use Rattle.sl_shape.specs.declared.faults.Fault.{Fault}
 use Rattle.sl_shape.specs.declared.faults.Fault.TheVariants as fault
 use Rattle.sl_shape.proofs.AlikeLemmas.{alike_shaped, constrains_alike}
 use Rattle.sl_shape.proofs.ExtentOfShapeLemmas.{inside_some}

@@ -1,5 +1,5 @@
 -- The tables that patterns name, part after part.
-use Rattle.std.proofs.Common.{◌≡◌, ℕ, ◌+◌, ◌<◌, ◌≤◌, get_or, take, zero, suc, length, arith, List, [], ◌∷◌, ◌++◌, append_assoc, append-nil, map, Option, Some, None, Result, Ok, Err, refl, sym, ap, ◌∙◌, subst}
+use Rattle.std.proofs.Common.{◌≡◌, ℕ, ◌+◌, ◌<◌, ◌≤◌, get_or, take, zero, suc, length, arith, List, [], ◌∷◌, ◌++◌, append_assoc, append-nil, map, Some, None, Result, Ok, Err, refl, sym, ap, ◌∙◌}
 use Rattle.std.proofs.lemmas.List.{map_push, take_more}
 use Rattle.std.specs.Prelude.{OnOk, option_map, slice_get}
 use Rattle.sl_ast.specs.Trees.{Pattern, bare, constraint, group, ellipsis, joined}
@@ -7,7 +7,7 @@ use Rattle.sl_ast.specs.Trees as trees
 use Rattle.sl_ast.specs.declared.patterns.PatternOp.{PatternOp}
 use Rattle.sl_ast.specs.declared.patterns.PatternOp.TheVariants.{And}
 use Rattle.sl_ast.specs.declared.patterns.Relation.{Relation}
-use Rattle.sl_shape.specs.Tables.{named_by, one_or_none, pattern_at, tables_named}
+use Rattle.sl_shape.specs.Tables.{one_or_none, pattern_at, tables_named}
 use Rattle.sl_spec.specs.Named.{index_named}
 use Rattle.sl_spec.specs.Unfolded.{all_placed, placed}
 use Rattle.sl_spec.specs.declared.tables.Tables.{Tables}

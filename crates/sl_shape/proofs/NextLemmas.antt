@@ -1,5 +1,5 @@
 -- One table more is known: what was told of those before is told still.
-use Rattle.std.proofs.Common.{◌≡◌, ◌≢◌, ℕ, ◌<◌, ◌≤◌, zero, suc, inl, inr, length, arith, List, [], ◌∷◌, ◌++◌, get_or, map, set, Option, Some, None, refl, sym, ap, ◌∙◌, subst}
+use Rattle.std.proofs.Common.{◌≡◌, ◌≢◌, ℕ, ◌<◌, ◌≤◌, zero, suc, inl, inr, length, arith, List, [], ◌∷◌, ◌++◌, get_or, map, set, Option, None, refl, sym, ap, ◌∙◌, subst}
 use Rattle.std.proofs.lemmas.Bool.{cases_eq}
 use Rattle.std.proofs.lemmas.List.{get_or_past}
 use Rattle.std.specs.List.{AllByRecursion, Any}
@@ -10,7 +10,6 @@ use Rattle.sl_cube.specs.declared.Cube.{Cube}
 use Rattle.sl_heights.specs.Heights.{AreHeights}
 use Rattle.sl_patterns.specs.Hulls.{IsHullOrNone}
 use Rattle.sl_patterns.specs.Patterns.{hull_at}
-use Rattle.sl_settle.specs.declared.CubeSet.{CubeSet}
 use Rattle.sl_shape.specs.Next.{IsNext, shapes_known}
 use Rattle.sl_shape.specs.PatternShapes.{Shapes}
 use Rattle.sl_shape.specs.Tables.{CtorHolds, CtorTells, HasSets, IfSetAt, IsTable, constructors_of, ctor_shape, named_by, numbers, pattern_at, table_graph}

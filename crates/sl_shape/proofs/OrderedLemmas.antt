@@ -1,26 +1,19 @@
 -- Tables one after another.
-use Rattle.std.proofs.Common.{◌≡◌, ℕ, zero, suc, ◌+◌, ◌<◌, ◌≤◌, inl, inr, length, arith, List, [], ◌∷◌, ◌++◌, get_or, map, take, drop, Option, Some, None, refl, sym, ap, ◌∙◌, subst}
+use Rattle.std.proofs.Common.{◌≡◌, ℕ, zero, suc, ◌+◌, ◌<◌, ◌≤◌, inl, inr, length, arith, List, [], ◌∷◌, ◌++◌, get_or, take, drop, refl, sym, ap, ◌∙◌, subst}
 use Rattle.std.proofs.lemmas.Bool.{cases_lt}
-use Rattle.std.proofs.lemmas.List.{drop_more, get_or_past, length-map, take-append-drop, take_all, take_more}
-use Rattle.std.specs.List.{AllByRecursion, Any}
-use Rattle.std.specs.Prelude.{option_and_then, slice_get}
+use Rattle.std.proofs.lemmas.List.{drop_more, length-map, take-append-drop, take_all, take_more}
+use Rattle.std.specs.List.{AllByRecursion}
 use Rattle.sl_ast.specs.Trees.{Constructor}
 use Rattle.sl_ast.specs.Unfolding.{Placed}
-use Rattle.sl_cube.specs.declared.Cube.{Cube}
-use Rattle.sl_patterns.specs.Hulls.{IsHullOrNone}
-use Rattle.sl_patterns.specs.Patterns.{hull_at}
 use Rattle.sl_shape.specs.Next.{IsFirstOf, IsNext, IsRight, shapes_known}
 use Rattle.sl_shape.specs.Ordered.{AreKnown, FaultsIn, IsBy, IsOrdered}
-use Rattle.sl_shape.specs.PatternShapes.{Shapes}
-use Rattle.sl_shape.specs.Tables.{AreShaped, CtorHolds, CtorTells, HasSets, IfSetAt, IsError, IsFirstAmong, IsFirstFault, IsTable, appearing, constructors_of, ctor_shape, numbers}
+use Rattle.sl_shape.specs.Tables.{AreShaped, HasSets, IsError, IsFirstAmong, IsFirstFault, IsTable, appearing}
 use Rattle.sl_shape.specs.declared.errors.ShapeError.{ShapeError}
-use Rattle.sl_shape.specs.declared.faults.Fault.{Fault}
 use Rattle.sl_shape.specs.declared.shaping.Known.{Known}
 use Rattle.sl_shape.proofs.AddLoopLemmas.{error_map}
 use Rattle.sl_shape.proofs.NextLemmas.{next_sets, next_tables, sets_past, tables_past}
 use Rattle.sl_shape.proofs.OrderLemmas.{IsSorted, all_before, sorted}
 use Rattle.sl_shapes.specs.Lists.{seen}
-use Rattle.sl_shapes.specs.Shapes.{of_nothing, of_table}
 use Rattle.sl_spec.specs.declared.tables.Tables.{Tables}
 
 pub read_any : (xs : List ℕ) (i d e : ℕ) → i < length xs → get_or xs i d ≡ get_or xs i e

@@ -1,9 +1,9 @@
 -- The shape, the hull and the sets of a table, from those of its constructors.
-use Rattle.std.proofs.Common.{◌≡◌, ℕ, ◌<◌, ◌≤◌, zero, suc, inl, inr, length, arith, List, [], ◌∷◌, ◌++◌, get_or, map, set, Option, Some, None, refl, sym, ap, ◌∙◌, subst}
+use Rattle.std.proofs.Common.{◌≡◌, ℕ, ◌≤◌, zero, suc, inl, inr, length, arith, List, [], ◌∷◌, map, set, Option, Some, None, refl, sym, ap, ◌∙◌, subst}
 use Rattle.std.proofs.lemmas.Bool.{cases_lt}
-use Rattle.std.proofs.lemmas.List.{length-map, length-set}
+use Rattle.std.proofs.lemmas.List.{length-map}
 use Rattle.std.specs.List.{AllByRecursion, Any}
-use Rattle.std.specs.Prelude.{Vec, option_map, slice_get}
+use Rattle.std.specs.Prelude.{option_map, slice_get}
 use Rattle.sl_ast.specs.Trees.{Constructor}
 use Rattle.sl_ast.specs.Unfolding.{Placed}
 use Rattle.sl_cube.specs.Points.{InRange}
@@ -18,18 +18,17 @@ use Rattle.sl_shape.specs.Adding.{AreAdded, IsFirstIn}
 use Rattle.sl_shape.specs.Below.{AreSized, Shows}
 use Rattle.sl_shape.specs.Next.{IsFirstOf, IsNext, IsRight, shapes_known}
 use Rattle.sl_shape.specs.PatternShapes.{Shapes}
-use Rattle.sl_shape.specs.Tables.{CtorHolds, CtorTells, IfHolds, IfSetAt, IsError, IsSetAt, constructors_of, ctor_shape, numbers, pattern_at}
+use Rattle.sl_shape.specs.Tables.{CtorHolds, CtorTells, IfHolds, IfSetAt, IsError, IsSetAt, constructors_of, ctor_shape, numbers}
 use Rattle.sl_shape.specs.declared.below.Below.{Below}
 use Rattle.sl_shape.specs.declared.below.TokenLists.{TokenLists}
 use Rattle.sl_shape.specs.declared.errors.ShapeError.{ShapeError}
-use Rattle.sl_shape.specs.declared.faults.Fault.{Fault}
 use Rattle.sl_shape.specs.declared.shaping.Known.{Known}
 use Rattle.sl_shape.proofs.AddLoopLemmas.{error_map}
 use Rattle.sl_shape.proofs.BelowLemmas.{all_seen}
 use Rattle.sl_shape.proofs.CarryLemmas.{any_each}
 use Rattle.sl_shapes.proofs.ListLemmas.{keeps_more}
 use Rattle.sl_shapes.specs.Lists.{IsThere, Keeps, seen}
-use Rattle.sl_shapes.specs.Shapes.{Shape, of_table}
+use Rattle.sl_shapes.specs.Shapes.{of_table}
 use Rattle.sl_shapes.specs.declared.shapes.Shape as code
 use Rattle.sl_spec.specs.declared.tables.Tables.{Tables}
 

@@ -1,5 +1,5 @@
 -- step: what is known of the tables below, and the shapes that are added.
-use Rattle.std.specs.Prelude.{◌≡◌, ℕ, List, Option, Some, None, map}
+use Rattle.std.specs.Prelude.{◌≡◌, ℕ, List, Some, None, map}
 use Rattle.std.specs.List.{AllByRecursion}
 use Rattle.sl_ast.specs.Trees.{Pattern, joined}
 use Rattle.sl_ast.specs.declared.patterns.PatternOp.{PatternOp}

@@ -1,5 +1,5 @@
 -- meaning: the first fault of the pattern of a constructor.
-use Rattle.std.specs.Prelude.{◌≡◌, ◌≢◌, ◌⊎◌, ℕ, ◌≤◌, ◌<◌, List, Option, Some, None}
+use Rattle.std.specs.Prelude.{◌≡◌, ◌⊎◌, ℕ, ◌≤◌, ◌<◌, List, Option, Some, None}
 use Rattle.sl_ast.specs.Trees.{Pattern, bare, constraint, group, ellipsis, joined}
 use Rattle.sl_ast.specs.declared.patterns.PatternOp.{PatternOp}
 use Rattle.sl_ast.specs.declared.patterns.PatternOp.TheVariants.{And, Then, Or}

@@ -5,7 +5,6 @@ use Rattle.sl_ast.specs.Trees.{Constructor}
 use Rattle.sl_ast.specs.Unfolding.{Placed}
 use Rattle.sl_cube.specs.declared.Cube.{Cube}
 use Rattle.sl_patterns.specs.Hulls.{IsHullOrNone}
-use Rattle.sl_settle.specs.declared.CubeSet.{CubeSet}
 use Rattle.sl_shape.specs.PatternShapes.{Shapes, token_sizes}
 use Rattle.sl_shape.specs.Tables.{CtorHolds, CtorTells, IfSetAt, IsSetAt, constructors_of, ctor_shape}
 use Rattle.sl_shape.specs.declared.faults.Fault.{Fault}

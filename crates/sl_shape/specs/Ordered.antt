@@ -1,13 +1,11 @@
 -- step: tables one after another, in an order in which each stands behind those that it names.
-use Rattle.std.specs.Prelude.{◌≡◌, ℕ, List, ◌∷◌, ◌++◌, Option, Some, None, get_or}
+use Rattle.std.specs.Prelude.{◌≡◌, ℕ, List}
 use Rattle.std.specs.List.{AllByRecursion}
 use Rattle.sl_ast.specs.Trees.{Constructor}
 use Rattle.sl_ast.specs.Unfolding.{Placed}
-use Rattle.sl_cube.specs.declared.Cube.{Cube}
 use Rattle.sl_heights.specs.Heights.{AreHeights}
 use Rattle.sl_shape.specs.Next.{shapes_known}
-use Rattle.sl_shape.specs.PatternShapes.{Shapes}
-use Rattle.sl_shape.specs.Tables.{CtorTells, HasSets, IsError, IsFirstAmong, IsTable, order_by, table_graph}
+use Rattle.sl_shape.specs.Tables.{HasSets, IsError, IsFirstAmong, IsTable, order_by, table_graph}
 use Rattle.sl_shape.specs.declared.errors.ShapeError.{ShapeError}
 use Rattle.sl_shape.specs.declared.shaping.Known.{Known}
 use Rattle.sl_spec.specs.declared.tables.Tables.{Tables}

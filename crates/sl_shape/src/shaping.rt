@@ -177,8 +177,10 @@ pub fn shape(alloc: Global, t: &Tables, constructors: &[Unfolded]) -> Result<Sha
     ensures shaped { IfOk result (λ shapes.
         NoneReaches (table_graph t.now (all_placed constructors.now))
         → AreShaped t.now (all_placed constructors.now) shapes.sets.items shapes.hulls.items) }
-    ensures counted { IfOk result (λ shapes.
+    ensures sets { IfOk result (λ shapes.
         length shapes.sets.items ≡ length constructors.now) }
+    ensures hulls { IfOk result (λ shapes.
+        length shapes.hulls.items ≡ length t.now.tables) }
     ensures fault { IfErr result (λ error.
         NoneReaches (table_graph t.now (all_placed constructors.now))
         → IsError (IsFirstFault t.now (all_placed constructors.now)) error) }

@@ -1,4 +1,4 @@
-use Rattle.std.proofs.Common.{◌<◌, ◌^◌, arith}
+use Rattle.std.proofs.Common.{arith}
 use Rattle.sl_shape.proofs.MadeLemmas.{first_has}
 use Rattle.sl_shape.proofs.constructor.point_of.Goals as goal
 

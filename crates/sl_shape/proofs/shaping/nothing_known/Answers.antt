@@ -1,4 +1,4 @@
-use Rattle.std.proofs.Common.{◌≡◌, length, arith, [], refl, sym, ◌∙◌}
+use Rattle.std.proofs.Common.{arith, [], refl, ◌∙◌}
 use Rattle.sl_shape.proofs.shaping.nothing_known.Goals as goal
 
 pub returns : goal.returns

@@ -1,4 +1,4 @@
-use Rattle.std.proofs.Common.{◌≡◌, ℕ, get_or, length}
+use Rattle.std.proofs.Common.{get_or, length}
 use Rattle.std.proofs.lemmas.Result.{err_from_is_err_and}
 use Rattle.sl_shape.proofs.OrderedLemmas.{faults_here, known_more, read_any}
 use Rattle.sl_spec.specs.Unfolded.{all_placed}

@@ -1,4 +1,4 @@
-use Rattle.std.proofs.Common.{◌≡◌, ℕ, ◌/◌, ◌∷◌, [], ◌++◌, ap, ◌∙◌}
+use Rattle.std.proofs.Common.{ℕ, ◌/◌, ◌∷◌, [], ◌++◌, ap, ◌∙◌}
 use Rattle.sl_shape.proofs.NamedLemmas.{graph_more}
 use Rattle.sl_spec.specs.Tables.{Token}
 use Rattle.sl_shape.proofs.shaping.token_sizes.Goals as goal

@@ -1,12 +1,12 @@
-use Rattle.std.proofs.Common.{◌≡◌, None, refl, sym, ap, ◌∙◌, subst}
+use Rattle.std.proofs.Common.{◌≡◌, refl, sym, ap, ◌∙◌, subst}
 use Rattle.std.proofs.lemmas.Result.{err_from_is_err_and}
-use Rattle.sl_ast.specs.Trees.{Pattern, group}
+use Rattle.sl_ast.specs.Trees.{Pattern}
 use Rattle.sl_ast.specs.Views.{pattern_of, expression_of}
 use Rattle.sl_patterns.proofs.ViewLemmas.{seen_name, seen_constraint, seen_paren, seen_ellipsis, seen_joined}
 use Rattle.sl_shape.specs.Below.{IsShaped}
 use Rattle.sl_shape.specs.Faults.{ShapeTells}
 use Rattle.sl_shape.specs.Stops.{Stops}
-use Rattle.sl_shape.proofs.BelowLemmas.{shaped_constraint, shaped_ellipsis, shaped_group, shaped_joined, shaped_name, shaped_side, side_more, told_both, told_ellipsis, told_group, told_left, told_right}
+use Rattle.sl_shape.proofs.BelowLemmas.{shaped_constraint, shaped_ellipsis, shaped_name, told_ellipsis, told_left, told_right}
 use Rattle.sl_shape.proofs.JoinLemmas.{paren_goes, paren_stops, joined_goes, joined_stops}
 use Rattle.sl_shape.proofs.below.Below.+pattern_shape.Goals as goal
 

@@ -1,6 +1,6 @@
-use Rattle.std.proofs.Common.{◌≡◌, option_map, refl, sym, ap, subst}
+use Rattle.std.proofs.Common.{option_map, refl, sym, ap, subst}
 use Rattle.std.proofs.lemmas.Result.{err_from_is_err_and}
-use Rattle.sl_ast.specs.Trees.{Pattern, group, joined}
+use Rattle.sl_ast.specs.Trees.{Pattern, group}
 use Rattle.sl_ast.specs.Views.{constructor_of, head_of, pattern_of}
 use Rattle.sl_ast.specs.declared.patterns.PatternOp.TheVariants.{And}
 use Rattle.sl_patterns.proofs.ViewLemmas.{in_none, in_one_more}

@@ -1,5 +1,5 @@
-use Rattle.std.proofs.Common.{◌≡◌, ℕ, sym, subst}
-use Rattle.sl_shape.specs.Adding.{IsAdded, IsStop}
+use Rattle.std.proofs.Common.{ℕ, subst}
+use Rattle.sl_shape.specs.Adding.{IsAdded}
 use Rattle.sl_shape.specs.Stops.{Stops}
 use Rattle.sl_shape.specs.Tables.{CtorTells}
 use Rattle.sl_shape.proofs.AddedLemmas.{error_at}

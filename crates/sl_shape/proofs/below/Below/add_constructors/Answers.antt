@@ -1,4 +1,4 @@
-use Rattle.std.proofs.Common.{◌≡◌, ◌+◌, ◌++◌, ◌∷◌, List, take, sym, subst}
+use Rattle.std.proofs.Common.{◌+◌, List, take, sym, subst}
 use Rattle.std.proofs.lemmas.Result.{err_from_is_err_and}
 use Rattle.sl_shape.specs.Adding.{AreAdded}
 use Rattle.sl_shape.proofs.AddLoopLemmas.{added_more, all_added, first_found}

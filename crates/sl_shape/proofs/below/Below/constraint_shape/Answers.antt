@@ -1,4 +1,4 @@
-use Rattle.std.proofs.Common.{◌≡◌, Option, None, Some, sym, ap, ◌∙◌, subst}
+use Rattle.std.proofs.Common.{Option, None, ap, ◌∙◌, subst}
 use Rattle.std.specs.Prelude.{IfOk}
 use Rattle.sl_shape.specs.Below.{Gets, Shows}
 use Rattle.sl_shape.specs.PatternShapes.{Shapes, shape_by}

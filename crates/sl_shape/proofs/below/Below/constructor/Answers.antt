@@ -2,7 +2,6 @@ use Rattle.std.proofs.lemmas.Result.{err_from_is_err_and}
 use Rattle.sl_spec.specs.Unfolded.{placed}
 use Rattle.sl_shape.specs.Below.{Shows}
 use Rattle.sl_shape.specs.Faults.{CountTells, OrElse, PointTells, ShapeTells, WindowTells}
-use Rattle.sl_shape.specs.declared.below.TokenLists.{TokenLists}
 use Rattle.sl_shape.proofs.BelowLemmas.{or_else_first, or_else_second}
 use Rattle.sl_shape.proofs.below.Below.constructor.Goals as goal
 

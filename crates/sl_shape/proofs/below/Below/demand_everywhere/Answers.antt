@@ -1,7 +1,5 @@
-use Rattle.std.proofs.Common.{◌≡◌, ℕ, ◌∙◌, sym, ap, subst, refl}
+use Rattle.std.proofs.Common.{refl}
 use Rattle.sl_ast.specs.Views.{pattern_of}
-use Rattle.sl_cube.specs.Points.{IsInSome}
-use Rattle.sl_shape.specs.Below.{Shows}
 use Rattle.sl_shape.proofs.HoldLemmas.{everywhere_holds, elsewhere_fails}
 use Rattle.sl_shape.proofs.below.Below.demand_everywhere.Goals as goal
 

@@ -1,8 +1,6 @@
-use Rattle.std.proofs.Common.{◌≡◌, ℕ, Option, Some, sym, ap, ◌∙◌, subst}
-use Rattle.sl_shape.specs.Below.{Gets}
+use Rattle.std.proofs.Common.{◌≡◌, Some, sym, ap, ◌∙◌}
 use Rattle.sl_shape.specs.PatternShapes.{field_shape, token_shape}
 use Rattle.sl_shape.proofs.BelowLemmas.{gets_more, gets_same}
-use Rattle.sl_spec.specs.Tables.{Field}
 use Rattle.sl_shape.proofs.below.Below.field_shape.Goals as goal
 
 pub returns-in_ok-shape-in-Some-clause-shape : goal.returns-in_ok-shape-in-Some-clause-shape

@@ -1,12 +1,6 @@
-use Rattle.std.proofs.Common.{◌≡◌, sym, subst}
-use Rattle.std.specs.Prelude.{IfOk}
-use Rattle.sl_ast.specs.Trees as trees
+use Rattle.std.proofs.Common.{sym}
 use Rattle.sl_ast.specs.Views.{pattern_of}
-use Rattle.sl_ast.specs.declared.patterns.PatternOp.{PatternOp}
 use Rattle.sl_ast.specs.declared.patterns.PatternOp.TheVariants.{And, Or}
-use Rattle.sl_shape.specs.Below.{IsJoined, IsSide, Shows}
-use Rattle.sl_shape.specs.PatternShapes.{Shapes}
-use Rattle.sl_shapes.specs.declared.shapes.Shape as code
 use Rattle.sl_shape.proofs.JoinLemmas.{for_right}
 use Rattle.sl_shape.proofs.below.Below.joined_shape.Goals as goal
 

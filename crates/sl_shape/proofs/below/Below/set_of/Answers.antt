@@ -1,4 +1,4 @@
-use Rattle.std.proofs.Common.{◌<◌, ◌≤◌, inl, inr, arith}
+use Rattle.std.proofs.Common.{inl, inr}
 use Rattle.sl_spec.specs.Unfolded.{placed}
 use Rattle.sl_shape.proofs.HoldLemmas.{union_shaped}
 use Rattle.sl_shape.proofs.MadeLemmas.{no_point, point_found, window_fine, window_long}

@@ -1,4 +1,4 @@
-use Rattle.std.proofs.Common.{◌≡◌, ℕ, Option, None, Some, get_or, arith, sym, ap, ◌∙◌, subst}
+use Rattle.std.proofs.Common.{get_or, arith, sym, ap, ◌∙◌}
 use Rattle.sl_shape.specs.PatternShapes.{table_shape}
 use Rattle.sl_shape.proofs.BelowLemmas.{gets_same}
 use Rattle.sl_shape.proofs.ExtentLemmas.{past_all}

@@ -1,4 +1,4 @@
-use Rattle.std.proofs.Common.{◌≡◌, Option, None, sym, subst}
+use Rattle.std.proofs.Common.{◌≡◌, Option, None, subst}
 use Rattle.sl_shape.specs.Extents.{extent, kept}
 use Rattle.sl_shape.specs.PatternShapes.{shape_by}
 use Rattle.sl_shape.specs.Views.{shapes_of}

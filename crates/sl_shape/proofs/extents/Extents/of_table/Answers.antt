@@ -1,4 +1,4 @@
-use Rattle.std.proofs.Common.{arith, ◌≡◌, ℕ, Option, None, Some, get_or, sym, ap, ◌∙◌, subst}
+use Rattle.std.proofs.Common.{arith, ◌≡◌, ℕ, Option, sym, ap, ◌∙◌, subst}
 use Rattle.sl_shape.specs.Extents.{extent, kept}
 use Rattle.sl_shape.specs.PatternShapes.{table_shape}
 use Rattle.sl_shape.specs.Views.{shapes_of}

@@ -1,10 +1,9 @@
-use Rattle.std.proofs.Common.{◌≡◌, ℕ, ◌<◌, List, Some, length, map, set, arith, refl, sym, ap, ◌∙◌, subst}
+use Rattle.std.proofs.Common.{◌≡◌, List, length, map, arith, refl, sym, ap, ◌∙◌, subst}
 use Rattle.std.proofs.lemmas.List.{length-map, length-set}
 use Rattle.std.proofs.lemmas.Result.{err_from_is_err_and}
 use Rattle.std.specs.Prelude.{option_copied}
 use Rattle.sl_patterns.specs.Hulls.{IsHullOrNone, TableHas}
 use Rattle.sl_settle.specs.declared.CubeSet.{CubeSet}
-use Rattle.sl_shape.specs.Adding.{AreAdded}
 use Rattle.sl_shape.specs.Next.{shapes_known}
 use Rattle.sl_shape.specs.Tables.{constructors_of, numbers}
 use Rattle.sl_shape.specs.declared.below.Below.{Below}
