@@ -7,7 +7,8 @@ use Rattle.sl_ast.specs.declared.patterns.PatternOp.TheVariants.{And, Then, Or}
 use Rattle.sl_constructors.specs.Operands.{is_epsilon}
 use Rattle.sl_cube.specs.declared.Cube.{Cube}
 use Rattle.sl_patterns.specs.Patterns.{Reading}
-use Rattle.sl_shapes.specs.Shapes.{Shape, both, either, extended, followed, is_fixed, of_nothing, of_token}
+use Rattle.sl_shapes.specs.Shapes.{Shape, both, either, extended, followed, is_fixed}
+use Rattle.sl_shapes.specs.Shapes.{of_nothing, of_token}
 use Rattle.sl_spec.specs.Named.{index_named, named}
 use Rattle.sl_spec.specs.Tables.{Field}
 use Rattle.sl_spec.specs.declared.tables.Tables.{Tables}
@@ -51,7 +52,7 @@ module _ (t : Tables) (shapes : List Shape) where
   name_shape name = if is_epsilon name then of_nothing else shape_by shapes
       (named (λ f. f.name) name t.fields) (index_named (λ b. b.name) name t.tables)
 
-  -- the shape of a pattern, with the shapes of the tables by their numbers; none where tokens differ
+  -- the shape of a pattern, by the shapes of the tables; none where tokens differ
   unfoldable pub shape_of : Pattern → Option Shape
   shape_of (bare name) = Some (name_shape name)
   shape_of (constraint name relation e) =

@@ -1,5 +1,6 @@
 -- meaning: the shapes, the sets and the hulls of tables, and the first constructor with a fault.
-use Rattle.std.specs.Prelude.{◌≡◌, ℕ, suc, ◌<◌, ◌==◌, Bool, false, List, [], ◌∷◌, ◌++◌, get_or, map, length, if◌then◌else◌}
+use Rattle.std.specs.Prelude.{◌≡◌, ℕ, suc, ◌<◌, ◌==◌, Bool, false, if◌then◌else◌}
+use Rattle.std.specs.Prelude.{List, [], ◌∷◌, ◌++◌, get_or, map, length}
 use Rattle.std.specs.Prelude.{Option, Some, None, option_and_then, option_map, slice_get, unwrap_or}
 use Rattle.std.specs.List.{AllByRecursion, Any}
 use Rattle.sl_ast.specs.Trees.{Constructor, Pattern, bare, constraint, group, ellipsis, joined}
@@ -83,9 +84,11 @@ order_by t heights = by_height (λ v. get_or heights v 0) (appearing t)
 
 -- the shape of a constructor
 abbrev pub ctor_shape : Tables → List (Placed Constructor) → Shapes → ℕ → Shape
-ctor_shape t cs shapes i = unwrap_or (option_and_then (shape_of t shapes) (pattern_at cs i)) of_nothing
+ctor_shape t cs shapes i =
+    unwrap_or (option_and_then (shape_of t shapes) (pattern_at cs i)) of_nothing
 
-module _ (t : Tables) (cs : List (Placed Constructor)) (shapes : Shapes) (hulls : List (Option Cube)) where
+module _ (t : Tables) (cs : List (Placed Constructor)) (shapes : Shapes)
+    (hulls : List (Option Cube)) where
   abbrev pub IfTells : Option Pattern → Option Fault → Type 0
   IfTells None found = found ≡ None
   IfTells (Some p) found = Tells t shapes hulls p found
@@ -104,8 +107,10 @@ module _ (t : Tables) (cs : List (Placed Constructor)) (shapes : Shapes) (hulls 
 
   -- The shape and the hull of the table are known, and its constructors have no fault.
   pub record IsTable (table : ℕ) : Type 0 where
-    pub shape : get_or shapes table of_nothing ≡ of_table (map (ctor_shape t cs shapes) (constructors_of t table))
-    pub hull : IsHullOrNone (λ x. Any (λ i. CtorHolds i x) (constructors_of t table)) (hull_at hulls table)
+    pub shape : get_or shapes table of_nothing
+        ≡ of_table (map (ctor_shape t cs shapes) (constructors_of t table))
+    pub hull : IsHullOrNone (λ x. Any (λ i. CtorHolds i x) (constructors_of t table))
+        (hull_at hulls table)
     pub sound : AllByRecursion (λ i. CtorTells i None) (constructors_of t table)
 
   -- The set of the constructor has the points at which its pattern holds.
@@ -125,7 +130,8 @@ module _ (t : Tables) (cs : List (Placed Constructor)) (shapes : Shapes) (hulls 
 -- ---- the whole
 
 -- The constructors' sets and the tables' hulls, where none has a fault.
-pub record AreShaped (t : Tables) (cs : List (Placed Constructor)) (sets : List CubeSet) (hulls : List (Option Cube)) : Type 0 where
+pub record AreShaped (t : Tables) (cs : List (Placed Constructor)) (sets : List CubeSet)
+    (hulls : List (Option Cube)) : Type 0 where
   pub heights : List ℕ
   pub are_heights : AreHeights (table_graph t cs) heights
   pub shapes : Shapes
@@ -134,7 +140,8 @@ pub record AreShaped (t : Tables) (cs : List (Placed Constructor)) (sets : List 
 
 -- The first constructor with a fault, where tables are taken in this order: those of the tables
 -- before its own have none, nor have those before it in its table.
-pub record IsFirstAmong (t : Tables) (cs : List (Placed Constructor)) (order : List ℕ) (ctor : ℕ) (f : Fault) : Type 0 where
+pub record IsFirstAmong (t : Tables) (cs : List (Placed Constructor)) (order : List ℕ)
+    (ctor : ℕ) (f : Fault) : Type 0 where
   pub before : List ℕ
   pub table : ℕ
   pub after : List ℕ
@@ -149,7 +156,8 @@ pub record IsFirstAmong (t : Tables) (cs : List (Placed Constructor)) (order : L
   pub tells : CtorTells t cs shapes hulls ctor (Some f)
 
 -- The first constructor with a fault, tables being taken by their heights.
-pub record IsFirstFault (t : Tables) (cs : List (Placed Constructor)) (ctor : ℕ) (f : Fault) : Type 0 where
+pub record IsFirstFault (t : Tables) (cs : List (Placed Constructor))
+    (ctor : ℕ) (f : Fault) : Type 0 where
   pub heights : List ℕ
   pub are_heights : AreHeights (table_graph t cs) heights
   pub first : IsFirstAmong t cs (order_by t heights) ctor f

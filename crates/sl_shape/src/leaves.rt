@@ -3,7 +3,8 @@
 ghost use Rattle.std.specs.Prelude.{◌≡◌, ℕ, IfOk, None, get_or};
 ghost use Rattle.sl_shape.specs.Below.{AreSized, Gets, Shows};
 ghost use Rattle.sl_shape.specs.declared.below.TokenLists.{TokenLists};
-ghost use Rattle.sl_shape.specs.PatternShapes.{Shapes, field_shape, name_shape, shape_by, table_shape};
+ghost use Rattle.sl_shape.specs.PatternShapes.{Shapes, field_shape, name_shape, shape_by};
+ghost use Rattle.sl_shape.specs.PatternShapes.{table_shape};
 ghost use Rattle.sl_spec.specs.Named.{index_named, named};
 
 use crate::below::{Below, TokenLists};
