@@ -23,7 +23,9 @@ pub fn of_nothing() -> Shape
 
 /// The shape of a pattern with `...` behind it.
 pub fn extended(shape: Shape) -> Shape
-    ensures { (lists : List (List ℕ)) → seen lists result ≡ spec.extended (seen lists shape) }
+    ensures shape { (lists : List (List ℕ))
+        → seen lists result ≡ spec.extended (seen lists shape) }
+    ensures there { (lists : List (List ℕ)) → IsThere lists shape → IsThere lists result }
 {
     Shape {
         kind: shape.kind.extended(),
@@ -97,7 +99,7 @@ impl Lists {
     }
 
     /// Whether a shape has no token.
-    fn is_empty(&self, shape: Shape) -> bool
+    pub fn is_empty(&self, shape: Shape) -> bool
         ensures { result ≡ spec.is_empty (list_of self.now shape.tokens) }
     {
         self.some(shape.tokens).is_none()

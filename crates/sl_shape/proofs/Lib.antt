@@ -1,0 +1,15 @@
+pub mod AlikeLemmas
+pub mod BelowLemmas
+pub mod CarryLemmas
+pub mod ExtentLemmas
+pub mod ExtentOfShapeLemmas
+pub mod HoldLemmas
+pub mod JoinLemmas
+pub mod MadeLemmas
+pub mod OrderLemmas
+pub mod NamedLemmas
+pub mod AddedLemmas
+pub mod AddLoopLemmas
+pub mod NextLemmas
+pub mod ShapeTableLemmas
+pub mod OrderedLemmas

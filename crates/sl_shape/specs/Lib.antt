@@ -1,0 +1,11 @@
+pub mod Adding
+pub mod Below
+pub mod Extents
+pub mod Faults
+pub mod Made
+pub mod Next
+pub mod Ordered
+pub mod PatternShapes
+pub mod Stops
+pub mod Tables
+pub mod Views
