@@ -1,5 +1,6 @@
 -- Shapes of the tables below while lists are added, and shapes of joined patterns.
-use Rattle.std.proofs.Common.{◌≡◌, ℕ, inl, inr, Bool, true, false, cond, List, [], ◌∷◌, map, Option, Some, None, refl, sym, ap, ◌∙◌, subst}
+use Rattle.std.proofs.Common.{◌≡◌, ℕ, inl, inr, Bool, true, false, cond, List, [], ◌∷◌, ◌++◌, map, length, Option, Some, None, refl, sym, ap, ◌∙◌, subst, arith}
+use Rattle.std.proofs.lemmas.List.{append-nil, length-append}
 use Rattle.std.specs.List.{AllByRecursion}
 use Rattle.std.specs.Prelude.{option_and_then, option_map}
 use Rattle.sl_ast.specs.Trees.{Pattern, bare, constraint, group, ellipsis, joined}
@@ -18,13 +19,24 @@ use Rattle.sl_shape.specs.declared.faults.Fault.TheVariants as fault
 use Rattle.sl_shape.specs.declared.stop.Stop.{Stop}
 use Rattle.sl_shape.specs.declared.stop.Stop.TheVariants as stop
 use Rattle.sl_shapes.specs.Bytes.{Knows}
-use Rattle.sl_shapes.specs.Lists.{IsThere, Keeps, seen}
+use Rattle.sl_shapes.specs.Lists.{IsAmong, IsThere, Keeps, seen}
 use Rattle.sl_shapes.specs.Shapes.{Shape, both, either, extended, followed, is_fixed}
 use Rattle.sl_shapes.specs.declared.shapes.Shape as code
-use Rattle.sl_shapes.proofs.ListLemmas.{keeps_at, keeps_more, keeps_same, keeps_there}
+use Rattle.sl_shapes.proofs.ListLemmas.{keeps_at, keeps_more}
 use Rattle.sl_spec.specs.Named.{named}
 
 -- ---- lists are added
+
+keeps_same : (a : List (List ℕ)) → Keeps a a
+keeps_same a = record { more = []; is = sym (append-nil a) }
+
+-- a list that was there is there
+keeps_there : (old now : List (List ℕ)) → Keeps old now → (l : Option ℕ) → IsAmong old l → IsAmong now l
+keeps_there old now keeps None among = tt
+keeps_there old now keeps (Some i) among =
+    let e = ap (λ (l : List (List ℕ)). length l) keeps.is in
+    let f = length-append old keeps.more in
+    omega arith
 
 pub seen_more : (old now : List (List ℕ)) → Keeps old now → (s : code.Shape) → IsThere old s → seen now s ≡ seen old s
 seen_more old now keeps s there = λ i. record { kind = s.kind; tokens = keeps_at old now keeps s.tokens.0 there i }
