@@ -49,7 +49,8 @@ pub enum Problem {
     NotSupported(Feature),
     /// A rule of the language is broken, by its number.
     Rule(u8),
-    /// A specification of another form than the one that is compiled today.
+    /// A specification of another form than the one that is listed today, or one that keeps all rules
+    /// that are judged so far.
     NotYet,
     /// Two constructors that are in conflict.
     Ambiguous(Conflict),
