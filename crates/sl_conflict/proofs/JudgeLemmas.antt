@@ -14,6 +14,7 @@ use Rattle.sl_conflict.specs.Rows.{Row, of_table, rows}
 use Rattle.sl_conflict.specs.declared.judging.ConflictError.{ConflictError}
 use Rattle.sl_conflict.specs.declared.judging.ConflictError.TheVariants.{Ambiguous, NoMemory}
 use Rattle.sl_conflict.specs.declared.table_sets.TableSets.{TableSets}
+use Rattle.sl_conflict.proofs.AmbiguityLemmas.{of_one}
 use Rattle.sl_conflict.proofs.RowLemmas.{down, number_is, row_is_of, some_below, up, keeps_order}
 use Rattle.sl_conflict.proofs.SpreadLemmas.{gathered, made_of, Stands, report_spread, spread, stands_up}
 
@@ -42,7 +43,7 @@ module _ (ctors : List Ctor) (sets : List CubeSet) where
   all = rows ctors sets
 
   -- a table without constructors is settled
-  none_settled : (t : ℕ) → of_table t all ≡ [] → IsTableSettled all t
+  none_settled : (t : ℕ) → of_table t all ≡ [] → IsTableSettled has_in all t
   none_settled t none = λ p range j has.
       let there = down t all j has.0 has.1 has.2.0 in
       let never : slice_get {X = Row} [] there.0 ≡ Some has.0 = ap (λ (l : List Row). slice_get l there.0) (sym none) ∙ there.1 in absurd cc
@@ -69,12 +70,7 @@ module _ (ctors : List Ctor) (sets : List CubeSet) where
 
   -- Each table that has a constructor before this number is settled.
   pub record AreJudged (count n : ℕ) : Type 0 where
-    pub settled : (t c : ℕ) → t < count → c < n → IsOf ctors t c → IsTableSettled all t
-
-  of_one : (t u c : ℕ) → IsOf ctors t c → IsOf ctors u c → t ≡ u
-  of_one t u c a b =
-      let same : a.ctor ≡ b.ctor = same_Some a.ctor b.ctor (sym a.ctor_is ∙ b.ctor_is) in
-      sym a.of_table ∙ ap (λ (x : Ctor). x.table) same ∙ b.of_table
+    pub settled : (t c : ℕ) → t < count → c < n → IsOf ctors t c → IsTableSettled has_in all t
 
   -- a row stands at the index of a constructor of its table
   row_of : (c : ℕ) (r : Row) → slice_get all c ≡ Some r → IsOf ctors r.table c
@@ -93,7 +89,7 @@ module _ (ctors : List Ctor) (sets : List CubeSet) where
       let number : first.number ≡ there.0 = number_is ctors sets there.0 first there.1 in
       let row = some_below ctors sets n there.0 first there.1 (omega arith) in
       let of = row_is_of ctors sets n row.0 row.1 in
-      let least = first_least t n first row.0 e row.1 (of_one row.0.table t n of is) in
+      let least = first_least t n first row.0 e row.1 (of_one ctors row.0.table t n of is) in
       omega arith
 
   begins : (tables : List TableSets) (count t n : ℕ) (kept : TableSets) (first : Row) → AreTablesOf count all tables → slice_get tables t ≡ Some kept
@@ -116,7 +112,7 @@ module _ (ctors : List Ctor) (sets : List CubeSet) where
       | inr before ↦ so.settled t c below (omega arith) is
       | inl here ↦
           let is_n : IsOf ctors t n = subst (λ x. IsOf ctors t x) here is in
-          let same : ctor.table ≡ t = of_one ctor.table t n (record { ctor = ctor; ctor_is = at; of_table = refl }) is_n in
+          let same : ctor.table ≡ t = of_one ctors ctor.table t n (record { ctor = ctor; ctor_is = at; of_table = refl }) is_n in
           elim (some_first (of_table t all)) [
             | inl none ↦ none_settled t none
             | inr first ↦ elim (cases_eq first.0.number n) [
@@ -135,13 +131,13 @@ module _ (ctors : List Ctor) (sets : List CubeSet) where
       less_of : (a b : ℕ) → (a ≡ b → ⊥) → (b < a → ⊥) → a < b
       less_of a b f s = grind arith
 
-      settled_of : (tables : List TableSets) (count t : ℕ) (kept : TableSets) → AreTablesOf count all tables → slice_get tables t ≡ Some kept → HasChoices kept → IsTableSettled all t
+      settled_of : (tables : List TableSets) (count t : ℕ) (kept : TableSets) → AreTablesOf count all tables → slice_get tables t ≡ Some kept → HasChoices kept → IsTableSettled has_in all t
       settled_of tables count t kept are at has = spread all t (number_is ctors sets) kept.sets.items (are.each t kept at).sets has
 
   pub none_judged : (count : ℕ) → AreJudged count 0
   none_judged count = record { settled = λ t c below less is. absurd (omega arith) }
 
-  pub all_judged : (count n : ℕ) → length ctors ≤ n → AreJudged count n → AreSettled count all
+  pub all_judged : (count n : ℕ) → length ctors ≤ n → AreJudged count n → AreSettled has_in all count
   all_judged count n end so = λ t below p range j has.
       let is = row_of j has.0 has.1 in
       let within = slice_get_within ctors j is.ctor is.ctor_is in
@@ -173,7 +169,7 @@ module _ (ctors : List Ctor) (sets : List CubeSet) where
 
   -- ---- all tables
 
-  pub all_choices : (tables : List TableSets) (count : ℕ) → AreTablesOf count all tables → AreSettled count all → All HasChoices tables
+  pub all_choices : (tables : List TableSets) (count : ℕ) → AreTablesOf count all tables → AreSettled has_in all count → All HasChoices tables
   all_choices tables count are settled = λ t d below.
       let at = slice_get-get_or tables t d below in
       gathered all t (number_is ctors sets) (get_or tables t d).sets.items (are.each t (get_or tables t d) at).sets (settled t (omega (arith, are.counted)))

@@ -1,3 +1,4 @@
+pub mod AmbiguityLemmas
 pub mod JudgeLemmas
 pub mod RowLemmas
 pub mod SpreadLemmas

@@ -2,7 +2,7 @@
 
 ghost use Rattle.std.specs.Prelude.{◌≡◌, ◌↔◌, ℕ, List, All, IfErr, IfOk, OnOk, IfSome, Some};
 ghost use Rattle.std.specs.Prelude.{IsTrue, length, option_copied, slice_get};
-ghost use Rattle.sl_conflict.specs.Ambiguity.{AreSettled, Tells};
+ghost use Rattle.sl_conflict.specs.Ambiguity.{AreSettled, Tells, has_in};
 ghost use Rattle.sl_conflict.specs.Judged.{IsJudged, IsReportAt, IsReportOf};
 ghost use Rattle.sl_conflict.specs.Kept.{AreTablesOf, HasChoices, IsPaired};
 ghost use Rattle.sl_conflict.specs.Rows.{rows};
@@ -126,7 +126,7 @@ fn judge_all(alloc: Global, ctors: &[Ctor], tables: &[TableSets]) -> Result<(), 
     requires { All IsPaired tables.now }
     ensures settled { OnOk result ((count : ℕ) (sets : List CubeSet)
         → AreTablesOf count (rows ctors.now sets) tables.now
-        → AreSettled count (rows ctors.now sets)) }
+        → AreSettled has_in (rows ctors.now sets) count) }
     ensures ambiguous { IfErr result (λ error. (count : ℕ) (sets : List CubeSet)
         → AreTablesOf count (rows ctors.now sets) tables.now
         → Tells ctors.now count (rows ctors.now sets) error) }
@@ -144,8 +144,8 @@ fn judge_all(alloc: Global, ctors: &[Ctor], tables: &[TableSets]) -> Result<(), 
 pub fn check(alloc: Global, t: &Tables, sets: Vec<CubeSet>) -> Result<Checked, ConflictError>
     ensures tables { IfOk result (λ checked. AreTablesOf (length t.now.tables)
         (rows t.now.constructors sets.items) checked.tables.items) }
-    ensures settled { IfOk result (λ checked. AreSettled (length t.now.tables)
-        (rows t.now.constructors sets.items)) }
+    ensures settled { IfOk result (λ checked. AreSettled has_in
+        (rows t.now.constructors sets.items) (length t.now.tables)) }
     ensures ambiguous { IfErr result (Tells t.now.constructors (length t.now.tables)
         (rows t.now.constructors sets.items)) }
 {

@@ -6,3 +6,7 @@ pub mod PairLemmas
 pub mod FirstLemmas
 pub mod AnswerLemmas
 pub mod ReportLemmas
+pub mod AlikeLemmas
+pub mod OneReport
+pub mod Surely
+pub mod SomeReport

@@ -4,30 +4,28 @@ use Rattle.std.proofs.lemmas.Bool.{cases_lt, cases_eq}
 use Rattle.std.proofs.lemmas.Option.{slice_get_within}
 use Rattle.sl_cube.specs.declared.Point.{Point}
 use Rattle.sl_settle.specs.declared.CubeSet.{CubeSet}
-use Rattle.sl_settle.specs.Unions.{IsBelow}
-use Rattle.sl_settle.specs.Settled.{Matches, LacksBestAt}
-use Rattle.sl_settle.proofs.WithinLemmas.{below_trans}
-use Rattle.sl_settle.specs.Sets.{IsPair}
-use Rattle.sl_settle.specs.Unions.{has_set}
+use Rattle.sl_settle.specs.Sets.{HasAt, IsPair, IsUnsettledAt, LiesBelow}
 use Rattle.sl_settle.specs.Settled.{IsPairAfter}
+use Rattle.sl_settle.specs.Unions.{has_set}
+use Rattle.sl_settle.proofs.WithinLemmas.{lies_trans}
 
 -- whether something holds may be asked where nothing is to be had but a contradiction
 either : (A : Type 0) → (A ⊎ (A → ⊥) → ⊥) → ⊥
 either A k = k (inr (λ a. k (inl a)))
 
-module _ (sets : List CubeSet) (p : Point) (none : (i j : ℕ) → IsPair has_set sets p i j → ⊥) where
+module _ {X : Type 0} (has : X → Point → Type 0) (xs : List X) (p : Point) (none : (i j : ℕ) → IsPair has xs p i j → ⊥) where
   -- the set has the point, and lies below each other of the first n that has it
   record Lowest (n b : ℕ) : Type 0 where
-    there : Matches sets p b
-    below : (j : ℕ) → j < n → Matches sets p j → j ≢ b → IsBelow sets b j
+    there : HasAt has xs p b
+    below : (j : ℕ) → j < n → HasAt has xs p j → j ≢ b → LiesBelow has xs b j
 
-  not_apart : (i j : ℕ) → i ≢ j → Matches sets p i → Matches sets p j → (IsBelow sets i j → ⊥) → (IsBelow sets j i → ⊥) → ⊥
+  not_apart : (i j : ℕ) → i ≢ j → HasAt has xs p i → HasAt has xs p j → (LiesBelow has xs i j → ⊥) → (LiesBelow has xs j i → ⊥) → ⊥
   not_apart i j ne in_i in_j out back = elim (cases_lt i j) [
     | inl before ↦ none i j (record { in_order = before; first = in_i; second = in_j; not_below = out; not_above = back })
     | inr after ↦ none j i (record { in_order = omega arith; first = in_j; second = in_i; not_below = back; not_above = out })
   ]
 
-  grown : (n b : ℕ) → Lowest n b → (n ≡ b) ⊎ ((Matches sets p n → ⊥) ⊎ IsBelow sets b n) → Lowest (n + 1) b
+  grown : (n b : ℕ) → Lowest n b → (n ≡ b) ⊎ ((HasAt has xs p n → ⊥) ⊎ LiesBelow has xs b n) → Lowest (n + 1) b
   grown n b l how = record {
     there = l.there;
     below = λ j lt there ne. elim (cases_lt j n) [
@@ -37,20 +35,20 @@ module _ (sets : List CubeSet) (p : Point) (none : (i j : ℕ) → IsPair has_se
           elim how [
             | inl e ↦ absurd (ne (sym same ∙ e))
             | inr more ↦ elim more [
-              | inl out ↦ absurd (out (subst (λ (x : ℕ). Matches sets p x) (sym same) there))
-              | inr under ↦ subst (λ (x : ℕ). IsBelow sets b x) same under
+              | inl out ↦ absurd (out (subst (λ (x : ℕ). HasAt has xs p x) (sym same) there))
+              | inr under ↦ subst (λ (x : ℕ). LiesBelow has xs b x) same under
             ]
           ]
     ];
   }
 
-  changed : (n b : ℕ) → Lowest n b → Matches sets p n → IsBelow sets n b → Lowest (n + 1) n
+  changed : (n b : ℕ) → Lowest n b → HasAt has xs p n → LiesBelow has xs n b → Lowest (n + 1) n
   changed n b l there under = record {
     there = there;
     below = λ j lt in_j ne. elim (cases_lt j n) [
       | inl before ↦ elim (cases_eq j b) [
-        | inl e ↦ subst (λ (x : ℕ). IsBelow sets n x) (sym e) under
-        | inr other ↦ below_trans sets n b j under (l.below j before in_j other)
+        | inl e ↦ subst (λ (x : ℕ). LiesBelow has xs n x) (sym e) under
+        | inr other ↦ lies_trans has xs n b j under (l.below j before in_j other)
       ]
       | inr after ↦ absurd (ne (omega (arith, lt)))
     ];
@@ -59,11 +57,11 @@ module _ (sets : List CubeSet) (p : Point) (none : (i j : ℕ) → IsPair has_se
   step : (n b : ℕ) → Lowest n b → ((c : ℕ) → Lowest (n + 1) c → ⊥) → ⊥
   step n b l k = elim (cases_eq n b) [
     | inl e ↦ k b (grown n b l (inl e))
-    | inr ne ↦ either (Matches sets p n) (λ m. elim m [
+    | inr ne ↦ either (HasAt has xs p n) (λ m. elim m [
       | inr out ↦ k b (grown n b l (inr (inl out)))
-      | inl there ↦ either (IsBelow sets b n) (λ u. elim u [
+      | inl there ↦ either (LiesBelow has xs b n) (λ u. elim u [
         | inl under ↦ k b (grown n b l (inr (inr under)))
-        | inr not_under ↦ either (IsBelow sets n b) (λ v. elim v [
+        | inr not_under ↦ either (LiesBelow has xs n b) (λ v. elim v [
           | inl over ↦ k n (changed n b l there over)
           | inr not_over ↦ not_apart n b ne there l.there not_over not_under
         ])
@@ -71,16 +69,16 @@ module _ (sets : List CubeSet) (p : Point) (none : (i j : ℕ) → IsPair has_se
     ])
   ]
 
-  lowest_of : (n b : ℕ) → Matches sets p b → ((c : ℕ) → Lowest n c → ⊥) → ⊥
+  lowest_of : (n b : ℕ) → HasAt has xs p b → ((c : ℕ) → Lowest n c → ⊥) → ⊥
   lowest_of zero b there k = k b (record { there = there; below = λ j lt. absurd (omega (arith, lt)) })
   lowest_of (suc n) b there k = lowest_of n b there (λ c l. step n c l (λ d m.
       let e : n + 1 ≡ suc n = omega arith in
       k d (subst (λ (x : ℕ). Lowest x d) e m)))
 
-  pub settled_without_pair : LacksBestAt sets p → ⊥
-  settled_without_pair u = lowest_of (length sets) u.one u.one_there (λ b l. u.none_best b (record {
-    there = l.there;
-    below = λ j there ne. l.below j (slice_get_within sets j there.0 there.1) there ne;
+  pub settled_without_pair : IsUnsettledAt has xs p → ⊥
+  settled_without_pair u = lowest_of (length xs) u.one u.one_has (λ b l. u.no_choice b (record {
+    has_point = l.there;
+    below = λ j there ne. l.below j (slice_get_within xs j there.0 there.1) there ne;
   }))
 
 -- ---- the loops

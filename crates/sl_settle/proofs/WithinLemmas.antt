@@ -5,11 +5,13 @@ use mathlib.Core.Bool.{not}
 use Rattle.std.proofs.lemmas.Bool.{false≢true}
 use Rattle.std.specs.List.{HoldsAt}
 use Rattle.std.proofs.lemmas.List.Elements.{at_read}
+use Rattle.std.proofs.lemmas.Option.{same_Some}
 use Rattle.sl_cube.specs.declared.Cube.{Cube}
 use Rattle.sl_cube.specs.declared.Point.{Point}
 use Rattle.sl_cube.specs.Points.{InRange, IsIn, IsInSome, Covers}
 use Rattle.sl_settle.specs.declared.CubeSet.{CubeSet}
-use Rattle.sl_settle.specs.Unions.{AreWithin, IsBelow}
+use Rattle.sl_settle.specs.Sets.{IsWithin, LiesBelow}
+use Rattle.sl_settle.specs.Unions.{AreWithin, IsBelow, has_set}
 
 -- Each point of the first n cubes is in some other.
 abbrev pub FirstWithin : List Cube → List Cube → ℕ → Type 0
@@ -41,18 +43,22 @@ below_irrefl sets i h =
     let e : h.inner ≡ h.outer = same_some h.inner h.outer (sym h.inner_is ∙ h.outer_is) in
     h.not_around (subst (λ (x : CubeSet). AreWithin x.cubes.items h.inner.cubes.items) e (λ p range inside. inside))
 
+module _ {X : Type 0} (has : X → Point → Type 0) (xs : List X) where
+  pub lies_trans : (i j k : ℕ) → LiesBelow has xs i j → LiesBelow has xs j k → LiesBelow has xs i k
+  lies_trans i j k f g =
+      let e : g.inner ≡ f.outer = same_Some g.inner f.outer (sym g.inner_is ∙ f.outer_is) in
+      let over : IsWithin has f.outer g.outer = subst (λ (x : X). IsWithin has x g.outer) e g.within in
+      record {
+        inner = f.inner;
+        outer = g.outer;
+        inner_is = f.inner_is;
+        outer_is = g.outer_is;
+        within = λ p range inside. over p range (f.within p range inside);
+        not_around = λ back. f.not_around (λ p range inside. back p range (over p range inside));
+      }
+
 pub below_trans : (sets : List CubeSet) (i j k : ℕ) → IsBelow sets i j → IsBelow sets j k → IsBelow sets i k
-below_trans sets i j k f g =
-    let e : f.outer ≡ g.inner = same_some f.outer g.inner (sym f.outer_is ∙ g.inner_is) in
-    let over : AreWithin f.outer.cubes.items g.outer.cubes.items = subst (λ (x : CubeSet). AreWithin x.cubes.items g.outer.cubes.items) (sym e) g.within in
-    record {
-      inner = f.inner;
-      outer = g.outer;
-      inner_is = f.inner_is;
-      outer_is = g.outer_is;
-      within = λ p range inside. over p range (f.within p range inside);
-      not_around = λ back. f.not_around (λ p range inside. back p range (over p range inside));
-    }
+below_trans sets = lies_trans has_set sets
 
 -- ---- what the test answers
 

@@ -1,7 +1,7 @@
 use Rattle.std.proofs.Common.{List, subst, sym}
 use Rattle.std.proofs.lemmas.Result.{err_from_is_err_and}
 use Rattle.sl_spec.specs.Tables.{Ctor}
-use Rattle.sl_conflict.specs.Ambiguity.{AreSettled, Tells}
+use Rattle.sl_conflict.specs.Ambiguity.{AreSettled, Tells, has_in}
 use Rattle.sl_conflict.specs.Kept.{AreTablesOf}
 use Rattle.sl_conflict.specs.Rows.{rows}
 use Rattle.sl_conflict.specs.declared.table_sets.TableSets.{TableSets}
@@ -31,5 +31,5 @@ pub returns-clause-settled : goal.returns-clause-settled
 returns-clause-settled c =
     let sets = c.args.sets.items in
     let made = subst (λ (ts : List TableSets). AreTablesOf c.len.result (rows c.as_slice-ctors.result.now sets) ts) (sym c.as_slice.ensures.value) c.in_ok-tables.ensures in
-    subst (λ n. AreSettled n (rows c.args.t.now.constructors sets)) c.len.ensures
-    (subst (λ (cs : List Ctor). AreSettled c.len.result (rows cs sets)) c.as_slice-ctors.ensures (c.in_ok-judge_all.ensures.settled c.len.result sets made))
+    subst (λ n. AreSettled has_in (rows c.args.t.now.constructors sets) n) c.len.ensures
+    (subst (λ (cs : List Ctor). AreSettled has_in (rows cs sets) c.len.result) c.as_slice-ctors.ensures (c.in_ok-judge_all.ensures.settled c.len.result sets made))
