@@ -6,3 +6,6 @@ pub mod SetLemmas
 pub mod ShiftLemmas
 pub mod ValueLemmas
 pub mod WindowLemmas
+pub mod Surely
+pub mod OneCount
+pub mod SomeCount

@@ -12,7 +12,7 @@ use Rattle.sl_levels.proofs.LevelLemmas.{meet_equations}
 
 -- ---- the greatest of some nodes
 
-below_or_past : (a b : ℕ) → (a < b) ⊎ (b ≤ a)
+pub below_or_past : (a b : ℕ) → (a < b) ⊎ (b ≤ a)
 below_or_past a b = split (nat_lt a b) refl
   where
     split : (t : Bool) → nat_lt a b ≡ t → (a < b) ⊎ (b ≤ a)
@@ -20,7 +20,7 @@ below_or_past a b = split (nat_lt a b) refl
     split false e = inr (grind arith)
 
 -- heights that are equal at each node give the same
-above_same : (f g : ℕ → ℕ) (ws : List ℕ) → ((w : ℕ) → Contains ws w → f w ≡ g w) → above f ws ≡ above g ws
+pub above_same : (f g : ℕ → ℕ) (ws : List ℕ) → ((w : ℕ) → Contains ws w → f w ≡ g w) → above f ws ≡ above g ws
 above_same f g [] each = refl
 above_same f g (w ∷ ws) each =
     let here = each w (first w ws) in
@@ -52,7 +52,7 @@ module _ (graph : Graph) where
   pub none_right : (order heights : List ℕ) → AreRight order heights 0
   none_right order heights = record { each = λ j below. absurd (omega arith) }
 
-  rounds_zero : (k w : ℕ) → length graph ≤ w → level above (successors graph) k w ≡ 0
+  pub rounds_zero : (k w : ℕ) → length graph ≤ w → level above (successors graph) k w ≡ 0
   unfolding level
   rounds_zero zero w past = refl
   rounds_zero (suc k) w past = takes.outside w past (level above (successors graph) k)

@@ -1,2 +1,4 @@
 pub mod HeightLemmas
 pub mod LevelLemmas
+pub mod OneHeight
+pub mod SomeHeights

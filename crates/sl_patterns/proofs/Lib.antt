@@ -4,3 +4,6 @@ pub mod LawLemmas
 pub mod UnionLemmas
 pub mod ViewLemmas
 pub mod WindowLemmas
+pub mod OneCount
+pub mod OneHull
+pub mod SomeHull

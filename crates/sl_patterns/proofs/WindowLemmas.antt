@@ -61,10 +61,10 @@ hull_end hull n some fits is =
     let small : z < 128 = lowest.0 in
     record {
       all = λ i h. elim (cases_lt h.0 z) [
-        | inl below ↦ absurd (omega (arith, lowest.2 h.0 below, h.1))
-        | inr from ↦ omega (arith, is, h.2, from, small)
+        | inl below ↦ absurd (omega (arith, lowest.2 h.0 below, h.2))
+        | inr from ↦ omega (arith, is, h.1, h.3, from, small)
       ];
-      last = λ pos. (z, lowest.1, omega (arith, is, small));
+      last = λ pos. (z, small, lowest.1, omega (arith, is, small));
     }
 
 pub some_end : (is : Bool) (hull : Option Cube) (h : Cube) (n : ℕ) → is ≡ false → hull ≡ Some h → IsEnd (FixesByte (Some h)) n → IsEnd (IfFixesByte is hull) n

@@ -1,5 +1,5 @@
 -- meaning: the bytes that a pattern looks at.
-use Rattle.std.specs.Prelude.{◌≡◌, ℕ, ◌+◌, ◌-◌, ◌/◌, ◌⊎◌, ◌==◌, Bool, true, false}
+use Rattle.std.specs.Prelude.{◌≡◌, ℕ, ◌<◌, ◌+◌, ◌-◌, ◌/◌, ◌⊎◌, ◌==◌, Bool, true, false}
 use Rattle.std.specs.Prelude.{Option, Some, None, if◌then◌else◌}
 use Rattle.std.specs.Int.{bit_at}
 use Rattle.sl_ast.specs.Trees.{Name, Pattern, bare, constraint, group, ellipsis, joined}
@@ -12,7 +12,8 @@ use Rattle.sl_patterns.specs.Patterns.{right_place, told}
 -- The hull, where there is one, fixes a bit of this byte; the first byte stands highest.
 abbrev pub FixesByte : Option Cube → ℕ → Type 0
 FixesByte None i = ⊥
-FixesByte (Some hull) i = (bit : ℕ) × (bit_at hull.mask bit ≡ 1) × (i ≡ 15 - bit / 8)
+FixesByte (Some hull) i =
+    (bit : ℕ) × (bit < 128) × (bit_at hull.mask bit ≡ 1) × (i ≡ 15 - bit / 8)
 
 abbrev pub IfFixesByte : Bool → Option Cube → ℕ → Type 0
 IfFixesByte true hull i = ⊥

@@ -7,11 +7,13 @@ use Rattle.sl_ast.specs.Unfolding.{Placed}
 use Rattle.sl_ast.specs.declared.patterns.PatternOp.{PatternOp}
 use Rattle.sl_ast.specs.declared.patterns.PatternOp.TheVariants.{And, Then, Or}
 use Rattle.sl_constructors.specs.Operands.{is_epsilon}
+use Rattle.sl_cube.specs.Points.{InRange}
 use Rattle.sl_cube.specs.declared.Cube.{Cube}
 use Rattle.sl_cube.specs.declared.Point.{Point}
 use Rattle.sl_patterns.specs.Hulls.{IsHullOrNone}
 use Rattle.sl_patterns.specs.Patterns.{hull_at}
 use Rattle.sl_patterns.proofs.HullLemmas.{found_same}
+use Rattle.sl_patterns.proofs.OneHull.{AreHullsAlike, alike_itself}
 use Rattle.sl_settle.specs.declared.CubeSet.{CubeSet}
 use Rattle.sl_shape.specs.Faults.{BehindTells, DifferTells, Holds, JoinTells, ShapeTells, Tells}
 use Rattle.sl_shape.specs.PatternShapes.{Shapes, fixed_bytes, joined_shape, pattern_bytes, shape_by, shape_of, table_shape}
@@ -46,14 +48,14 @@ module _ (t : Tables) (s r : Shapes) (h k : List (Option Cube)) where
   -- They agree on a table.
   pub record Agree (table : ℕ) : Type 0 where
     pub shape : get_or s table of_nothing ≡ get_or r table of_nothing
-    pub hull : hull_at h table ≡ hull_at k table
+    pub hull : AreHullsAlike (hull_at h table) (hull_at k table)
 
   same_table : (o : Option ℕ) → AllByRecursion Agree (one_or_none o) → table_shape s o ≡ table_shape r o
   same_table None all = refl
   same_table (Some i) all = all.0.shape
 
-  same_hull : (o : Option ℕ) → AllByRecursion Agree (one_or_none o) → option_and_then (hull_at h) o ≡ option_and_then (hull_at k) o
-  same_hull None all = refl
+  same_hull : (o : Option ℕ) → AllByRecursion Agree (one_or_none o) → AreHullsAlike (option_and_then (hull_at h) o) (option_and_then (hull_at k) o)
+  same_hull None all = alike_itself None
   same_hull (Some i) all = all.0.hull
 
   same_by : (f : Option Field) (o : Option ℕ) → table_shape s o ≡ table_shape r o → shape_by s f o ≡ shape_by r f o
@@ -73,10 +75,10 @@ module _ (t : Tables) (s r : Shapes) (h k : List (Option Cube)) where
       (shape_same p (all_left Agree (tables_named t p) (tables_named t q) all) i)
       (shape_same q (all_right Agree (tables_named t p) (tables_named t q) all) i)
 
-  bytes_same : (p : Pattern) → AllByRecursion Agree (tables_named t p) → pattern_bytes t s p ≡ pattern_bytes t r p
+  pub bytes_same : (p : Pattern) → AllByRecursion Agree (tables_named t p) → pattern_bytes t s p ≡ pattern_bytes t r p
   bytes_same p all = ap (option_and_then (fixed_bytes t)) (shape_same p all)
 
-  alike_same : (p : Pattern) → AllByRecursion Agree (tables_named t p) → AreAlike t (pattern_bytes t s) (pattern_bytes t r) h k p
+  pub alike_same : (p : Pattern) → AllByRecursion Agree (tables_named t p) → AreAlike t (pattern_bytes t s) (pattern_bytes t r) h k p
   unfolding AreAlike tables_named
   alike_same (bare name) all = same_hull (index_named (λ b. b.name) name t.tables) all
   alike_same (constraint name relation e) all = tt
@@ -87,12 +89,12 @@ module _ (t : Tables) (s r : Shapes) (h k : List (Option Cube)) where
       let right = all_right Agree (tables_named t p) (tables_named t q) all in
       (bytes_same p left, alike_same p left, alike_same q right)
 
-  pub holds_same : (p : Pattern) → AllByRecursion Agree (tables_named t p) → (x : Point) → Holds t s h p x ↔ Holds t r k p x
-  holds_same p all x = holds_alike t (pattern_bytes t s) (pattern_bytes t r) h k p (alike_same p all) 0 x
+  pub holds_same : (p : Pattern) → AllByRecursion Agree (tables_named t p) → (x : Point) → InRange x → Holds t s h p x ↔ Holds t r k p x
+  holds_same p all x range = holds_alike t (pattern_bytes t s) (pattern_bytes t r) h k p (alike_same p all) 0 x range
 
   behind_same : (o : Option ℕ) (q : Pattern) → AllByRecursion Agree (tables_named t q) → BehindTells t s h o q None → BehindTells t r k o q None
   behind_same (Some n) q all b = b
-  behind_same None q all b = λ x range. (holds_same q all x).0 (b x range)
+  behind_same None q all b = λ x range. (holds_same q all x range).0 (b x range)
 
   sound_same : (p : Pattern) → AllByRecursion Agree (tables_named t p) → ShapeTells t s h p None → ShapeTells t r k p None
   unfolding ShapeTells tables_named
@@ -121,7 +123,7 @@ module _ (t : Tables) (s r : Shapes) (h k : List (Option Cube)) where
           sound_same p all e.1.0,
           (
             (w.0, record { all = λ i c. w.1.all i ((same i).1 c); last = λ some. (same (w.0 - 1)).0 (w.1.last some) }, w.2),
-            (x.0, x.1, (holds_same p all x.0).0 x.2),
+            (x.0, x.1, (holds_same p all x.0 x.1).0 x.2),
           ),
         ),
       )
@@ -133,9 +135,9 @@ module _ (t : Tables) (s r : Shapes) (h k : List (Option Cube)) where
     if_tells None all e = e
     if_tells (Some p) all e = tells_same p all e
 
-    if_holds : (o : Option Pattern) → AllByRecursion Agree (named_by t o) → (x : Point) → IfHolds t cs s h o x ↔ IfHolds t cs r k o x
-    if_holds None all x = (λ w. w, λ w. w)
-    if_holds (Some p) all x = holds_same p all x
+    pub if_holds : (o : Option Pattern) → AllByRecursion Agree (named_by t o) → (x : Point) → InRange x → IfHolds t cs s h o x ↔ IfHolds t cs r k o x
+    if_holds None all x range = (λ w. w, λ w. w)
+    if_holds (Some p) all x range = holds_same p all x range
 
     if_shape : (o : Option Pattern) → AllByRecursion Agree (named_by t o) → unwrap_or (option_and_then (shape_of t s) o) of_nothing ≡ unwrap_or (option_and_then (shape_of t r) o) of_nothing
     if_shape None all = refl
@@ -150,8 +152,8 @@ module _ (t : Tables) (s r : Shapes) (h k : List (Option Cube)) where
       set = e.set;
       set_is = e.set_is;
       union = λ x range. (
-        λ w. (if_holds (pattern_at cs i) agree x).0 ((e.union x range).0 w),
-        λ w. (e.union x range).1 ((if_holds (pattern_at cs i) agree x).1 w),
+        λ w. (if_holds (pattern_at cs i) agree x range).0 ((e.union x range).0 w),
+        λ w. (e.union x range).1 ((if_holds (pattern_at cs i) agree x range).1 w),
       );
     }
 
@@ -167,12 +169,12 @@ module _ (t : Tables) (s r : Shapes) (h k : List (Option Cube)) where
     all_tell [] agree all = tt
     all_tell (i ∷ is) agree all = (if_tells (pattern_at cs i) agree.0 all.0, all_tell is agree.1 all.1)
 
-    holds_each : (x : Point) (is : List ℕ) → AllByRecursion AgreeAt is
+    holds_each : (x : Point) → InRange x → (is : List ℕ) → AllByRecursion AgreeAt is
         → AllByRecursion (λ i. CtorHolds t cs s h i x → CtorHolds t cs r k i x) is × AllByRecursion (λ i. CtorHolds t cs r k i x → CtorHolds t cs s h i x) is
-    holds_each x [] agree = (tt, tt)
-    holds_each x (i ∷ is) agree =
-        let here = if_holds (pattern_at cs i) agree.0 x in
-        let rest = holds_each x is agree.1 in
+    holds_each x range [] agree = (tt, tt)
+    holds_each x range (i ∷ is) agree =
+        let here = if_holds (pattern_at cs i) agree.0 x range in
+        let rest = holds_each x range is agree.1 in
         ((here.0, rest.0), (here.1, rest.1))
 
     abbrev Has : ℕ → Point → Type 0
@@ -183,13 +185,14 @@ module _ (t : Tables) (s r : Shapes) (h k : List (Option Cube)) where
 
     pub hull_same : (table : ℕ) → AllByRecursion AgreeAt (constructors_of t table) → (found : Option Cube) → IsHullOrNone (Has table) found → IsHullOrNone (Had table) found
     hull_same table agree found is = found_same (Has table) (Had table) found
-        (λ x range w. any_each (λ i. CtorHolds t cs s h i x) (λ i. CtorHolds t cs r k i x) (constructors_of t table) (holds_each x (constructors_of t table) agree).0 w)
-        (λ x range w. any_each (λ i. CtorHolds t cs r k i x) (λ i. CtorHolds t cs s h i x) (constructors_of t table) (holds_each x (constructors_of t table) agree).1 w) is
+        (λ x range w. any_each (λ i. CtorHolds t cs s h i x) (λ i. CtorHolds t cs r k i x) (constructors_of t table) (holds_each x range (constructors_of t table) agree).0 w)
+        (λ x range w. any_each (λ i. CtorHolds t cs r k i x) (λ i. CtorHolds t cs s h i x) (constructors_of t table) (holds_each x range (constructors_of t table) agree).1 w) is
 
-    pub table_carried : (table : ℕ) → AllByRecursion AgreeAt (constructors_of t table) → Agree table → IsTable t cs s h table → IsTable t cs r k table
-    table_carried table agree same is = record {
-      shape = sym same.shape ∙ is.shape ∙ ap of_table (shapes_same (constructors_of t table) agree);
-      hull = subst (λ (o : Option Cube). IsHullOrNone (Had table) o) same.hull (hull_same table agree (hull_at h table) is.hull);
+    pub table_carried : (table : ℕ) → AllByRecursion AgreeAt (constructors_of t table) → get_or s table of_nothing ≡ get_or r table of_nothing
+        → hull_at h table ≡ hull_at k table → IsTable t cs s h table → IsTable t cs r k table
+    table_carried table agree shape hull is = record {
+      shape = sym shape ∙ is.shape ∙ ap of_table (shapes_same (constructors_of t table) agree);
+      hull = subst (λ (o : Option Cube). IsHullOrNone (Had table) o) hull (hull_same table agree (hull_at h table) is.hull);
       sound = all_tell (constructors_of t table) agree is.sound;
     }
 

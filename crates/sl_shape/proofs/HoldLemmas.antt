@@ -22,7 +22,7 @@ module _ (t : Tables) (shapes : Shapes) (hulls : List (Option Cube)) (p : Patter
   pub union_shaped : IsUnionOf (PatternHolds (by_extents t found hulls) p 0) cubes → IsUnionOf (Holds t shapes hulls p) cubes
   union_shaped u = λ x range.
       let here = subst (λ (ss : Shapes). IsUnionOf (PatternHolds (by_extents t ss hulls) p 0) cubes) are u x range in
-      let same = holds_alike t (λ q. extent_bytes (extent_of t shapes q)) (pattern_bytes t shapes) hulls hulls p (alike_shaped t shapes hulls p s shape) 0 x in
+      let same = holds_alike t (λ q. extent_bytes (extent_of t shapes q)) (pattern_bytes t shapes) hulls hulls p (alike_shaped t shapes hulls p s shape) 0 x range in
       (λ i. same.0 (here.0 i), λ h. here.1 (same.1 h))
 
   module _ (u : IsUnionOf (PatternHolds (by_extents t found hulls) p 0) cubes) (all : Cube) (every : IsCubeOf (λ _. Unit {0}) all) where

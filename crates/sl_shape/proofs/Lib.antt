@@ -13,3 +13,12 @@ pub mod AddLoopLemmas
 pub mod NextLemmas
 pub mod ShapeTableLemmas
 pub mod OrderedLemmas
+pub mod PutLemmas
+pub mod AmongLemmas
+pub mod StandLemmas
+pub mod OneFault
+pub mod OneReading
+pub mod FirstLemmas
+pub mod ReadingLemmas
+pub mod SomeFault
+pub mod SomeReading

@@ -60,7 +60,7 @@ module _ (h : ℕ → ℕ) where
 
   -- ---- nodes lie below what names them
 
-  all_below : (ws : List ℕ) → AllByRecursion (λ w. h w < above h ws) ws
+  pub all_below : (ws : List ℕ) → AllByRecursion (λ w. h w < above h ws) ws
   all_below [] = tt
   all_below (w ∷ ws) = (omega arith, all_each (λ v. h v < above h ws) (λ v. h v < max (1 + h w) (above h ws)) (λ v e. omega (arith, e)) ws (all_below ws))
 

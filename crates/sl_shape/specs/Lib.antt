@@ -9,3 +9,4 @@ pub mod PatternShapes
 pub mod Stops
 pub mod Tables
 pub mod Views
+pub mod Readings
