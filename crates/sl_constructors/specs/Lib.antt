@@ -3,6 +3,7 @@ pub mod ConstraintValues
 pub mod ConstructorRules
 pub mod Displays
 pub mod Laws
+pub mod Listed
 pub mod Operands
 pub mod Steps
 pub mod WholeText
