@@ -13,3 +13,4 @@ pub mod AddLoopLemmas
 pub mod NextLemmas
 pub mod ShapeTableLemmas
 pub mod OrderedLemmas
+pub mod EdgeLemmas
