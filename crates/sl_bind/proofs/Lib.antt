@@ -1,2 +1,11 @@
 pub mod IndexLemmas
 pub mod ItemLemmas
+pub mod BoundLemmas
+pub mod CycleLemmas
+pub mod GrowLemmas
+pub mod KeptLemmas
+pub mod ListedLemmas
+pub mod OutcomeLemmas
+pub mod RunLemmas
+pub mod SideLemmas
+pub mod TakenLemmas

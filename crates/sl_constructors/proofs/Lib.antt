@@ -1,6 +1,8 @@
 pub mod BlockLemmas
 pub mod DisplayLemmas
+pub mod MemberLemmas
+pub mod NumberLemmas
 pub mod OperandLemmas
 mod RowTheorems
-mod TableLemmas
+pub mod TableLemmas
 pub mod ValueLemmas

@@ -22,3 +22,4 @@ pub mod FirstLemmas
 pub mod ReadingLemmas
 pub mod SomeFault
 pub mod SomeReading
+pub mod EdgeLemmas
