@@ -167,9 +167,6 @@ module _ (all : List Table) (t : Tables) (item : ℕ) (c : Constructor) where
 
   module _ (cs : List (Placed Constructor)) (more : List Name) (front : names_of all ≡ with_name (names_of t.tables) (table_name c) ++ more)
       (begins : may_begin t (table_name c) ≡ true) (are : AreTaken all cs t) where
-    after : Tables
-    after = with_ctor t (table_name c) its
-
     apart_after : (name : Name) → is_table (with_ctor t (table_name c) its) name ≡ true → (is_field t.fields name ≡ false) × (is_epsilon name ≡ false)
     apart_after name there = by
         (among_by (names_of t.tables) (table_name c) name (is_among (names_of t.tables) (table_name c))
