@@ -1,0 +1,2 @@
+pub mod HeavyLemmas
+pub mod ScopeLemmas

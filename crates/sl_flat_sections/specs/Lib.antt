@@ -1,0 +1,4 @@
+pub mod FlatSections
+pub mod Judging
+pub mod Scopes
+pub mod Views
