@@ -1,2 +1,3 @@
 pub mod HeavyLemmas
 pub mod ScopeLemmas
+pub mod ReachingLemmas
