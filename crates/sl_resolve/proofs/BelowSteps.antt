@@ -15,7 +15,7 @@ use Rattle.sl_resolve.specs.Entries.{Entry}
 use Rattle.sl_resolve.specs.Scopes.{attached_size, field_symbol, known_symbol, operand_symbol, symbol_named, userop_named, with_operands, with_symbol}
 use Rattle.sl_resolve.specs.Steps.{Calls, after, all_after, all_taken, argument, argument_steps, argument_variables, assign_after, assign_steps, body_of, build_steps, call_step, call_variables, calls_of, direct_of, entered, evaluated_steps, export_variables, exported, given, given_variables, goto_step, goto_variables, is_call_of, is_const, is_table, left_after, left_steps, local_after, local_steps, macro_calls, moved, opening, parameters, parameters_of, place_of, pointer_term, section_steps, section_variables, taken, term_here, unplaced, unplaced_one, userop_calls, userop_steps, with_built, with_macro}
 use Rattle.sl_resolve.specs.Terms.{term_at, terms_at, variables, variables_in}
-use Rattle.sl_resolve.specs.declared.macros.MacroBody.{MacroBody}
+use Rattle.sl_resolve.specs.Macros.{Body}
 use Rattle.sl_resolve.specs.declared.reach.Reach.{Reach}
 use Rattle.sl_resolve.specs.declared.state.State.{State}
 use Rattle.sl_resolve.proofs.Below.{EntriesBelow, OptBelow, direct_up, entries_up, known_below, steps_both, steps_up, symbol_below, symbol_up, term_below, term_up, terms_below, with_symbol_below}
@@ -197,7 +197,7 @@ module _ (t : Tables) where
       parameters_below st j n (with_symbol own p a) ps es (omega arith) (omega arith) o
       (with_symbol_below n own p a h (symbol_up j n a (omega arith) one.0))
 
-  macro_kept : (earlier : Calls) → CallsKept earlier → (m : MacroBody) → CallsKept (macro_calls t earlier m)
+  macro_kept : (earlier : Calls) → CallsKept earlier → (m : Body) → CallsKept (macro_calls t earlier m)
   macro_kept earlier h m = record {
     at = λ w es st o.
         let first = entered t st m es in
@@ -216,8 +216,8 @@ module _ (t : Tables) where
   if_kept true st s1 s2 t1 t2 h k = h
   if_kept false st s1 s2 t1 t2 h k = k
 
-  module _ (macros : List MacroBody) where
-    with_macro_kept : (n : ℕ) (m : Option MacroBody) (c : Calls) → CallsKept c → CallsKept (with_macro t macros n m c)
+  module _ (macros : List Body) where
+    with_macro_kept : (n : ℕ) (m : Option Body) (c : Calls) → CallsKept c → CallsKept (with_macro t macros n m c)
     with_macro_kept n None c h = h
     with_macro_kept n (Some m) c h = record {
       at = λ w es st o.
@@ -255,7 +255,7 @@ unplaced_below n names i (o ∷ os) =
     steps_both n (unplaced_one names i o) (unplaced names (i + 1) os) (build_if n i (is_table o.means && not (is_among names o.name))) (unplaced_below n names (i + 1) os)
 
 -- each size variable of a section is below their number
-pub section_below : (t : Tables) (macros : List MacroBody) (reach : Reach) (os : List tables.Operand) (body : List Statement)
+pub section_below : (t : Tables) (macros : List Body) (reach : Reach) (os : List tables.Operand) (body : List Statement)
     → StepsBelow (section_variables t macros reach os body) (section_steps t macros reach os body)
 section_below t macros reach os body =
     let c = calls_of t macros reach.macros in

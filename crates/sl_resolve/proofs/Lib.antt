@@ -2,3 +2,4 @@ pub mod Below
 pub mod BelowSteps
 pub mod TermLemmas
 pub mod WorkLemmas
+pub mod MacroLemmas

@@ -9,7 +9,7 @@ use Rattle.sl_spec.specs.declared.tables.Tables.{Tables}
 use Rattle.sl_resolve.specs.Scopes.{if_below}
 use Rattle.sl_resolve.specs.Steps.{Calls, after, all_after, all_taken, body_of, calls_of, entered, given, is_number, macro_calls, macro_name, parameters_of, returned, taken, userop_calls, with_macro}
 use Rattle.sl_resolve.specs.Work.{Begins, GoesOn, Outcome, behind, called_macro, frame_owes, gone_on, if_takes, left_in, nothing_left, outcome, outcome_with, owed, owed_from, resumed, state_in, statement_macro, taking, then_owed}
-use Rattle.sl_resolve.specs.declared.macros.MacroBody.{MacroBody}
+use Rattle.sl_resolve.specs.Macros.{Body}
 use Rattle.sl_resolve.specs.declared.names.Names.{Names}
 use Rattle.sl_resolve.specs.declared.state.State.{State}
 use Rattle.sl_resolve.specs.declared.work.Frame.{Frame}
@@ -43,8 +43,8 @@ none_below : (k : Option ℕ) → if_below zero k ≡ None
 none_below None = refl
 none_below (Some i) = none_below_0 i (nat_lt i zero) refl
 
-module _ (t : Tables) (macros : List MacroBody) (w : Name) (es : List Expression) where
-  abbrev numbered : Option MacroBody → Calls → Calls
+module _ (t : Tables) (macros : List Body) (w : Name) (es : List Expression) where
+  abbrev numbered : Option Body → Calls → Calls
   numbered None c = userop_calls t
   numbered (Some m) c = macro_calls t c m
 
@@ -58,24 +58,24 @@ module _ (t : Tables) (macros : List MacroBody) (w : Name) (es : List Expression
     taken : (st : State) → c.taken w es st ≡ d.taken w es st
     after : (st : State) → c.after w es st ≡ d.after w es st
 
-  abbrev with_lens : Bool → MacroBody → Calls → Calls
+  abbrev with_lens : Bool → Body → Calls → Calls
   with_lens b m c = record {
     taken = λ v fs st. if b then (macro_calls t c m).taken v fs st else c.taken v fs st;
     after = λ v fs st. if b then (macro_calls t c m).after v fs st else c.after v fs st;
   }
 
-  abbrev takes : MacroBody → Bool
+  abbrev takes : Body → Bool
   takes m = length (parameters_of m) == length es
 
-  abbrev with_if : Bool → Option MacroBody → Calls → Calls
+  abbrev with_if : Bool → Option Body → Calls → Calls
   with_if b None c = c
   with_if b (Some m) c = with_lens (b && takes m) m c
 
-  same_calls : (o : Option MacroBody) (c d : Calls) → Same c d → Same (with_if false o c) d
+  same_calls : (o : Option Body) (c d : Calls) → Same c d → Same (with_if false o c) d
   same_calls None c d h = h
   same_calls (Some m) c d h = record { taken = λ st. h.taken st; after = λ st. h.after st }
 
-  lens_case : (n : ℕ) (m : MacroBody) (b : Bool) → slice_get macros n ≡ Some m → Same (calls_of t macros n) (userop_calls t)
+  lens_case : (n : ℕ) (m : Body) (b : Bool) → slice_get macros n ≡ Some m → Same (calls_of t macros n) (userop_calls t)
       → Same (with_lens b m (calls_of t macros n)) (chosen (if b then Some n else None))
   lens_case n m true at ih = record {
     taken = λ st. ap (λ o. (numbered o (calls_of t macros n)).taken w es st) (sym at);
@@ -83,12 +83,12 @@ module _ (t : Tables) (macros : List MacroBody) (w : Name) (es : List Expression
   }
   lens_case n m false at ih = record { taken = λ st. ih.taken st; after = λ st. ih.after st }
 
-  same_case : (n : ℕ) (o : Option MacroBody) → slice_get macros n ≡ o → Same (calls_of t macros n) (userop_calls t)
+  same_case : (n : ℕ) (o : Option Body) → slice_get macros n ≡ o → Same (calls_of t macros n) (userop_calls t)
       → Same (with_if true o (calls_of t macros n)) (chosen (if_takes n o es))
   same_case n None at ih = ih
   same_case n (Some m) at ih = lens_case n m (takes m) at ih
 
-  by_where : (i n : ℕ) (o : Option MacroBody) (less same up : Bool) → Where less same up → (same ≡ true → i ≡ n) → slice_get macros n ≡ o
+  by_where : (i n : ℕ) (o : Option Body) (less same up : Bool) → Where less same up → (same ≡ true → i ≡ n) → slice_get macros n ≡ o
       → Same (calls_of t macros n) (chosen (taking macros (if less then Some i else None) es))
       → Same (with_if same o (calls_of t macros n)) (chosen (taking macros (if up then Some i else None) es))
   by_where i n o less same up is_less is at ih = same_calls o (calls_of t macros n) _ ih
@@ -98,14 +98,14 @@ module _ (t : Tables) (macros : List MacroBody) (w : Name) (es : List Expression
       subst (λ j. Same (with_if true o (calls_of t macros n)) (chosen (if_takes j (slice_get macros j) es))) (sym (is refl)) here
   by_where i n o less same up is_more is at ih = same_calls o (calls_of t macros n) _ ih
 
-  found_at : (n : ℕ) (o : Option MacroBody) (k : Option ℕ) → slice_get macros n ≡ o
+  found_at : (n : ℕ) (o : Option Body) (k : Option ℕ) → slice_get macros n ≡ o
       → Same (calls_of t macros n) (chosen (taking macros (if_below n k) es))
       → Same (with_if (is_number n k) o (calls_of t macros n)) (chosen (taking macros (if_below (suc n) k) es))
   found_at n None None at ih = ih
   found_at n (Some m) None at ih = record { taken = λ st. ih.taken st; after = λ st. ih.after st }
   found_at n o (Some i) at ih = by_where i n o (nat_lt i n) (i == n) (nat_lt i (suc n)) (where_is i n) (λ e. grind arith) at ih
 
-  with_macro_is : (n : ℕ) (o : Option MacroBody) (c d : Calls) → Same (with_if (is_number n (index_named macro_name w macros)) o c) d → Same (with_macro t macros n o c) d
+  with_macro_is : (n : ℕ) (o : Option Body) (c d : Calls) → Same (with_if (is_number n (index_named macro_name w macros)) o c) d → Same (with_macro t macros n o c) d
   with_macro_is n None c d h = h
   with_macro_is n (Some m) c d h = record { taken = λ st. h.taken st; after = λ st. h.after st }
 
@@ -116,7 +116,7 @@ module _ (t : Tables) (macros : List MacroBody) (w : Name) (es : List Expression
 
 -- ---- statements that call no macro
 
-module _ (t : Tables) (macros : List MacroBody) (n : ℕ) where
+module _ (t : Tables) (macros : List Body) (n : ℕ) where
   -- a statement that calls none of the first n macros does what it does without macros
   pub steps_alone : (st : State) (x : Statement) → statement_macro macros n x ≡ None → taken t (calls_of t macros n) st x ≡ taken t (userop_calls t) st x
   steps_alone st (invoke w es) none = (chosen_is t macros w es n).taken st ∙ ap (λ k. (chosen t macros w es k).taken w es st) none
@@ -145,13 +145,13 @@ module _ (t : Tables) (macros : List MacroBody) (n : ℕ) where
   after_alone st (label w) none = refl
 
   -- a call of a macro
-  pub steps_called : (st : State) (w : Name) (es : List Expression) (i : ℕ) (m : MacroBody) → called_macro macros n w es ≡ Some i → slice_get macros i ≡ Some m
+  pub steps_called : (st : State) (w : Name) (es : List Expression) (i : ℕ) (m : Body) → called_macro macros n w es ≡ Some i → slice_get macros i ≡ Some m
       → (calls_of t macros n).taken w es st ≡ (macro_calls t (calls_of t macros i) m).taken w es st
   steps_called st w es i m found at =
       (chosen_is t macros w es n).taken st ∙ ap (λ k. (chosen t macros w es k).taken w es st) found
       ∙ ap (λ o. (numbered t macros w es o (calls_of t macros i)).taken w es st) at
 
-  pub after_called : (st : State) (w : Name) (es : List Expression) (i : ℕ) (m : MacroBody) → called_macro macros n w es ≡ Some i → slice_get macros i ≡ Some m
+  pub after_called : (st : State) (w : Name) (es : List Expression) (i : ℕ) (m : Body) → called_macro macros n w es ≡ Some i → slice_get macros i ≡ Some m
       → (calls_of t macros n).after w es st ≡ (macro_calls t (calls_of t macros i) m).after w es st
   after_called st w es i m found at =
       (chosen_is t macros w es n).after st ∙ ap (λ k. (chosen t macros w es k).after w es st) found
@@ -165,7 +165,7 @@ made ss n = record { steps = ss; next = n }
 behind-append : (a b : List Step) (o : Outcome) → behind (a ++ b) o ≡ behind a (behind b o)
 behind-append a b o = ap (λ (ss : List Step). made ss o.next) (append_assoc a b o.steps)
 
-module _ (t : Tables) (macros : List MacroBody) where
+module _ (t : Tables) (macros : List Body) where
   owed-last : (k : ℕ → ℕ → Outcome) (fs : List Frame) (f : Frame) → owed_from t macros k (fs ++ f ∷ []) ≡ frame_owes t macros f (owed_from t macros k fs)
   owed-last k [] f = refl
   owed-last k (g ∷ fs) f = owed-last (frame_owes t macros g k) fs f
@@ -214,7 +214,7 @@ module _ (t : Tables) (macros : List MacroBody) where
   owed-two k (h ∷ fs) f g = owed-two (frame_owes t macros h k) fs f g
 
   -- where a call of a macro has begun
-  pub frame_enters : (f inner : Frame) (old mid new : Work) (w : Name) (es : List Expression) (i : ℕ) (m : MacroBody) → left_in f ≡ invoke w es ∷ left_in (gone_on f f.names)
+  pub frame_enters : (f inner : Frame) (old mid new : Work) (w : Name) (es : List Expression) (i : ℕ) (m : Body) → left_in f ≡ invoke w es ∷ left_in (gone_on f f.names)
       → called_macro macros f.limit w es ≡ Some i → slice_get macros i ≡ Some m → Begins t f.names old m i es inner mid
       → new.frames.items ≡ mid.frames.items ++ gone_on f f.names ∷ inner ∷ [] → new.steps ≡ mid.steps → new.next ≡ mid.next → new.calls ≡ mid.calls
       → outcome t macros new ≡ outcome_with t macros f old
@@ -262,19 +262,19 @@ module _ (t : Tables) (macros : List MacroBody) where
 -- ---- the macro that is found
 
 -- It is there, and takes the arguments.
-pub record Takes (macros : List MacroBody) (i : ℕ) (es : List Expression) : Type 0 where
-  pub m : MacroBody
+pub record Takes (macros : List Body) (i : ℕ) (es : List Expression) : Type 0 where
+  pub m : Body
   pub at : slice_get macros i ≡ Some m
   pub same : length (parameters_of m) ≡ length es
 
-module _ (macros : List MacroBody) (es : List Expression) (i : ℕ) where
-  takes_if : (j : ℕ) (m : MacroBody) (b : Bool) → slice_get macros j ≡ Some m → (length (parameters_of m) == length es) ≡ b → (if b then Some j else None) ≡ Some i → Takes macros i es
+module _ (macros : List Body) (es : List Expression) (i : ℕ) where
+  takes_if : (j : ℕ) (m : Body) (b : Bool) → slice_get macros j ≡ Some m → (length (parameters_of m) == length es) ≡ b → (if b then Some j else None) ≡ Some i → Takes macros i es
   takes_if j m true at same found =
       let is : j ≡ i = cc in
       record { m = m; at = subst (λ k. slice_get macros k ≡ Some m) is at; same = grind arith }
   takes_if j m false at same found = absurd (let h : ⊥ = cc in h)
 
-  takes_at : (j : ℕ) (o : Option MacroBody) → slice_get macros j ≡ o → if_takes j o es ≡ Some i → Takes macros i es
+  takes_at : (j : ℕ) (o : Option Body) → slice_get macros j ≡ o → if_takes j o es ≡ Some i → Takes macros i es
   takes_at j None at found = absurd (let h : ⊥ = cc in h)
   takes_at j (Some m) at found = takes_if j m (length (parameters_of m) == length es) at refl found
 

@@ -1,4 +1,5 @@
 pub mod Entries
+pub mod Macros
 pub mod Operators
 pub mod Scopes
 pub mod Seen

@@ -10,7 +10,7 @@ use Rattle.sl_ast.specs.Trees.{Operand, by_name, by_integer, Direct, to_label, t
 use Rattle.sl_ast.specs.Trees.{Dest, direct, computed, Target, calls, calls_computed}
 use Rattle.sl_ast.specs.Trees.{Exported, exports, exports_star, Statement, local, declare, assign}
 use Rattle.sl_ast.specs.Trees.{goto, branch, call_to, return, build, export, invoke, label}
-use Rattle.sl_ast.specs.Views.{arguments, bytes, statements_of}
+use Rattle.sl_ast.specs.Views.{arguments}
 use Rattle.sl_rules.specs.Names.{is_among}
 use Rattle.sl_section.specs.Sections as s
 use Rattle.sl_section.specs.Sections.{Step, Symbol, Term, bounded, span_count}
@@ -21,10 +21,10 @@ use Rattle.sl_spec.specs.declared.constructors.Means.{Means}
 use Rattle.sl_spec.specs.declared.constructors.Means.TheVariants as means
 use Rattle.sl_spec.specs.declared.tables.Tables.{Tables}
 use Rattle.sl_resolve.specs.Entries.{Entry}
+use Rattle.sl_resolve.specs.Macros.{Body}
 use Rattle.sl_resolve.specs.Scopes.{known_symbol, space_named, symbol_named, userop_named}
 use Rattle.sl_resolve.specs.Scopes.{with_operands, with_symbol}
 use Rattle.sl_resolve.specs.Terms.{term_at, terms_at, variables, variables_in}
-use Rattle.sl_resolve.specs.declared.macros.MacroBody.{MacroBody}
 use Rattle.sl_resolve.specs.declared.names.Names.{Names}
 use Rattle.sl_resolve.specs.declared.reach.Reach.{Reach}
 use Rattle.sl_resolve.specs.declared.state.State.{State}
@@ -106,14 +106,14 @@ abbrev pub given_variables : List Expression → ℕ
 given_variables [] = 0
 given_variables (e ∷ es) = argument_variables e + given_variables es
 
-abbrev pub macro_name : MacroBody → Name
-macro_name m = m.of.now.name.now
+abbrev pub macro_name : Body → Name
+macro_name m = m.of.name
 
-abbrev pub parameters_of : MacroBody → List Name
-parameters_of m = map bytes m.of.now.parameters.items
+abbrev pub parameters_of : Body → List Name
+parameters_of m = m.of.parameters
 
-abbrev pub body_of : MacroBody → List Statement
-body_of m = statements_of m.of.now.body.items
+abbrev pub body_of : Body → List Statement
+body_of m = m.of.body
 
 -- the caller goes on with its own names
 abbrev pub returned : State → State → State
@@ -290,7 +290,7 @@ module _ (t : Tables) where
 
   -- A macro's statements begin with the parameters as the only names of their own, with what is
   -- defined before the macro, and under a number of their own.
-  abbrev pub entered : State → MacroBody → List Expression → State
+  abbrev pub entered : State → Body → List Expression → State
   entered st m es = record {
     names = record {
       own = parameters st.names st.next [] (parameters_of m) es;
@@ -302,7 +302,7 @@ module _ (t : Tables) where
   }
 
   -- a call of this macro, whose statements know these calls
-  abbrev pub macro_calls : Calls → MacroBody → Calls
+  abbrev pub macro_calls : Calls → Body → Calls
   macro_calls earlier m = record {
     taken = λ w es st.
         given st.names st.next es ++ all_taken earlier (entered st m es) (body_of m);
@@ -317,13 +317,13 @@ module _ (t : Tables) where
     calls = 1;
   }
 
-  module _ (macros : List MacroBody) where
+  module _ (macros : List Body) where
     -- whether a call with these arguments is one of this macro, whose number is n
-    abbrev pub is_call_of : ℕ → MacroBody → Name → List Expression → Bool
+    abbrev pub is_call_of : ℕ → Body → Name → List Expression → Bool
     is_call_of n m w es = is_number n (index_named macro_name w macros)
         && (length (parameters_of m) == length es)
 
-    abbrev pub with_macro : ℕ → Option MacroBody → Calls → Calls
+    abbrev pub with_macro : ℕ → Option Body → Calls → Calls
     with_macro n None earlier = earlier
     with_macro n (Some m) earlier = record {
       taken = λ w es st. if is_call_of n m w es then (macro_calls earlier m).taken w es st

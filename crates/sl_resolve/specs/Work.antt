@@ -13,7 +13,7 @@ use Rattle.sl_resolve.specs.Scopes.{if_below}
 use Rattle.sl_resolve.specs.Seen.{Adds}
 use Rattle.sl_resolve.specs.Steps.{Calls, after, all_after, all_taken, body_of, calls_of, entered}
 use Rattle.sl_resolve.specs.Steps.{given, macro_name, parameters_of, taken, userop_calls}
-use Rattle.sl_resolve.specs.declared.macros.MacroBody.{MacroBody}
+use Rattle.sl_resolve.specs.Macros.{Body}
 use Rattle.sl_resolve.specs.declared.names.Names.{Names}
 use Rattle.sl_resolve.specs.declared.state.State.{State}
 use Rattle.sl_resolve.specs.declared.work.Frame.{Frame}
@@ -22,19 +22,19 @@ use Rattle.sl_resolve.specs.declared.work.Work.{Work}
 -- ---- which macro a statement calls
 
 -- the macro of number i, where it has as many parameters as there are arguments
-abbrev pub if_takes : (i : ℕ) → Option MacroBody → List Expression → Option ℕ
+abbrev pub if_takes : (i : ℕ) → Option Body → List Expression → Option ℕ
 if_takes i None es = None
 if_takes i (Some m) es = if length (parameters_of m) == length es then Some i else None
 
-abbrev pub taking : List MacroBody → Option ℕ → List Expression → Option ℕ
+abbrev pub taking : List Body → Option ℕ → List Expression → Option ℕ
 taking macros None es = None
 taking macros (Some i) es = if_takes i (slice_get macros i) es
 
 -- the macro that a call names, where the first n are known
-abbrev pub called_macro : List MacroBody → ℕ → Name → List Expression → Option ℕ
+abbrev pub called_macro : List Body → ℕ → Name → List Expression → Option ℕ
 called_macro macros n w es = taking macros (if_below n (index_named macro_name w macros)) es
 
-abbrev pub statement_macro : List MacroBody → ℕ → Statement → Option ℕ
+abbrev pub statement_macro : List Body → ℕ → Statement → Option ℕ
 statement_macro macros n (invoke w es) = called_macro macros n w es
 statement_macro macros n (local w size value) = None
 statement_macro macros n (declare w k e) = None
@@ -72,7 +72,7 @@ left_in f = statements_of (drop f.at f.body.now)
 abbrev pub gone_on : Frame → Names → Frame
 gone_on f names = record f { names = names; at = f.at + 1 }
 
-module _ (t : Tables) (macros : List MacroBody) where
+module _ (t : Tables) (macros : List Body) where
   -- statements, and then what is owed behind them
   abbrev pub then_owed : Calls → State → List Statement → (ℕ → ℕ → Outcome) → Outcome
   then_owed c st xs k = behind (all_taken t c st xs)
@@ -112,7 +112,7 @@ pub record GoesOn (t : Tables) (f : Frame) (old : Work) (x : Statement) (new : W
   pub calls : new.calls ≡ (after t (userop_calls t) (state_in f old) x).calls
 
 -- A call of a macro, the one of number i, has begun: its frame, and the arguments' steps.
-pub record Begins (t : Tables) (outer : Names) (old : Work) (m : MacroBody) (i : ℕ)
+pub record Begins (t : Tables) (outer : Names) (old : Work) (m : Body) (i : ℕ)
     (es : List Expression) (inner : Frame) (new : Work) : Type 0 where
   pub frames : new.frames.items ≡ old.frames.items
   pub names : inner.names ≡ (entered t (resumed outer old.next old.calls) m es).names

@@ -1,11 +1,13 @@
 //! Reading a section statement by statement, macros taken out.
 
-ghost use Rattle.std.specs.Prelude.{◌≡◌, ◌+◌, ◌<◌, ◌++◌, ◌∷◌, [], length, IfOk, OnOk, IfSome, Some};
-ghost use Rattle.std.specs.Prelude.{slice_get};
+ghost use Rattle.std.specs.Prelude.{◌≡◌, ◌+◌, ◌<◌, ◌++◌, ◌∷◌, [], length, IfOk, OnOk, Some, None};
+ghost use Rattle.std.specs.Prelude.{slice_get, if◌then◌else◌};
 ghost use Rattle.sl_ast.specs.Views.{expressions_of, statement_of};
-ghost use Rattle.sl_resolve.specs.Steps.{parameters_of};
+ghost use Rattle.sl_resolve.specs.Macros.{bodies_of, macro_view};
+ghost use Rattle.sl_resolve.specs.Steps.{macro_name, parameters_of};
 ghost use Rattle.sl_resolve.specs.Work.{Begins, GoesOn, called_macro, gone_on, outcome};
-ghost use Rattle.sl_resolve.specs.Work.{left_in, outcome_with, statement_macro};
+ghost use Rattle.sl_resolve.specs.Work.{if_takes, left_in, outcome_with, statement_macro};
+ghost use Rattle.sl_spec.specs.Named.{index_named};
 
 use crate::arguments::bind;
 use crate::macros::MacroBody;
@@ -19,6 +21,33 @@ use sl_ast::statements::Stmt;
 use sl_spec::{Named, Tables};
 use std::alloc::{AllocError, Global};
 
+/// The number of the macro of a name.
+fn index_of<'s, 'a>(macros: &Named<'a, MacroBody<'s, 'a>>, name: &[u8]) -> Option<usize>
+    ensures { result ≡ index_named macro_name name.now (bodies_of macros.now) }
+{
+    macros.index_of(name)
+}
+
+/// A number, where it is chosen.
+fn chosen(i: usize, takes: bool) -> Option<usize>
+    ensures { result ≡ if takes then Some i else None }
+{
+    if takes { Some(i) } else { None }
+}
+
+/// The macro of this number, where it has as many parameters as there are arguments.
+fn taking<'s, 'a>(macros: &Named<'a, MacroBody<'s, 'a>>, i: usize, es: &[Expr<'a>]) -> Option<usize>
+    ensures { result ≡ if_takes i (slice_get (bodies_of macros.now) i) (expressions_of es.now) }
+{
+    match macros.at(i) {
+        Some(m) => {
+            let of = m.of;
+            chosen(i, of.parameters.len() == es.len())
+        }
+        None => None,
+    }
+}
+
 /// The macro that a call names, where it has as many parameters as there are arguments and is one
 /// of the first `limit`.
 fn called_macro<'s, 'a>(
@@ -27,15 +56,11 @@ fn called_macro<'s, 'a>(
     name: &[u8],
     es: &[Expr<'a>],
 ) -> Option<usize>
-    ensures { result ≡ called_macro macros.now limit name.now (expressions_of es.now) }
+    ensures { result ≡ called_macro (bodies_of macros.now) limit name.now (expressions_of es.now) }
 {
-    let i = if_below(limit, macros.index_of(name))?;
-    let m = macros.at(i)?;
-    let of = m.of;
-    if of.parameters.len() == es.len() {
-        Some(i)
-    } else {
-        None
+    match if_below(limit, index_of(macros, name)) {
+        Some(i) => taking(macros, i, es),
+        None => None,
     }
 }
 
@@ -45,7 +70,7 @@ fn statement_macro<'s, 'a>(
     limit: usize,
     x: &Stmt<'a>,
 ) -> Option<usize>
-    ensures { result ≡ statement_macro macros.now limit (statement_of x.now) }
+    ensures { result ≡ statement_macro (bodies_of macros.now) limit (statement_of x.now) }
 {
     match x {
         Stmt::Invoke(name, es) => called_macro(macros, limit, name, es.as_slice()),
@@ -101,8 +126,8 @@ fn begin<'s, 'a>(
     names: &Names<'a>,
     es: &[Expr<'a>],
 ) -> Result<Frame<'s, 'a>, AllocError>
-    requires { length (parameters_of m.now) ≡ length es.now }
-    ensures { IfOk result (λ inner. Begins t.now names.now work.old m.now i
+    requires { length (parameters_of (macro_view m.now)) ≡ length es.now }
+    ensures { IfOk result (λ inner. Begins t.now names.now work.old (macro_view m.now) i
         (expressions_of es.now) inner work.new) }
 {
     let of = m.of;
@@ -165,10 +190,11 @@ fn enter<'s, 'a>(
     x: &Stmt<'a>,
 ) -> Result<(), AllocError>
     requires within { frame.at < length frame.body.now }
-    requires called { statement_macro macros.now frame.limit (statement_of x.now) ≡ Some i }
+    requires called { statement_macro (bodies_of macros.now) frame.limit (statement_of x.now)
+        ≡ Some i }
     requires left { left_in frame ≡ statement_of x.now ∷ left_in (gone_on frame frame.names) }
-    ensures { OnOk result (outcome t.now macros.now work.new
-        ≡ outcome_with t.now macros.now frame.entry work.old) }
+    ensures { OnOk result (outcome t.now (bodies_of macros.now) work.new
+        ≡ outcome_with t.now (bodies_of macros.now) frame.entry work.old) }
 {
     match x {
         Stmt::Invoke(_, es) => {
@@ -198,8 +224,8 @@ fn read<'s, 'a>(
     work: &mut Work<'s, 'a>,
     frame: Frame<'s, 'a>,
 ) -> Result<(), AllocError>
-    ensures { OnOk result (outcome t.now macros.now work.new
-        ≡ outcome_with t.now macros.now frame.entry work.old) }
+    ensures { OnOk result (outcome t.now (bodies_of macros.now) work.new
+        ≡ outcome_with t.now (bodies_of macros.now) frame.entry work.old) }
 {
     let body = frame.body;
     let at = frame.at;
@@ -224,8 +250,8 @@ pub fn read_all<'s, 'a>(
     work: &mut Work<'s, 'a>,
 ) -> Result<(), AllocError>
     ensures done { OnOk result (work.new.frames.items ≡ []) }
-    ensures outcome { OnOk result (outcome t.now macros.now work.new
-        ≡ outcome t.now macros.now work.old) }
+    ensures outcome { OnOk result (outcome t.now (bodies_of macros.now) work.new
+        ≡ outcome t.now (bodies_of macros.now) work.old) }
 {
     'rounds: for _round in 0..u64::MAX {
         match work.frames.pop() {

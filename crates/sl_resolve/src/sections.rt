@@ -3,6 +3,7 @@
 ghost use Rattle.std.specs.Prelude.{◌≡◌, ◌≤◌, [], IfOk, OnOk};
 ghost use Rattle.sl_ast.specs.Views.{statements_of};
 ghost use Rattle.sl_section.specs.Views.{steps_of};
+ghost use Rattle.sl_resolve.specs.Macros.{bodies_of};
 ghost use Rattle.sl_resolve.specs.Steps.{section_steps, section_variables};
 
 use crate::macros::MacroBody;
@@ -27,9 +28,10 @@ fn steps<'s, 'a>(
     body: &'s [Stmt<'a>],
 ) -> Result<Work<'s, 'a>, AllocError>
     ensures steps { IfOk result (λ w. steps_of w.steps.items
-        ≡ section_steps t.now macros.now reach operands.now (statements_of body.now)) }
+        ≡ section_steps t.now (bodies_of macros.now) reach operands.now (statements_of body.now)) }
     ensures variables { IfOk result (λ w. w.next
-        ≡ section_variables t.now macros.now reach operands.now (statements_of body.now)) }
+        ≡ section_variables t.now (bodies_of macros.now) reach operands.now
+        (statements_of body.now)) }
 {
     let steps = unplaced(alloc, operands, body)?;
     let own = named_operands(alloc, t, operands)?;
@@ -68,9 +70,10 @@ pub fn resolve<'s, 'a>(
     body: &'s [Stmt<'a>],
 ) -> Result<Section<'a>, AllocError>
     ensures steps { IfOk result (λ s. steps_of s.steps.items
-        ≡ section_steps t.now macros.now reach operands.now (statements_of body.now)) }
+        ≡ section_steps t.now (bodies_of macros.now) reach operands.now (statements_of body.now)) }
     ensures variables { IfOk result (λ s. s.variables
-        ≡ section_variables t.now macros.now reach operands.now (statements_of body.now)) }
+        ≡ section_variables t.now (bodies_of macros.now) reach operands.now
+        (statements_of body.now)) }
 {
     let work = steps(alloc, t, macros, reach, operands, body)?;
     if work.next > MOST_VARIABLES {

@@ -10,7 +10,7 @@ use Rattle.sl_equations.specs.Known.{size_in}
 use Rattle.sl_equations.specs.Uses.{exported_size}
 use Rattle.sl_sizing.specs.Laws.{AllFit, AreOrdered, NoneIsBelow, NoneIsOf, TablesAreBelow}
 use Rattle.sl_sizing.specs.Sizings as z
-use Rattle.sl_sizing.specs.declared.constructor.Constructor.{Constructor}
+use Rattle.sl_sizing.specs.Constructors.{Constructor}
 
 get_other : (xs : List (Option ℕ)) (u t : ℕ) (v : Option ℕ) → t ≢ u → slice_get (slice_set xs u v) t ≡ slice_get xs t
 get_other [] u t v other = refl
@@ -79,7 +79,7 @@ module _ (address : Option ℕ → ℕ) (last : List (Option ℕ)) where
       let here : size_in now c.table ≡ Some n = subst (λ (t : ℕ). size_in now t ≡ Some n) same.1 there in
       let alike : z.is_alike (Some n) (exported_size s (z.steps_in c)) ≡ true =
       subst (λ (e : Option ℕ). z.is_alike e (exported_size s (z.steps_in c)) ≡ true) here
-      (both_true (section_fits (bytes_at s) (size_in (z.operand_sizes now c.operands.now)) (z.steps_in c))
+      (both_true (section_fits (bytes_at s) (size_in (z.operand_sizes now c.operands)) (z.steps_in c))
       (z.is_alike (size_in now c.table) (exported_size s (z.steps_in c))) sized.keeps).1 in
       subst (λ (t : ℕ). size_in (z.after address now c s) t ≡ Some n) (sym same.1)
       (alike_keeps now c.table n (exported_size s (z.steps_in c)) here alike)
@@ -98,9 +98,9 @@ module _ (address : Option ℕ → ℕ) (last : List (Option ℕ)) where
   whole now [] (s ∷ ss) below ordered sized = absurd sized
   whole now (c ∷ cs) [] below ordered sized = absurd sized
   whole now (c ∷ cs) (s ∷ ss) below ordered sized =
-      let same : z.operand_sizes last c.operands.now ≡ z.operand_sizes now c.operands.now =
-      same_operands now c.operands.now (c ∷ cs) (s ∷ ss) ordered.0 sized in
-      let fits = both_true (section_fits (bytes_at s) (size_in (z.operand_sizes now c.operands.now)) (z.steps_in c))
+      let same : z.operand_sizes last c.operands ≡ z.operand_sizes now c.operands =
+      same_operands now c.operands (c ∷ cs) (s ∷ ss) ordered.0 sized in
+      let fits = both_true (section_fits (bytes_at s) (size_in (z.operand_sizes now c.operands)) (z.steps_in c))
       (z.is_alike (size_in now c.table) (exported_size s (z.steps_in c))) sized.0.keeps in (
         record {
           has = subst (λ (os : List (Option ℕ)). z.HasSizes address (size_in os) c s) (sym same) sized.0.has;

@@ -4,7 +4,7 @@ use Rattle.std.proofs.lemmas.List.{drop_more}
 use Rattle.std.proofs.Math.ListN.{drop_of_length-le}
 use Rattle.sl_word.specs.declared.word.Size.{Size}
 use Rattle.sl_sizing.specs.Sizings as z
-use Rattle.sl_sizing.specs.declared.constructor.Constructor.{Constructor}
+use Rattle.sl_sizing.specs.Constructors.{Constructor}
 use Rattle.sl_sizing.specs.declared.stop.Stop.{Stop}
 use Rattle.sl_sizing.specs.declared.stop.Stop.TheVariants as p
 

@@ -7,7 +7,7 @@ use Rattle.sl_equations.specs.Fits.{section_fits}
 use Rattle.sl_equations.specs.Known.{size_in}
 use Rattle.sl_equations.specs.Uses.{exported_size}
 use Rattle.sl_sizing.specs.Sizings.{AreSized, HasSizes, operand_sizes, steps_in}
-use Rattle.sl_sizing.specs.declared.constructor.Constructor.{Constructor}
+use Rattle.sl_sizing.specs.Constructors.{Constructor}
 
 -- None of the constructors is one of the table.
 abbrev pub NoneIsOf : (table : ℕ) → List Constructor → Type 0
@@ -23,7 +23,7 @@ NoneIsBelow (Some table ∷ os) cs = NoneIsOf table cs × NoneIsBelow os cs
 -- Each constructor stands behind all of the tables that its operands are.
 abbrev pub AreOrdered : List Constructor → Type 0
 AreOrdered [] = ⊤
-AreOrdered (c ∷ cs) = NoneIsBelow c.operands.now (c ∷ cs) × AreOrdered cs
+AreOrdered (c ∷ cs) = NoneIsBelow c.operands (c ∷ cs) × AreOrdered cs
 
 -- Each constructor's table has a number below n.
 abbrev pub TablesAreBelow : (n : ℕ) → List Constructor → Type 0
@@ -32,7 +32,7 @@ TablesAreBelow n (c ∷ cs) = (c.table < n) × TablesAreBelow n cs
 
 module _ (address : Option ℕ → ℕ) (last : List (Option ℕ)) where
   abbrev pub operands_of : Constructor → ℕ → Option ℕ
-  operands_of c = size_in (operand_sizes last c.operands.now)
+  operands_of c = size_in (operand_sizes last c.operands)
 
   -- A section has its only sizes, by those that the tables export, and keeps rule 40.
   pub record FitsAll (c : Constructor) (sizes : List Size) : Type 0 where

@@ -1,2 +1,3 @@
+pub mod Constructors
 pub mod Laws
 pub mod Sizings

@@ -4,7 +4,6 @@ use Rattle.std.specs.Prelude.{◌≡◌, ℕ, zero, suc, ◌==◌, ◌&&◌, Boo
 use Rattle.std.specs.Prelude.{List, [], ◌∷◌, Vec, length, map, slice_set, Option, Some, None}
 use Rattle.std.specs.declared.alloc.Global.{Global}
 use Rattle.sl_section.specs.Sections.{Step}
-use Rattle.sl_section.specs.Views.{steps_of}
 use Rattle.sl_sizes.specs.Solutions.{IsFirstClash, IsFirstUnfixed, IsOnlySolution, bytes_at}
 use Rattle.sl_sizes.specs.declared.Equation.{Equation}
 use Rattle.sl_sizes.specs.declared.SizeError.TheVariants as f
@@ -14,7 +13,7 @@ use Rattle.sl_equations.specs.Equations.{section_equations}
 use Rattle.sl_equations.specs.Fits.{section_fits}
 use Rattle.sl_equations.specs.Known.{size_in}
 use Rattle.sl_equations.specs.Uses.{exported_size}
-use Rattle.sl_sizing.specs.declared.constructor.Constructor.{Constructor}
+use Rattle.sl_sizing.specs.Constructors.{Constructor}
 use Rattle.sl_sizing.specs.declared.stop.Stop.{Stop}
 use Rattle.sl_sizing.specs.declared.stop.Stop.TheVariants as p
 use Rattle.sl_sizing.specs.declared.stop.SizingError.{SizingError}
@@ -46,7 +45,7 @@ abbrev pub lists_of : List (Vec Size Global) → List (List Size)
 lists_of xs = map (λ v. v.items) xs
 
 abbrev pub steps_in : Constructor → List Step
-steps_in c = steps_of c.section.now.steps.items
+steps_in c = c.steps
 
 -- The equations have several solutions or none, as the error says.
 abbrev pub Refuses : ℕ → List Equation → SizeError → Type 0
@@ -61,8 +60,8 @@ module _ (address : Option ℕ → ℕ) (operand : ℕ → Option ℕ) where
 
   -- Each variable of the section has its only size.
   pub record HasSizes (c : Constructor) (sizes : List Size) : Type 0 where
-    pub count : length sizes ≡ c.section.now.variables
-    pub only : IsOnlySolution c.section.now.variables (equations_of c) (bytes_at sizes)
+    pub count : length sizes ≡ c.variables
+    pub only : IsOnlySolution c.variables (equations_of c) (bytes_at sizes)
 
 -- by the size of earlier exports of the table, too
 module _ (address : Option ℕ → ℕ) (operand : ℕ → Option ℕ) (earlier : Option ℕ) where
@@ -82,7 +81,7 @@ module _ (address : Option ℕ → ℕ) (operand : ℕ → Option ℕ) (earlier 
 
   -- Why there are no sizes that keep the rule; memory may run out at any point.
   abbrev pub StopsBy : Constructor → Stop → Type 0
-  StopsBy c (p.Sizes error) = Refuses c.section.now.variables (equations_of address operand c) error
+  StopsBy c (p.Sizes error) = Refuses c.variables (equations_of address operand c) error
   StopsBy c p.Rule = BreaksRule c
   StopsBy c p.NoMemory = ⊤
 
@@ -90,11 +89,11 @@ module _ (address : Option ℕ → ℕ) (operand : ℕ → Option ℕ) (earlier 
 
 module _ (address : Option ℕ → ℕ) where
   abbrev pub IsSized : List (Option ℕ) → Constructor → List Size → Type 0
-  IsSized exports c sizes = IsSizedBy address (size_in (operand_sizes exports c.operands.now))
+  IsSized exports c sizes = IsSizedBy address (size_in (operand_sizes exports c.operands))
       (size_in exports c.table) c sizes
 
   abbrev pub StopsAt : List (Option ℕ) → Constructor → Stop → Type 0
-  StopsAt exports c stop = StopsBy address (size_in (operand_sizes exports c.operands.now))
+  StopsAt exports c stop = StopsBy address (size_in (operand_sizes exports c.operands))
       (size_in exports c.table) c stop
 
   -- the sizes that tables export, behind a constructor

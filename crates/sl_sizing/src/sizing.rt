@@ -4,6 +4,7 @@ ghost use Rattle.std.specs.Prelude.{◌≡◌, IfErr, IfOk, replicate, None, opt
 ghost use Rattle.sl_section.specs.Views.{bytes_of};
 ghost use Rattle.sl_equations.specs.Known.{address_in, address_size, addresses_of, exports_of};
 ghost use Rattle.sl_equations.specs.Known.{operand_size, size_in};
+ghost use Rattle.sl_sizing.specs.Constructors.{constructor_of, constructors_of};
 ghost use Rattle.sl_sizing.specs.Sizings as z;
 
 use crate::constructor::Constructor;
@@ -34,9 +35,10 @@ fn sized(
     constructor: &Constructor<'_, '_>,
 ) -> Result<Vec<Size>, Stop>
     ensures sizes { IfOk result (λ sizes. z.IsSizedBy (address_size known.now)
-        (operand_size known.now) (option_map bytes_of earlier) constructor.now sizes.items) }
+        (operand_size known.now) (option_map bytes_of earlier)
+        (constructor_of constructor.now) sizes.items) }
     ensures stop { IfErr result (z.StopsBy (address_size known.now)
-        (operand_size known.now) (option_map bytes_of earlier) constructor.now) }
+        (operand_size known.now) (option_map bytes_of earlier) (constructor_of constructor.now)) }
 {
     let section = constructor.section;
     let sizes = sizes_of(alloc, known, section).map_err(stop_of)?;
@@ -59,9 +61,9 @@ fn sized_behind(
 ) -> Result<Vec<Size>, Stop>
     ensures sizes { IfOk result (λ sizes.
         z.IsSized (address_in (addresses_of spaces.now) default.bytes) (exports_of exports.now)
-        constructor.now sizes.items) }
+        (constructor_of constructor.now) sizes.items) }
     ensures stop { IfErr result (z.StopsAt (address_in (addresses_of spaces.now) default.bytes)
-        (exports_of exports.now) constructor.now) }
+        (exports_of exports.now) (constructor_of constructor.now)) }
 {
     let operands = match operand_sizes(alloc, exports, constructor.operands) {
         Ok(operands) => operands,
@@ -87,12 +89,12 @@ fn next_sizes(
 ) -> Result<Vec<Size>, Stop>
     ensures sizes { IfOk result (λ sizes.
         z.IsSized (address_in (addresses_of spaces.now) default.bytes)
-        (exports_of exports.old.items) constructor.now sizes.items) }
+        (exports_of exports.old.items) (constructor_of constructor.now) sizes.items) }
     ensures kept { IfOk result (λ sizes. exports_of exports.new.items
         ≡ z.after (address_in (addresses_of spaces.now) default.bytes)
-        (exports_of exports.old.items) constructor.now sizes.items) }
+        (exports_of exports.old.items) (constructor_of constructor.now) sizes.items) }
     ensures stop { IfErr result (z.StopsAt (address_in (addresses_of spaces.now) default.bytes)
-        (exports_of exports.old.items) constructor.now) }
+        (exports_of exports.old.items) (constructor_of constructor.now)) }
 {
     match sized_behind(alloc, spaces, default, exports.as_slice(), constructor) {
         Ok(sizes) => {
@@ -124,10 +126,11 @@ pub fn all_sizes(
 ) -> Result<Sizes, SizingError>
     ensures sizes { IfOk result (λ v.
         z.AreSized (address_in (addresses_of spaces.now) default.bytes) (replicate tables None)
-        constructors.now (z.lists_of v.sections.items) (exports_of v.exports.items)) }
+        (constructors_of constructors.now) (z.lists_of v.sections.items)
+        (exports_of v.exports.items)) }
     ensures error { IfErr result (
         z.IsError (address_in (addresses_of spaces.now) default.bytes) (replicate tables None)
-        constructors.now) }
+        (constructors_of constructors.now)) }
 {
     let mut exports = match unknown(alloc, tables) {
         Ok(exports) => exports,

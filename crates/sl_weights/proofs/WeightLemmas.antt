@@ -8,7 +8,7 @@ use Rattle.sl_ast.specs.Trees.{Constructor}
 use Rattle.sl_levels.specs.Levels.{TakesSuccessors}
 use Rattle.sl_levels.specs.Orders.{NoneReaches}
 use Rattle.sl_levels.specs.Reaching.{successors}
-use Rattle.sl_resolve.specs.declared.macros.MacroBody.{MacroBody}
+use Rattle.sl_resolve.specs.Macros.{Body}
 use Rattle.sl_rules.specs.Gathered.{gathered}
 use Rattle.sl_tables.specs.Amounts.{node_amount}
 use Rattle.sl_tables.specs.Lengths.{put_together}
@@ -23,11 +23,11 @@ use Rattle.sl_tables.proofs.CapLemmas.{max_keeps}
 use Rattle.sl_tables.proofs.StepLemmas.{Alike, all_left, all_of, all_right, sum_as, sums_alike, tables_at}
 use Rattle.sl_weights.specs.Weights.{first_heavy, is_heavy, macro_weights, row_weight, section_weight, step, table_weight}
 
-pub row_as : (macros : List MacroBody) (f : ℕ → ℕ) (r : Row)
+pub row_as : (macros : List Body) (f : ℕ → ℕ) (r : Row)
     → row_weight macros f r ≡ put_together (λ m n. m + n) (section_weight macros (macro_weights macros) r.1.1.section) (map (λ o. node_amount f o.means) r.0.operands)
 row_as macros f r = sum_as f r.0.operands (section_weight macros (macro_weights macros) r.1.1.section)
 
-module _ (macros : List MacroBody) (cap : ℕ) (f g : ℕ → ℕ) where
+module _ (macros : List Body) (cap : ℕ) (f g : ℕ → ℕ) where
   pub row_alike : (r : Row) → Alike cap f g (tables_of r.0) → min (row_weight macros f r) cap ≡ min (row_weight macros g r) cap
   row_alike r h = let e = sums_alike cap f g (tables_of r.0) h in omega arith
 
@@ -42,7 +42,7 @@ module _ (macros : List MacroBody) (cap : ℕ) (f g : ℕ → ℕ) where
   pub step_alike : (rs : List Row) → Alike cap f g (tables_in rs) → min (step macros f rs) cap ≡ min (step macros g rs) cap
   step_alike rs h = together rs h 0 0 refl
 
-module _ (macros : List MacroBody) (gs : List (List Row)) where
+module _ (macros : List Body) (gs : List (List Row)) where
   at_successors : (cap v : ℕ) (f g : ℕ → ℕ) → ((w : ℕ) → Contains (successors (graph gs) v) w → min (f w) cap ≡ min (g w) cap)
       → min (step macros f (group_of gs v)) cap ≡ min (step macros g (group_of gs v)) cap
   at_successors cap v f g each = step_alike macros cap f g (group_of gs v)
@@ -90,7 +90,7 @@ none_reach t cs h =
     none_reaches (length t.tables) gs rs refl
     (nowhere 34 (reaching_place gs rs) (first_fault (amount_rules t gs rs)) (none_behind (early_rules t rs) ((34, reaching_place gs rs) ∷ amount_rules t gs rs) h))
 
-module _ (macros : List MacroBody) (gs : List (List Row)) where
+module _ (macros : List Body) (gs : List (List Row)) where
   abbrev pub heavy_by : List ℕ → Row → Bool
   heavy_by values r = nat_lt 65536 (min (row_weight macros (λ u. get_or values u 0) r) 65537)
 
@@ -103,7 +103,7 @@ module _ (macros : List MacroBody) (gs : List (List Row)) where
           (row_alike macros 65537 (λ u. get_or values u 0) (table_weight macros gs) r
           (all_of (λ u. min (get_or values u 0) 65537 ≡ min (table_weight macros gs u) 65537) (tables_of r.0) (λ u c. let e = right u in omega arith)))
 
-pub first_as : (t : Tables) (macros : List MacroBody) (cs : List (Placed Constructor)) (rs : List Row) (gs : List (List Row)) → rs ≡ rows t cs → gs ≡ groups (length t.tables) rs
+pub first_as : (t : Tables) (macros : List Body) (cs : List (Placed Constructor)) (rs : List Row) (gs : List (List Row)) → rs ≡ rows t cs → gs ≡ groups (length t.tables) rs
     → position (is_heavy macros gs) rs ≡ first_heavy t macros cs
 unfolding first_heavy
 first_as t macros cs rs gs is grouped =

@@ -2,6 +2,7 @@
 
 ghost use Rattle.std.specs.Prelude.{◌≡◌, get_or, map, min, IfOk};
 ghost use Rattle.sl_ast.specs.Views.{section_of, statement_of, statements_of};
+ghost use Rattle.sl_resolve.specs.Macros.{bodies_of};
 ghost use Rattle.sl_weights.specs.Weights.{body_weight, call_weight, macro_weights};
 ghost use Rattle.sl_weights.specs.Weights.{section_weight};
 
@@ -29,7 +30,7 @@ fn call_weight<'s, 'a>(
     weights: &[usize],
     of: &Stmt<'a>,
 ) -> usize
-    ensures { result ≡ call_weight macros.now weights.now (statement_of of.now) }
+    ensures { result ≡ call_weight (bodies_of macros.now) weights.now (statement_of of.now) }
 {
     match of {
         Stmt::Invoke(name, _) => match macros.index_of(name) {
@@ -55,7 +56,8 @@ fn body_weight<'s, 'a>(
     weights: &[usize],
     body: &[Stmt<'a>],
 ) -> usize
-    ensures { result ≡ min (body_weight macros.now weights.now (statements_of body.now)) 65537 }
+    ensures { result ≡ min (body_weight (bodies_of macros.now) weights.now
+        (statements_of body.now)) 65537 }
 {
     let mut weight = 0;
     'statements: for index in 0..body.len() {
@@ -72,7 +74,7 @@ pub fn macro_weights<'s, 'a>(
     macros: &Named<'a, MacroBody<'s, 'a>>,
 ) -> Result<Vec<usize>, AllocError>
     ensures { IfOk result (λ weights. weights.items
-        ≡ map (λ n. min n 65537) (macro_weights macros.now)) }
+        ≡ map (λ n. min n 65537) (macro_weights (bodies_of macros.now))) }
 {
     let mut weights = Vec::new(alloc);
     'macros: for index in 0..macros.len() {
@@ -90,8 +92,9 @@ pub fn section_weight<'s, 'a>(
     weights: &[usize],
     section: &Section<'a>,
 ) -> usize
-    requires { weights.now ≡ map (λ n. min n 65537) (macro_weights macros.now) }
-    ensures { result ≡ min (section_weight macros.now (macro_weights macros.now)
+    requires { weights.now ≡ map (λ n. min n 65537) (macro_weights (bodies_of macros.now)) }
+    ensures { result ≡ min (section_weight (bodies_of macros.now)
+        (macro_weights (bodies_of macros.now))
         (section_of section.now)) 65537 }
 {
     match section {

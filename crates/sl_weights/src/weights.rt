@@ -3,6 +3,7 @@
 ghost use Rattle.std.specs.Prelude.{◌≡◌, ◌≤◌, ◌+◌, ℕ, None, nat_lt, set, get_or, map, min};
 ghost use Rattle.std.specs.Prelude.{IfOk, position};
 ghost use Rattle.sl_levels.specs.Orders.{IsOrder};
+ghost use Rattle.sl_resolve.specs.Macros.{bodies_of};
 ghost use Rattle.sl_spec.specs.Unfolded.{all_placed};
 ghost use Rattle.sl_tables.specs.Amounts.{node_amount};
 ghost use Rattle.sl_tables.specs.Lengths.{put_together};
@@ -54,9 +55,10 @@ fn row_weight<'s, 'a>(
     values: &[usize],
     row: &Row<'_, '_, 'a>,
 ) -> usize
-    requires { weights.now ≡ map (λ n. min n 65537) (macro_weights macros.now) }
+    requires { weights.now ≡ map (λ n. min n 65537) (macro_weights (bodies_of macros.now)) }
     ensures { result
-        ≡ min (row_weight macros.now (λ u. get_or values.now u 0) (row_of row.now)) 65537 }
+        ≡ min (row_weight (bodies_of macros.now) (λ u. get_or values.now u 0)
+        (row_of row.now)) 65537 }
 {
     let ctor = row.ctor;
     let own = row.own;
@@ -72,9 +74,9 @@ fn greatest_weight<'s, 'a>(
     values: &[usize],
     rows: &[Row<'_, '_, 'a>],
 ) -> usize
-    requires { weights.now ≡ map (λ n. min n 65537) (macro_weights macros.now) }
+    requires { weights.now ≡ map (λ n. min n 65537) (macro_weights (bodies_of macros.now)) }
     ensures { result
-        ≡ min (step macros.now (λ u. get_or values.now u 0) (rows_of rows.now)) 65537 }
+        ≡ min (step (bodies_of macros.now) (λ u. get_or values.now u 0) (rows_of rows.now)) 65537 }
 {
     let mut most = 0;
     'rows: for index in 0..rows.len() {
@@ -92,8 +94,8 @@ fn table_weight<'s, 'a>(
     groups: &[Vec<Row<'_, '_, 'a>>],
     table: usize,
 ) -> usize
-    requires { weights.now ≡ map (λ n. min n 65537) (macro_weights macros.now) }
-    ensures { result ≡ min (step macros.now (λ u. get_or values.now u 0)
+    requires { weights.now ≡ map (λ n. min n 65537) (macro_weights (bodies_of macros.now)) }
+    ensures { result ≡ min (step (bodies_of macros.now) (λ u. get_or values.now u 0)
         (group (groups_of groups.now) table)) 65537 }
 {
     if table < groups.len() {
@@ -120,10 +122,10 @@ fn table_weights<'s, 'a>(
     groups: &[Vec<Row<'_, '_, 'a>>],
     order: &[usize],
 ) -> Result<Vec<usize>, AllocError>
-    requires { weights.now ≡ map (λ n. min n 65537) (macro_weights macros.now) }
+    requires { weights.now ≡ map (λ n. min n 65537) (macro_weights (bodies_of macros.now)) }
     ensures { IfOk result (λ values. IsOrder (graph (groups_of groups.now)) order.now
         → (v : ℕ) → get_or values.items v 0
-        ≡ min (w.table_weight macros.now (groups_of groups.now) v) 65537) }
+        ≡ min (w.table_weight (bodies_of macros.now) (groups_of groups.now) v) 65537) }
 {
     let mut values = vec![in alloc; 0usize; groups.len()]?;
     'order: for place in 0..order.len() {
@@ -141,9 +143,10 @@ fn is_heavy<'s, 'a>(
     values: &[usize],
     row: &Row<'_, '_, 'a>,
 ) -> bool
-    requires { weights.now ≡ map (λ n. min n 65537) (macro_weights macros.now) }
+    requires { weights.now ≡ map (λ n. min n 65537) (macro_weights (bodies_of macros.now)) }
     ensures { result ≡ nat_lt 65536
-        (min (row_weight macros.now (λ u. get_or values.now u 0) (row_of row.now)) 65537) }
+        (min (row_weight (bodies_of macros.now) (λ u. get_or values.now u 0)
+        (row_of row.now)) 65537) }
 {
     row_weight(macros, weights, values, row) > MOST_WEIGHT
 }
@@ -155,9 +158,10 @@ fn heavy_index<'s, 'a>(
     values: &[usize],
     rows: &[Row<'_, '_, 'a>],
 ) -> Option<usize>
-    requires { weights.now ≡ map (λ n. min n 65537) (macro_weights macros.now) }
+    requires { weights.now ≡ map (λ n. min n 65537) (macro_weights (bodies_of macros.now)) }
     ensures { result ≡ position (λ r. nat_lt 65536
-        (min (row_weight macros.now (λ u. get_or values.now u 0) r) 65537)) (rows_of rows.now) }
+        (min (row_weight (bodies_of macros.now) (λ u. get_or values.now u 0) r) 65537))
+        (rows_of rows.now) }
 {
     'rows: for index in 0..rows.len() {
         let row = rows[index];
@@ -180,7 +184,7 @@ pub fn first_heavy<'s, 'a>(
     constructors: &[Unfolded<'s, 'a>],
 ) -> Result<Option<usize>, AllocError>
     ensures { IfOk result (λ index. late_fault t.now (all_placed constructors.now) ≡ None
-        → index ≡ first_heavy t.now macros.now (all_placed constructors.now)) }
+        → index ≡ first_heavy t.now (bodies_of macros.now) (all_placed constructors.now)) }
 {
     let rows = all_rows(alloc, t.constructors.as_slice(), constructors)?;
     let groups = grouped(alloc, t.tables.len(), rows.as_slice())?;

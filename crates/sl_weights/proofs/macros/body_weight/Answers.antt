@@ -1,6 +1,7 @@
 use Rattle.std.proofs.Common.{◌≡◌, ◌+◌, ℕ, map, min, ap, sym, ◌∙◌, arith}
 use Rattle.sl_ast.specs.Trees.{Statement}
 use Rattle.sl_ast.specs.Views.{statement_of, statements_of}
+use Rattle.sl_resolve.specs.Macros.{bodies_of}
 use Rattle.sl_rules.proofs.Seen.{below_map, past_map, seen_map}
 use Rattle.sl_tables.proofs.CapLemmas.{all_together, one_together, sum_keeps}
 use Rattle.sl_weights.proofs.BodyLemmas.{body_as, cut, statement_weight}
@@ -8,7 +9,7 @@ use Rattle.sl_weights.proofs.macros.body_weight.Goals as goal
 
 pub statements-preserved : goal.statements-preserved
 statements-preserved c =
-    let g : Statement → ℕ = statement_weight c.args.macros.now c.args.weights.now in
+    let g : Statement → ℕ = statement_weight (bodies_of c.args.macros.now) c.args.weights.now in
     let body = c.args.body.now in
     let i = c.statements.index in
     let x = c.index-body-index.result in
@@ -28,9 +29,9 @@ statements-preserved c =
 
 pub returns : goal.returns
 returns c =
-    let g : Statement → ℕ = statement_weight c.args.macros.now c.args.weights.now in
+    let g : Statement → ℕ = statement_weight (bodies_of c.args.macros.now) c.args.weights.now in
     let body = c.args.body.now in
     let past = past_map g (statements_of body) c.statements.index (past_map statement_of body c.statements.index c.statements-test.false) in
     let all = all_together 65537 (λ a b. a + b) (sum_keeps 65537) _ c.statements.weight (map g (statements_of body)) c.statements.index past c.statements.invariant.alike in
     let small : c.statements.weight ≡ min c.statements.weight 65537 = (let s = c.statements.invariant.small in omega arith) in
-    small ∙ all ∙ ap cut (sym (body_as c.args.macros.now c.args.weights.now (statements_of body)))
+    small ∙ all ∙ ap cut (sym (body_as (bodies_of c.args.macros.now) c.args.weights.now (statements_of body)))

@@ -1,12 +1,13 @@
 use Rattle.std.proofs.Common.{ap, sym, ◌∙◌, List, ℕ}
 use Rattle.sl_ast.specs.Views.{section_of, statements_of}
+use Rattle.sl_resolve.specs.Macros.{bodies_of}
 use Rattle.sl_weights.specs.Weights.{body_weight, macro_weights, section_weight}
 use Rattle.sl_weights.proofs.BodyLemmas.{body_alike, cut}
 use Rattle.sl_weights.proofs.macros.section_weight.Goals as goal
 
 pub returns-in-Statements : goal.returns-in-Statements
 returns-in-Statements c =
-    let macros = c.args.macros.now in
+    let macros = bodies_of c.args.macros.now in
     c.body_weight.ensures
     ∙ ap (λ l. cut (body_weight macros c.args.weights.now (statements_of l))) c.as_slice.ensures.value
     ∙ ap (λ (ws : List ℕ). cut (body_weight macros ws (statements_of c.in-Statements.body.items))) c.requires

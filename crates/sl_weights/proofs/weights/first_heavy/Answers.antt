@@ -4,6 +4,7 @@ use Rattle.std.specs.Prelude.{position}
 use Rattle.sl_levels.specs.Orders.{IsOrder, NoneReaches}
 use Rattle.sl_levels.specs.Reaching.{Graph}
 use Rattle.sl_levels.specs.Views.{graph_of}
+use Rattle.sl_resolve.specs.Macros.{bodies_of}
 use Rattle.sl_spec.specs.Tables.{Ctor}
 use Rattle.sl_spec.specs.Unfolded.{all_placed}
 use Rattle.sl_tables.specs.Rows as spec
@@ -16,7 +17,7 @@ use Rattle.sl_weights.proofs.weights.first_heavy.Goals as goal
 pub returns : goal.returns
 returns c = λ holds.
     let t = c.args.t.now in
-    let macros = c.args.macros.now in
+    let macros = bodies_of c.args.macros.now in
     let cs = all_placed c.args.constructors.now in
     let rs = rows_of c.in_ok-rows.rows.items in
     let gs = groups_of c.in_ok-groups.groups.items in

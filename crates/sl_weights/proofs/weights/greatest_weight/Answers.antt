@@ -1,4 +1,5 @@
 use Rattle.std.proofs.Common.{◌≡◌, ℕ, get_or, map, max, min, ◌∙◌, arith}
+use Rattle.sl_resolve.specs.Macros.{bodies_of}
 use Rattle.sl_rules.proofs.Seen.{below_map, past_map, seen_map}
 use Rattle.sl_tables.specs.Rows as spec
 use Rattle.sl_tables.specs.Views.{row_of, rows_of}
@@ -8,7 +9,7 @@ use Rattle.sl_weights.proofs.weights.greatest_weight.Goals as goal
 
 pub rows-preserved : goal.rows-preserved
 rows-preserved c =
-    let g : spec.Row → ℕ = row_weight c.args.macros.now (λ u. get_or c.args.values.now u 0) in
+    let g : spec.Row → ℕ = row_weight (bodies_of c.args.macros.now) (λ u. get_or c.args.values.now u 0) in
     let rs = c.args.rows.now in
     let i = c.rows.index in
     let r = c.index-rows-index.result in
@@ -25,7 +26,7 @@ rows-preserved c =
 
 pub returns : goal.returns
 returns c =
-    let g : spec.Row → ℕ = row_weight c.args.macros.now (λ u. get_or c.args.values.now u 0) in
+    let g : spec.Row → ℕ = row_weight (bodies_of c.args.macros.now) (λ u. get_or c.args.values.now u 0) in
     let rs = c.args.rows.now in
     let past = past_map g (rows_of rs) c.rows.index (past_map row_of rs c.rows.index c.rows-test.false) in
     let all = all_together 65537 max (max_keeps 65537) _ c.rows.most (map g (rows_of rs)) c.rows.index past c.rows.invariant.alike in

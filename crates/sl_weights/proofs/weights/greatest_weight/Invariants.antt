@@ -1,4 +1,5 @@
 use Rattle.std.proofs.Common.{◌≡◌, ◌≤◌, drop, get_or, map, max, min}
+use Rattle.sl_resolve.specs.Macros.{bodies_of}
 use Rattle.sl_tables.specs.Lengths.{put_together}
 use Rattle.sl_tables.specs.Views.{rows_of}
 use Rattle.sl_weights.specs.Weights.{row_weight}
@@ -6,7 +7,7 @@ use Rattle.sl_weights.proofs.weights.greatest_weight.Given as goal
 
 abbrev pub invariant-rows : goal.invariant-rows
 invariant-rows l =
-    let all = map (row_weight l.macros (λ u. get_or l.values u 0)) (rows_of l.rows) in
+    let all = map (row_weight (bodies_of l.macros) (λ u. get_or l.values u 0)) (rows_of l.rows) in
     record {
       small : l.most ≤ 65537;
       alike : min (put_together max l.most (drop l.index all)) 65537 ≡ min (put_together max 0 all) 65537;

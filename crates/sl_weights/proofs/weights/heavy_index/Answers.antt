@@ -1,4 +1,5 @@
 use Rattle.std.proofs.Common.{ℕ, Bool, get_or, min, nat_lt, sym, ◌∙◌}
+use Rattle.sl_resolve.specs.Macros.{bodies_of}
 use Rattle.sl_rules.proofs.Seen.{below_map, past_map, seen_map}
 use Rattle.sl_tables.specs.Rows as spec
 use Rattle.sl_tables.specs.Views.{row_of, rows_of}
@@ -8,7 +9,7 @@ use Rattle.sl_weights.proofs.weights.heavy_index.Goals as goal
 
 pub rows-preserved : goal.rows-preserved
 rows-preserved c =
-    let test : spec.Row → Bool = λ r. nat_lt 65536 (min (row_weight c.args.macros.now (λ u. get_or c.args.values.now u 0) r) 65537) in
+    let test : spec.Row → Bool = λ r. nat_lt 65536 (min (row_weight (bodies_of c.args.macros.now) (λ u. get_or c.args.values.now u 0) r) 65537) in
     let rs = c.args.rows.now in
     let i = c.rows.index in
     let r = c.index-rows-index.result in
@@ -17,7 +18,7 @@ rows-preserved c =
 
 pub returns-then-is_heavy : goal.returns-then-is_heavy
 returns-then-is_heavy c =
-    let test : spec.Row → Bool = λ r. nat_lt 65536 (min (row_weight c.args.macros.now (λ u. get_or c.args.values.now u 0) r) 65537) in
+    let test : spec.Row → Bool = λ r. nat_lt 65536 (min (row_weight (bodies_of c.args.macros.now) (λ u. get_or c.args.values.now u 0) r) 65537) in
     let rs = c.args.rows.now in
     let i = c.rows.index in
     let r = c.index-rows-index.result in
@@ -26,5 +27,5 @@ returns-then-is_heavy c =
 
 pub returns : goal.returns
 returns c =
-    let test : spec.Row → Bool = λ r. nat_lt 65536 (min (row_weight c.args.macros.now (λ u. get_or c.args.values.now u 0) r) 65537) in
+    let test : spec.Row → Bool = λ r. nat_lt 65536 (min (row_weight (bodies_of c.args.macros.now) (λ u. get_or c.args.values.now u 0) r) 65537) in
     is_nowhere test (rows_of c.args.rows.now) c.rows.index (past_map row_of c.args.rows.now c.rows.index c.rows-test.false) c.rows.invariant

@@ -1,6 +1,7 @@
 use Rattle.std.proofs.Common.{◌≡◌, ◌+◌, ℕ, List, get_or, map, min, ap, sym, ◌∙◌, arith}
 use Rattle.sl_ast.specs.Trees.{Section}
 use Rattle.sl_ast.specs.Views.{constructor_of, section_of}
+use Rattle.sl_resolve.specs.Macros.{bodies_of}
 use Rattle.sl_spec.specs.Tables.{Ctor, Operand}
 use Rattle.sl_spec.specs.Unfolded.{heads_of}
 use Rattle.sl_tables.specs.Amounts.{node_amount}
@@ -17,7 +18,7 @@ pub returns : goal.returns
 returns c =
     let f : ℕ → ℕ = λ u. get_or c.args.values.now u 0 in
     let g : Operand → ℕ = λ o. node_amount f o.means in
-    let macros = c.args.macros.now in
+    let macros = bodies_of c.args.macros.now in
     let row = c.args.row.now in
     let own = row.own.now.own.now in
     let hs = heads_of row.own.now.heads.items in

@@ -2,6 +2,7 @@ use Rattle.std.proofs.Common.{◌≡◌, ◌+◌, ℕ, List, get_or, min, refl, 
 use Rattle.std.proofs.lemmas.List.{length-set}
 use Rattle.std.specs.Prelude.{set}
 use Rattle.sl_levels.proofs.LevelLemmas.{AreRight, all_right, one_right}
+use Rattle.sl_resolve.specs.Macros.{bodies_of}
 use Rattle.sl_tables.specs.Rows as spec
 use Rattle.sl_tables.specs.Views.{groups_of}
 use Rattle.sl_weights.specs.Weights.{step}
@@ -10,7 +11,7 @@ use Rattle.sl_weights.proofs.weights.table_weights.Goals as goal
 
 pub order-preserved : goal.order-preserved
 order-preserved c = λ is.
-    let macros = c.args.macros.now in
+    let macros = bodies_of c.args.macros.now in
     let gs = groups_of c.args.groups.now in
     let order = c.args.order.now in
     let i = c.order.place in
@@ -24,7 +25,7 @@ order-preserved c = λ is.
 
 pub returns : goal.returns
 returns c = λ is.
-    let macros = c.args.macros.now in
+    let macros = bodies_of c.args.macros.now in
     let gs = groups_of c.args.groups.now in
     let all = c.order.invariant is in
     all_right (spec.graph gs) (step macros) (spec.group gs) (takes macros gs) c.args.order.now is 65537 (caps macros gs 65537) c.order.values.items

@@ -1,0 +1,3 @@
+pub mod HeavyLemmas
+pub mod ScopeLemmas
+pub mod ReachingLemmas

@@ -1,0 +1,5 @@
+pub mod FlatSections
+pub mod Judging
+pub mod Laws
+pub mod Scopes
+pub mod Views
