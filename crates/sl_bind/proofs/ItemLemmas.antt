@@ -6,8 +6,8 @@ use Rattle.sl_ast.specs.Trees.{Constructor, Head, Inside, Item, constructor, blo
 use Rattle.sl_ast.specs.Views.{kind_of}
 use Rattle.sl_ast.specs.declared.items.ItemKind.{ItemKind}
 use Rattle.sl_bind.specs.Verdict.{Broken, at, item_step, placed_step, single_step}
-use Rattle.sl_spec.specs.Tables.{Table}
-use Rattle.sl_definitions.specs.declared.known.Known.{Known}
+use Rattle.sl_bind.specs.declared.items.Progress.{Progress}
+use Rattle.sl_section_rules.specs.WholeText.{Whole}
 use Rattle.sl_ast.specs.Unfolding.{Placed, all_in_block, as_items, constructors_inside, count_inside, unfolded_from}
 use Rattle.sl_bind.specs.Steps.{FailsAt, GivesAt, GoesOn, constructor_item}
 use Rattle.sl_bind.specs.declared.stop.Stop.{Stop}
@@ -55,11 +55,11 @@ pub carried : {X Y : Type 0} (view : X → Y) (r : Result X Stop) (there also : 
 carried {Y = Y} view r there also same gives = subst (λ (x : Result Y Broken). GivesAt view r x) same gives
 
 -- an item that is no constructor and no block
-pub single_run : (w : List Table) (k : Known) (n : ℕ) (kind shape : ItemKind) → kind ≡ shape → unfolded_one n (kind_of shape) ≡ (n, kind_of shape) ∷ []
-    → item_step w k (n, kind_of shape) ≡ single_step k n (kind_of shape)
-    → at n (single_step k n (kind_of kind)) ≡ run (placed_step w) k (unfolded_one n (kind_of kind))
+pub single_run : (w : Whole) (k : Progress) (n : ℕ) (kind shape : ItemKind) → kind ≡ shape → unfolded_one n (kind_of shape) ≡ (n, kind_of shape) ∷ []
+    → item_step w k (n, kind_of shape) ≡ single_step w k n (kind_of shape)
+    → at n (single_step w k n (kind_of kind)) ≡ run (placed_step w) k (unfolded_one n (kind_of kind))
 single_run w k n kind shape is one stepped =
-    ap (λ (x : ItemKind). at n (single_step k n (kind_of x))) is ∙ ap (at n) (sym stepped) ∙ sym (one_step (placed_step w) k (n, kind_of shape))
+    ap (λ (x : ItemKind). at n (single_step w k n (kind_of x))) is ∙ ap (at n) (sym stepped) ∙ sym (one_step (placed_step w) k (n, kind_of shape))
     ∙ ap (run (placed_step w) k) (sym one) ∙ ap (λ (x : ItemKind). run (placed_step w) k (unfolded_one n (kind_of x))) (sym is)
 
 -- each item has a number behind it

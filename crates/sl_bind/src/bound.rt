@@ -5,20 +5,22 @@ ghost use Rattle.sl_ast.specs.Unfolding.{unfolded};
 ghost use Rattle.sl_ast.specs.Views.{item_indexes, item_of, items_of};
 ghost use Rattle.sl_bind.specs.Refusals.{Refuses, TellsStop, token_of};
 ghost use Rattle.sl_bind.specs.Steps.{FailsAt, GivesAt};
-ghost use Rattle.sl_bind.specs.Verdict.{item_at, placed_step, taken, unless_late};
+ghost use Rattle.sl_bind.specs.Verdict.{beginning, item_at, known_behind, placed_step};
+ghost use Rattle.sl_bind.specs.Verdict.{taken, unless_late};
 ghost use Rattle.sl_constructors.specs.Steps.{all_tables};
-ghost use Rattle.sl_definitions.specs.Beginning.{opening};
 ghost use Rattle.sl_rules.specs.Demands.{run};
 ghost use Rattle.sl_rules.specs.Gathered.{gathered};
+ghost use Rattle.sl_section_rules.specs.WholeText.{whole_of};
 ghost use Rattle.sl_spec.specs.Unfolded.{all_placed};
 ghost use Rattle.sl_tables.specs.TableRules.{late_fault};
 
 use crate::indexes::first_token;
-use crate::items::take_items;
+use crate::items::{Progress, beginning, take_items};
 use crate::stop::Stop;
 use sl_ast::items::{Item, Spec};
 use sl_constructors::all_tables;
-use sl_definitions::{Known, opening};
+use sl_definitions::Known;
+use sl_section_rules::{Whole, whole_of};
 use sl_spec::{Tables, Unfolded, unfolded_constructors};
 use sl_tables::{Place, judge_tables};
 use std::alloc::{AllocError, Global};
@@ -51,20 +53,36 @@ impl From<AllocError> for BindError {
     }
 }
 
+/// What is known behind all items, and the macros as calls of them are judged.
+fn progress_of<'a>(
+    alloc: Global,
+    whole: &Whole<'a>,
+    items: &[Item<'a>],
+) -> Result<Progress<'a>, Stop>
+    ensures { GivesAt (λ progress. progress) result
+        (run (placed_step whole.now) beginning (unfolded (map item_of items.now))) }
+{
+    let mut progress = beginning(alloc)?;
+    match take_items(alloc, whole, &mut progress, items) {
+        Ok(()) => Ok(progress),
+        Err(stop) => Err(stop),
+    }
+}
+
 /// What is known behind all items.
 fn known_of<'s, 'a>(
     alloc: Global,
     constructors: &[Unfolded<'s, 'a>],
     items: &[Item<'a>],
 ) -> Result<Known<'a>, Stop>
-    ensures { GivesAt (λ known. known) result
-        (run (placed_step (all_tables (all_placed constructors.now))) opening
-        (unfolded (map item_of items.now))) }
+    ensures { GivesAt (λ known. known) result (known_behind
+        (whole_of (all_tables (all_placed constructors.now)) (map item_of items.now))
+        (map item_of items.now)) }
 {
     let tables = all_tables(alloc, constructors)?;
-    let mut known = opening(alloc)?;
-    match take_items(alloc, &tables, &mut known, items) {
-        Ok(()) => Ok(known),
+    let whole = whole_of(alloc, tables, items)?;
+    match progress_of(alloc, &whole, items) {
+        Ok(progress) => Ok(progress.known),
         Err(stop) => Err(stop),
     }
 }

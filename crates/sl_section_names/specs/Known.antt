@@ -122,10 +122,3 @@ names_after t names (local w size value) = with_new names w
 names_after t names (declare w n e) = with_new names w
 names_after t names (assign left e) = left_after t names left
 names_after t names _ = names
-
--- 26, of names: with all tables of the text, what is defined by now, the context's register, and
--- the names that are known at the beginning
-abbrev pub body_knows : List Table → Tables → Option Name → Names → List Statement → Bool
-body_knows all t context names [] = true
-body_knows all t context names (x ∷ xs) = statement_knows t context names all x
-    && body_knows all t context (names_after t names x) xs

@@ -25,8 +25,8 @@ pub fn knows(t: &Tables, context: Option<&[u8]>, names: &Names, name: &[u8]) -> 
     names.symbol_named(t, name).is_some() && !is_context(context, name)
 }
 
-/// Whether a space that is read is defined.
-fn reads(t: &Tables, names: &Names, space: Option<&[u8]>) -> bool
+/// Whether the space of a star form is defined, where one is written.
+pub fn reads(t: &Tables, names: &Names, space: Option<&[u8]>) -> bool
     ensures { result ≡ reads t.now names.now (option_map bytes space.entry) }
 {
     match space {

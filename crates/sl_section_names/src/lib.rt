@@ -4,4 +4,5 @@
 mod expressions;
 mod statements;
 
-pub use statements::body_knows;
+pub use expressions::reads;
+pub use statements::{go_on, statement_knows};

@@ -1,12 +1,12 @@
 //! The names of statements.
 
-ghost use Rattle.std.specs.Prelude.{◌≡◌, IfOk, OnOk, option_map};
+ghost use Rattle.std.specs.Prelude.{◌≡◌, OnOk, option_map};
 ghost use Rattle.std.specs.List.{list_all};
 ghost use Rattle.sl_ast.specs.Trees as trees;
 ghost use Rattle.sl_ast.specs.Views as a;
 ghost use Rattle.sl_ast.specs.Views.{bytes, expression_of, expressions_of};
-ghost use Rattle.sl_ast.specs.Views.{statement_of, statements_of};
-ghost use Rattle.sl_section_names.specs.Known.{body_knows, dest_knows, direct_knows, export_knows};
+ghost use Rattle.sl_ast.specs.Views.{statement_of};
+ghost use Rattle.sl_section_names.specs.Known.{dest_knows, direct_knows, export_knows};
 ghost use Rattle.sl_section_names.specs.Known.{is_new_local, knows_names, left_after, left_knows};
 ghost use Rattle.sl_section_names.specs.Known.{names_after, statement_knows, target_knows};
 ghost use Rattle.sl_section_names.specs.Known.{value_knows, with_new};
@@ -115,8 +115,11 @@ fn all_know(t: &Tables, context: Option<&[u8]>, names: &Names, es: &[Expr]) -> b
     true
 }
 
-/// Whether each name of a statement is known, and a local that it declares is new.
-fn statement_knows(
+/// Rule 26, of a statement's names: each stands for something, by what is defined before its section
+/// or macro, and not for the context's register; a local that it declares is new; a space that is
+/// read is defined. `all` are all tables of the text, `context` is the name of the context's
+/// register, `names` are the operands or parameters and the locals that are declared by now.
+pub fn statement_knows(
     all: &Named<Table>,
     t: &Tables,
     context: Option<&[u8]>,
@@ -173,7 +176,7 @@ fn go_left<'a>(t: &Tables<'a>, names: &mut Names<'a>, left: &Left<'a>) -> Result
 }
 
 /// Adds the local that a statement declares, if it declares one.
-fn go_on<'a>(t: &Tables<'a>, names: &mut Names<'a>, x: &Stmt<'a>) -> Result<(), AllocError>
+pub fn go_on<'a>(t: &Tables<'a>, names: &mut Names<'a>, x: &Stmt<'a>) -> Result<(), AllocError>
     ensures { OnOk result (names.new ≡ names_after t.now names.old (statement_of x.now)) }
 {
     match x {
@@ -189,28 +192,4 @@ fn go_on<'a>(t: &Tables<'a>, names: &mut Names<'a>, x: &Stmt<'a>) -> Result<(), 
         Stmt::Invoke(_, _) => Ok(()),
         Stmt::Label(_) => Ok(()),
     }
-}
-
-/// Rule 26, of names: each name of a section or macro stands for something, by what is defined
-/// before it, and not for the context's register; a local is new; a space that is read is defined.
-/// `all` are all tables of the text, `context` is the name of the context's register, `names` are
-/// the operands or parameters, to which the locals are added.
-pub fn body_knows<'a>(
-    all: &Named<'a, Table<'a>>,
-    t: &Tables<'a>,
-    context: Option<&[u8]>,
-    names: &mut Names<'a>,
-    body: &[Stmt<'a>],
-) -> Result<bool, AllocError>
-    ensures { IfOk result (λ holds. holds ≡ body_knows all.now t.now
-        (option_map bytes context.entry) names.old (statements_of body.now)) }
-{
-    'body: for index in 0..body.len() {
-        let x = &body[index];
-        if !statement_knows(all, t, context, names, x) {
-            return Ok(false);
-        }
-        go_on(t, names, x)?;
-    }
-    Ok(true)
 }

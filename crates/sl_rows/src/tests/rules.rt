@@ -21,7 +21,7 @@ r: \"r\" is a=15 {}
 const NOT_YET: &str = "s:0: not yet\n";
 
 /// What is printed of the frame with a tenth line.
-static LINES: [(&str, &str); 63] = [
+static LINES: [(&str, &str); 79] = [
     ("s:10: rule 1\n", "define endian=big;"),
     (NOT_YET, "define alignment=3;"),
     ("s:10: rule 2\n", "define alignment=17;"),
@@ -94,6 +94,22 @@ static LINES: [(&str, &str); 63] = [
         "s:10: rule 25\n",
         ":n is r & x ; a=1 [ globalset(a, m); ] {}",
     ),
+    (NOT_YET, ":n is r & x { A = B + inst_next; }"),
+    ("s:10: rule 26\n", ":n is r & x { A = nothing; }"),
+    (NOT_YET, "macro f(p, q) { p = q; }"),
+    ("s:10: rule 26\n", "macro f(p, p) { A = p; }"),
+    (NOT_YET, ":n is r & x { *[ram]:1 A = Q; }"),
+    ("s:10: rule 27\n", ":n is r & x { x = A; }"),
+    (NOT_YET, "macro f(p) { p = 1; } :n is x { f(A); }"),
+    ("s:10: rule 27\n", "macro f(p) { p = 1; } :n is x { f(x); }"),
+    (NOT_YET, ":n is r & x { <e> goto <e>; }"),
+    ("s:10: rule 28\n", ":n is r & x { goto <e>; }"),
+    (NOT_YET, ":n is r & x { build r; }"),
+    ("s:10: rule 29\n", ":n is r & x { build r; build r; }"),
+    (NOT_YET, "r: \"s\" is a=14 { export A; }"),
+    ("s:10: rule 30\n", ":n is r & x { export A; }"),
+    (NOT_YET, ":n is r & x { A = zext(Q); }"),
+    ("s:10: rule 31\n", ":n is r & x { nothing(A); }"),
     (NOT_YET, "with r : a=14 { :\"q\" is epsilon {} }"),
     (NOT_YET, "macro p(v) { v = v; }"),
     ("s:10: rule 3\n", "macro r() { }"),

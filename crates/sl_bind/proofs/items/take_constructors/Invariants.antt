@@ -5,4 +5,4 @@ use Rattle.sl_rules.proofs.Runs.{IsRun}
 use Rattle.sl_bind.proofs.items.take_constructors.Given as goal
 
 abbrev pub invariant-constructors : goal.invariant-constructors
-invariant-constructors l = IsRun (placed_step l.tables) l.initial.known (map constructor_item l.all) l.known l.index
+invariant-constructors l = IsRun (placed_step l.whole) l.initial.progress (map constructor_item l.all) l.progress l.index

@@ -12,7 +12,7 @@ returns-in_err-number c =
     let items = c.args.items.now in
     let i = c.items.index in
     let item = c.index-items-index.result in
-    rw (p.1, p.2) (stops (placed_step c.args.tables.now) c.args.known.now (map item_of items) c.in_err-number.field-0.0 c.items.known c.items.number i (item_of item)
+    rw (p.1, p.2) (stops (placed_step c.args.whole.now) c.args.progress.now (map item_of items) c.in_err-number.field-0.0 c.items.progress c.items.number i (item_of item)
     (below_map item_of items i c.items-test.true) (seen_map item_of items i item c.items-test.true c.index-items-index.is) c.in_err-number.ensures.taken c.items.invariant)
 
 pub items-preserved : goal.items-preserved
@@ -20,11 +20,11 @@ items-preserved c =
     let items = c.args.items.now in
     let i = c.items.index in
     let item = c.index-items-index.result in
-    takes_more (placed_step c.args.tables.now) c.args.known.now (map item_of items) c.items.known c.take_item.new.known c.items.number c.in_ok-number.number i (item_of item)
+    takes_more (placed_step c.args.whole.now) c.args.progress.now (map item_of items) c.items.progress c.take_item.new.progress c.items.number c.in_ok-number.number i (item_of item)
     (below_map item_of items i c.items-test.true) (seen_map item_of items i item c.items-test.true c.index-items-index.is) c.in_ok-number.ensures.taken c.in_ok-number.ensures.next c.items.invariant
 
 pub returns : goal.returns
 returns c =
     let items = c.args.items.now in
-    all_taken (placed_step c.args.tables.now) c.args.known.now (map item_of items) c.items.known c.items.number c.items.index
+    all_taken (placed_step c.args.whole.now) c.args.progress.now (map item_of items) c.items.progress c.items.number c.items.index
     (past_map item_of items c.items.index c.items-test.false) c.items.invariant

@@ -5,4 +5,4 @@ use Rattle.sl_bind.proofs.ItemLemmas.{AreTaken}
 use Rattle.sl_bind.proofs.items.take_items.Given as goal
 
 abbrev pub invariant-items : goal.invariant-items
-invariant-items l = AreTaken (placed_step l.tables) l.initial.known (map item_of l.items) l.known l.number l.index
+invariant-items l = AreTaken (placed_step l.whole) l.initial.progress (map item_of l.items) l.progress l.number l.index

@@ -12,31 +12,31 @@ returns-in-Constructor c =
     let n = c.args.number in
     let one = ap (λ (k : ItemKind). unfolded_one n (kind_of k)) c.in-Constructor.is in
     let are = of_constructor n (constructor_of c.in-Constructor.field-0) c.args.constructors.now (c.requires ∙ ap constructors_in one) in
-    carried _ c.take_constructors.result _ _ (ap (run (placed_step c.args.tables.now) c.args.known.now) (are ∙ sym one)) c.take_constructors.ensures
+    carried _ c.take_constructors.result _ _ (ap (run (placed_step c.args.whole.now) c.args.progress.now) (are ∙ sym one)) c.take_constructors.ensures
 
 pub returns-in-With : goal.returns-in-With
 returns-in-With c =
     let n = c.args.number in
     let one = ap (λ (k : ItemKind). unfolded_one n (kind_of k)) c.in-With.is in
     let are = of_block n (head_of c.in-With.field-0) (inside_of c.in-With.field-1.items) c.args.constructors.now (c.requires ∙ ap constructors_in one) in
-    carried _ c.take_constructors-in-With.result _ _ (ap (run (placed_step c.args.tables.now) c.args.known.now) (are ∙ sym one)) c.take_constructors-in-With.ensures
+    carried _ c.take_constructors-in-With.result _ _ (ap (run (placed_step c.args.whole.now) c.args.progress.now) (are ∙ sym one)) c.take_constructors-in-With.ensures
 
 pub returns-in-Define : goal.returns-in-Define
 returns-in-Define c =
     carried _ c.take_single.result _ _
-    (single_run c.args.tables.now c.args.known.now c.args.number c.args.item.now.kind _ c.in-Define.is refl refl) c.take_single.ensures
+    (single_run c.args.whole.now c.args.progress.now c.args.number c.args.item.now.kind _ c.in-Define.is refl refl) c.take_single.ensures
 
 pub returns-in-AttachList : goal.returns-in-AttachList
 returns-in-AttachList c =
     carried _ c.take_single-in-AttachList.result _ _
-    (single_run c.args.tables.now c.args.known.now c.args.number c.args.item.now.kind _ c.in-AttachList.is refl refl) c.take_single-in-AttachList.ensures
+    (single_run c.args.whole.now c.args.progress.now c.args.number c.args.item.now.kind _ c.in-AttachList.is refl refl) c.take_single-in-AttachList.ensures
 
 pub returns-in-AttachOne : goal.returns-in-AttachOne
 returns-in-AttachOne c =
     carried _ c.take_single-in-AttachOne.result _ _
-    (single_run c.args.tables.now c.args.known.now c.args.number c.args.item.now.kind _ c.in-AttachOne.is refl refl) c.take_single-in-AttachOne.ensures
+    (single_run c.args.whole.now c.args.progress.now c.args.number c.args.item.now.kind _ c.in-AttachOne.is refl refl) c.take_single-in-AttachOne.ensures
 
 pub returns-in-Macro : goal.returns-in-Macro
 returns-in-Macro c =
     carried _ c.take_single-in-Macro.result _ _
-    (single_run c.args.tables.now c.args.known.now c.args.number c.args.item.now.kind _ c.in-Macro.is refl refl) c.take_single-in-Macro.ensures
+    (single_run c.args.whole.now c.args.progress.now c.args.number c.args.item.now.kind _ c.in-Macro.is refl refl) c.take_single-in-Macro.ensures

@@ -1,0 +1,4 @@
+mod CountLemmas
+mod HoldingLemmas
+mod PairLemmas
+mod Told

@@ -1,0 +1,6 @@
+pub mod Kinds
+pub mod Macros
+pub mod Scopes
+pub mod SectionRules
+pub mod WholeText
+pub mod Holding
