@@ -1,0 +1,69 @@
+-- meaning: sound tables: no pattern has a fault, and each table is settled.
+use Rattle.std.specs.Prelude.{◌≡◌, ℕ, ◌<◌, List, length, Some, slice_get}
+use Rattle.std.specs.List.{range_with_len}
+use Rattle.sl_ast.specs.Trees.{Constructor}
+use Rattle.sl_ast.specs.Unfolding.{Placed}
+use Rattle.sl_conflict.specs.Ambiguity.{AreSettled, IsFirstAmbiguous, IsOf}
+use Rattle.sl_conflict.specs.declared.judging.ConflictError.{ConflictError}
+use Rattle.sl_conflict.specs.declared.judging.ConflictError.TheVariants as conflict
+use Rattle.sl_conflict.specs.declared.table_sets.TableSets.{TableSets}
+use Rattle.sl_constraints.specs.Sets.{IsUnionOf}
+use Rattle.sl_constructors.specs.Listed.{AreListed}
+use Rattle.sl_cube.specs.declared.Point.{Point}
+use Rattle.sl_levels.specs.Orders.{NoneReaches}
+use Rattle.sl_settle.specs.declared.CubeSet.{CubeSet}
+use Rattle.sl_settle.specs.declared.report.Report.{Report}
+use Rattle.sl_shape.specs.Readings.{HasPoint, IsShaped}
+use Rattle.sl_shape.specs.Tables.{IsError, IsFirstFault, table_graph}
+use Rattle.sl_spec.specs.declared.tables.Tables.{Tables}
+use Rattle.sl_sound.specs.declared.judging.Unsound.{Unsound}
+use Rattle.sl_sound.specs.declared.judging.Unsound.TheVariants as u
+
+-- The tables and the constructors are those of a specification that keeps the rules of tables: each table has its
+-- constructors, and none reaches itself.
+pub record Stand (t : Tables) (cs : List (Placed Constructor)) : Type 0 where
+  pub listed : AreListed t cs
+  pub acyclic : NoneReaches (table_graph t cs)
+
+-- the constructors by their numbers
+abbrev pub numbers : Tables → List ℕ
+numbers t = range_with_len 0 (length t.constructors)
+
+module _ (t : Tables) (cs : List (Placed Constructor)) where
+  -- The constructor is one of the table, and its pattern holds at the point.
+  abbrev pub has_in : ℕ → ℕ → Point → Type 0
+  has_in table number p = IsOf t.constructors table number × HasPoint t cs number p
+
+  -- No pattern has a fault, and at each point that some constructor of a table has, one of them lies properly within each
+  -- other one that has it.
+  pub record IsSound : Type 0 where
+    pub shaped : IsShaped t cs
+    pub settled : AreSettled has_in (numbers t) (length t.tables)
+
+  -- No pattern has a fault, the table is the first that isn't settled, and this is the report on it.
+  pub record IsAmbiguousAt (table : ℕ) (told : Report) : Type 0 where
+    pub shaped : IsShaped t cs
+    pub first : IsFirstAmbiguous has_in (numbers t) t.constructors (length t.tables) table told
+
+  -- the table that isn't settled, with the report; want of memory is free
+  abbrev pub TellsTable : ConflictError → Type 0
+  TellsTable (conflict.Ambiguous table first second both apart) =
+      IsAmbiguousAt table (record { both = both; first = first; second = second; apart = apart })
+  TellsTable conflict.NoMemory = Unit {0}
+
+  -- why the tables aren't sound
+  abbrev pub Refuses : Unsound → Type 0
+  Refuses (u.Shape error) = IsError (IsFirstFault t cs) error
+  Refuses (u.Conflict error) = TellsTable error
+
+  -- The set of the constructor with this number has its points.
+  pub record IsSetOf (number : ℕ) (set : CubeSet) : Type 0 where
+    pub union : IsUnionOf (HasPoint t cs number) set.cubes.items
+
+  -- Each table has its constructors, and a set for each of them.
+  pub record AreSetsOf (kept : List TableSets) : Type 0 where
+    pub counted : length kept ≡ length t.tables
+    pub own : (table : ℕ) (k : TableSets) (place number : ℕ) → slice_get kept table ≡ Some k
+        → slice_get k.ctors.items place ≡ Some number → IsOf t.constructors table number
+    pub sets : (table : ℕ) (k : TableSets) (place number : ℕ) (set : CubeSet) → slice_get kept table ≡ Some k
+        → slice_get k.ctors.items place ≡ Some number → slice_get k.sets.items place ≡ Some set → IsSetOf number set
