@@ -1,0 +1,3 @@
+pub mod LawLemmas
+mod RowTheorems
+pub mod RuleLemmas

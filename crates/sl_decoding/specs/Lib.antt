@@ -1,0 +1,11 @@
+pub mod Actions
+pub mod Decoding
+pub mod Kinds
+pub mod Laws
+pub mod Lookups
+pub mod Meanings
+pub mod Outcomes
+pub mod Places
+pub mod Rules
+pub mod Trees
+pub mod Values

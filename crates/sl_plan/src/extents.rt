@@ -1,0 +1,73 @@
+//! Numbers of bytes by the lengths of operands.
+
+ghost use Rattle.std.specs.Prelude.{◌≡◌, ◌+◌, ◌-◌, ◌^◌, ℕ, List, IfOk, max, min};
+ghost use Rattle.sl_plan.specs.Extents.{extent};
+
+use std::alloc::{AllocError, Global};
+
+/// A number of bytes, by the lengths of the table operands of a node. An operand that has no length
+/// yet counts as 0.
+#[derive(Drop)]
+pub enum Extent {
+    Fixed(u64),
+    /// The length of the operand of this number among the table operands.
+    Operand(usize),
+    Sum(Box<Extent>, Box<Extent>),
+    Greater(Box<Extent>, Box<Extent>),
+}
+
+/// What it comes to; 2^64 - 1 stands for all that is more.
+pub fn extent_of(e: &Extent, lengths: &[u32]) -> u64
+    ensures { result ≡ min (extent e.now lengths.now) (2 ^ 64 - 1) }
+{
+    match e {
+        Extent::Fixed(n) => *n,
+        Extent::Operand(index) => u64::from(lengths.get(*index).copied().unwrap_or(0)),
+        Extent::Sum(a, b) => extent_of(a, lengths).saturating_add(extent_of(b, lengths)),
+        Extent::Greater(a, b) => extent_of(a, lengths).max(extent_of(b, lengths)),
+    }
+}
+
+/// The same once more.
+pub fn again(alloc: Global, e: &Extent) -> Result<Extent, AllocError>
+    ensures { IfOk result (λ r. (lengths : List ℕ) → extent r lengths ≡ extent e.now lengths) }
+{
+    match e {
+        Extent::Fixed(n) => Ok(Extent::Fixed(*n)),
+        Extent::Operand(index) => Ok(Extent::Operand(*index)),
+        Extent::Sum(a, b) => {
+            let left = Box::new(alloc, again(alloc, a)?)?;
+            Ok(Extent::Sum(left, Box::new(alloc, again(alloc, b)?)?))
+        }
+        Extent::Greater(a, b) => {
+            let left = Box::new(alloc, again(alloc, a)?)?;
+            Ok(Extent::Greater(left, Box::new(alloc, again(alloc, b)?)?))
+        }
+    }
+}
+
+/// Both, one behind the other.
+pub fn sum(alloc: Global, a: Extent, b: Extent) -> Result<Extent, AllocError>
+    ensures { IfOk result (λ r. (lengths : List ℕ)
+        → extent r lengths ≡ extent a lengths + extent b lengths) }
+{
+    if let (Extent::Fixed(n), Extent::Fixed(m)) = (&a, &b) {
+        if let Some(total) = n.checked_add(*m) {
+            return Ok(Extent::Fixed(total));
+        }
+    }
+    let left = Box::new(alloc, a)?;
+    Ok(Extent::Sum(left, Box::new(alloc, b)?))
+}
+
+/// The greater of both.
+pub fn greater(alloc: Global, a: Extent, b: Extent) -> Result<Extent, AllocError>
+    ensures { IfOk result (λ r. (lengths : List ℕ)
+        → extent r lengths ≡ max (extent a lengths) (extent b lengths)) }
+{
+    if let (Extent::Fixed(n), Extent::Fixed(m)) = (&a, &b) {
+        return Ok(Extent::Fixed((*n).max(*m)));
+    }
+    let left = Box::new(alloc, a)?;
+    Ok(Extent::Greater(left, Box::new(alloc, b)?))
+}

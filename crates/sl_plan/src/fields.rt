@@ -1,0 +1,138 @@
+//! What fields give.
+
+ghost use Rattle.std.specs.Prelude.{◌≡◌, ◌+◌, ◌-◌, ◌/◌, ◌^◌, min, nat_le, length, take, drop, Ok, Some};
+ghost use Rattle.std.specs.Prelude.{if◌then◌else◌, option_copied, slice_get};
+ghost use Rattle.sl_decoding.specs.Lookups as spec;
+ghost use Rattle.sl_decoding.specs.Lookups.{entry_at, given_by, has_entry, number_at, number_for};
+ghost use Rattle.sl_decoding.specs.Lookups.{shown_by};
+ghost use Rattle.sl_spec.specs.FieldValues.{token_integer, token_of};
+ghost use Rattle.sl_spec.specs.Views.{entries_of};
+
+use sl_decoding::Fault;
+use sl_spec::{Entries, Field, FieldId, Tables, Token};
+
+/// The integer of a token that begins at the place; 0 where it isn't whole there.
+fn whole_number(token: &Token, bytes: &[u8], at: u64) -> u64
+    ensures { result ≡ (if nat_le (at + token.now.bits / 8) (length bytes.now)
+        then token_integer token.now.endian (take (token.now.bits / 8) (drop at bytes.now))
+        else 0) }
+{
+    let size = u64::from(token.bits / 8);
+    let count = bytes.len() as u64;
+    if size <= count && at <= count - size {
+        token.number_at(bytes, at as usize)
+    } else {
+        0
+    }
+}
+
+/// The token of a field; none for a field of the context.
+fn token_of<'t, 'a>(t: &'t Tables<'a>, of: &Field) -> Option<&'t Token<'a>>
+    ensures { option_copied result ≡ token_of t.now.tokens of.now }
+{
+    match of.token {
+        Some(token) => t.tokens.at(token as usize),
+        None => None,
+    }
+}
+
+/// The integer of a field's token that begins at the place, or the context.
+fn number_at(t: &Tables, of: &Field, bytes: &[u8], at: u64, context: u64) -> u64
+    ensures { result ≡ number_at t.now of.now bytes.now at context }
+{
+    match token_of(t, of) {
+        Some(token) => whole_number(token, bytes, at),
+        None => context,
+    }
+}
+
+/// The entry at an index.
+fn entry(numbers: &[Option<i64>], index: u64) -> Option<i64>
+    ensures { result ≡ entry_at numbers.now index }
+{
+    match numbers.get(index as usize) {
+        Some(entry) => *entry,
+        None => None,
+    }
+}
+
+/// What stands for a value in an action.
+fn number_for(entries: &Entries, index: u64, own: i64) -> Option<i64>
+    ensures { result ≡ number_for (entries_of entries.now) index own }
+{
+    match entries {
+        Entries::Registers(_) => Some(own),
+        Entries::Texts(_) => Some(own),
+        Entries::Values(numbers) => entry(numbers, index),
+    }
+}
+
+/// Whether there is an entry at an index.
+fn has_entry(entries: &Entries, index: u64) -> bool
+    ensures { result ≡ has_entry (entries_of entries.now) index }
+{
+    match entries {
+        Entries::Registers(ids) => matches!(ids.get(index as usize), Some(Some(_))),
+        Entries::Texts(names) => matches!(names.get(index as usize), Some(Some(_))),
+        Entries::Values(numbers) => matches!(numbers.get(index as usize), Some(Some(_))),
+    }
+}
+
+/// What a field gives in an action, by the number that it is read from.
+fn given_by(t: &Tables, id: FieldId, of: &Field, number: u64) -> Result<i64, Fault>
+    ensures { result ≡ given_by t.now id of.now number }
+{
+    let index = of.bits_of(number);
+    let own = of.value_of(number);
+    let found = match t.attached.get(id) {
+        Some(attached) => number_for(&attached.entries, index, own),
+        None => Some(own),
+    };
+    match found {
+        Some(value) => Ok(value),
+        None => Err(Fault::NoEntry {
+            field: id,
+            value: index,
+        }),
+    }
+}
+
+/// What a field gives in an action: its value, or the number that is attached to it. A token's field
+/// is read at the place, in bytes from the front.
+pub fn given(t: &Tables, id: FieldId, bytes: &[u8], at: u64, context: u64) -> Result<i64, Fault>
+    ensures { result ≡ spec.given t.now id bytes.now at context }
+{
+    match t.fields.at(id.number() as usize) {
+        Some(of) => given_by(t, id, of, number_at(t, of, bytes, at, context)),
+        None => Ok(0),
+    }
+}
+
+/// Whether a field has an entry, if anything is attached to it, by the number that it is read from.
+fn shown_by(t: &Tables, id: FieldId, of: &Field, number: u64) -> Result<(), Fault>
+    ensures { result ≡ shown_by t.now id of.now number }
+{
+    let index = of.bits_of(number);
+    let there = match t.attached.get(id) {
+        Some(attached) => has_entry(&attached.entries, index),
+        None => true,
+    };
+    if there {
+        Ok(())
+    } else {
+        Err(Fault::NoEntry {
+            field: id,
+            value: index,
+        })
+    }
+}
+
+/// Looks a field up that stands alone: it has an entry, if anything is attached to it.
+pub fn shown(t: &Tables, id: FieldId, bytes: &[u8], at: u64, context: u64) -> Result<(), Fault>
+    ensures { result ≡ spec.shown t.now id bytes.now at context }
+{
+    match t.fields.at(id.number() as usize) {
+        Some(of) => shown_by(t, id, of, number_at(t, of, bytes, at, context)),
+        None => Ok(()),
+    }
+}
