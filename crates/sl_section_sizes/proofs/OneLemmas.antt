@@ -1,5 +1,5 @@
 -- What becomes of the sections of a text is one.
-use Rattle.std.proofs.Common.{◌≡◌, ◌≢◌, ℕ, zero, suc, ◌+◌, ◌<◌, ◌≤◌, ◌⊎◌, inl, inr, Bool, true, false, List, [], ◌∷◌, Option, Some, None, Result, Ok, Err, length, get_or, take, max, refl, sym, ap, ◌∙◌, subst, arith}
+use Rattle.std.proofs.Common.{◌≡◌, ℕ, zero, suc, ◌+◌, ◌<◌, ◌≤◌, inl, inr, true, false, List, [], ◌∷◌, Option, Some, None, Ok, Err, length, get_or, take, refl, sym, ap, ◌∙◌, subst, arith}
 use Rattle.std.specs.Prelude.{option_map, slice_get}
 use Rattle.std.proofs.lemmas.Bool.{cases_lt}
 use Rattle.std.proofs.lemmas.List.{get_or_past}
@@ -14,7 +14,6 @@ use Rattle.sl_section_sizes.specs.Laws.{ComesTo, Outcome}
 use Rattle.sl_section_sizes.specs.Ordering.{address_of, constructors, in_text_order}
 use Rattle.sl_section_sizes.specs.SectionSizes.{AreSizesOf, IsFirstFaultOf, numbers_by, shaped, unknown}
 use Rattle.sl_section_sizes.specs.declared.faults.SizeFault.{SizeFault}
-use Rattle.sl_section_sizes.specs.declared.faults.SizeFault.TheVariants as fault
 use Rattle.sl_sizes.specs.Solutions.{IsFirstClash, IsFirstUnfixed, IsOnlySolution, Meets, Solves, bytes_at}
 use Rattle.sl_sizes.specs.declared.Equation.{Equation}
 use Rattle.sl_sizes.specs.declared.SizeError.TheVariants as error

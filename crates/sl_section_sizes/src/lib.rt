@@ -1,9 +1,15 @@
-//! What the sizes of all sections of a text are, constructors taken in the order in which they are
-//! shaped, and the law that they or the first fault are one.
+//! The sizes of all sections of a text, constructors taken in the order in which they are shaped.
 #![tactic(auto)]
 
+mod addresses;
 mod faults;
 mod laws;
+mod operands;
+mod order;
+mod putting;
+mod rows;
+mod sizes;
 
 pub use faults::{SizeFault, SizesError};
 pub use laws::outcome_is_one;
+pub use sizes::section_sizes;
