@@ -1,0 +1,8 @@
+pub mod Base
+pub mod Bytes
+pub mod Numbers
+pub mod Bits
+pub mod Nodes
+mod Rows
+pub mod Statements
+pub mod Terms

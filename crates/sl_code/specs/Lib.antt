@@ -1,0 +1,6 @@
+pub mod Fits
+pub mod Nodes
+pub mod Operations
+pub mod Runs
+pub mod Statements
+pub mod Terms

@@ -1,0 +1,5 @@
+pub mod Laws
+pub mod Nodes
+pub mod References
+pub mod Statements
+pub mod Values
