@@ -1,5 +1,6 @@
 pub mod Actions
 pub mod Decoding
+pub mod Flat
 pub mod Kinds
 pub mod Laws
 pub mod Lookups

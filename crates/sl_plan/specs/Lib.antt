@@ -1,2 +1,4 @@
 pub mod Extents
+pub mod Plans
+pub mod Steps
 pub mod Values

@@ -1,5 +1,5 @@
 -- view: values of actions, and what they hang on, as the program keeps them.
-use Rattle.std.specs.Prelude.{ℕ, ◌+◌, ℤ, pos, Result, Ok, Err, slice_get}
+use Rattle.std.specs.Prelude.{◌+◌, ℤ, pos, Result, Ok, Err, slice_get}
 use Rattle.sl_operators.specs.Operators.{wrapped}
 use Rattle.sl_decoding.specs.Lookups.{given}
 use Rattle.sl_decoding.specs.Values.{Site, operated, prefixed, value_or_zero}

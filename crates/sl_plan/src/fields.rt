@@ -27,7 +27,7 @@ fn whole_number(token: &Token, bytes: &[u8], at: u64) -> u64
 }
 
 /// The token of a field; none for a field of the context.
-fn token_of<'t, 'a>(t: &'t Tables<'a>, of: &Field) -> Option<&'t Token<'a>>
+pub(crate) fn token_of<'t, 'a>(t: &'t Tables<'a>, of: &Field) -> Option<&'t Token<'a>>
     ensures { option_copied result ≡ token_of t.now.tokens of.now }
 {
     match of.token {

@@ -1,7 +1,7 @@
 //! The names of a pattern with their places.
 
 ghost use Rattle.std.specs.Prelude.{◌≡◌, ℕ, List, option_map, IfOk};
-ghost use Rattle.sl_decoding.specs.Places.{first_place, or_start};
+ghost use Rattle.sl_decoding.specs.Places.{bare_place, first_place, or_start};
 ghost use Rattle.sl_plan.specs.Extents.{extent, leaves_at};
 
 use crate::extents::{Extent, again};
@@ -37,4 +37,17 @@ pub(crate) fn place_of(alloc: Global, leaves: &[Leaf], name: &[u8]) -> Result<Ex
         Some(place) => again(alloc, place),
         None => Ok(Extent::Fixed(0)),
     }
+}
+
+/// The place where a name stands alone, or the front where it doesn't.
+pub(crate) fn bare(alloc: Global, leaves: &[Leaf], name: &[u8]) -> Result<Extent, AllocError>
+    ensures { IfOk result (λ r. (lengths : List ℕ) → extent r lengths
+        ≡ or_start (bare_place name.now (leaves_at lengths leaves.now))) }
+{
+    'leaves: for leaf in leaves {
+        if leaf.alone && leaf.name == name {
+            return again(alloc, &leaf.place);
+        }
+    }
+    Ok(Extent::Fixed(0))
 }

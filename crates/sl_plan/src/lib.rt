@@ -1,15 +1,23 @@
-//! What expressions of actions and numbers of bytes come to at the nodes of a constructor, made once.
+//! What the patterns and the actions of constructors come to at their nodes, made once.
 #![tactic(auto)]
 
+mod early;
 mod expressions;
 mod extents;
 mod fields;
 mod kinds;
+mod late;
 mod leaves;
+mod patterns;
+mod plans;
+mod steps;
 mod values;
 
+pub use early::Early;
 pub use expressions::{address, compile};
 pub use extents::{Extent, again, extent_of, greater, sum};
 pub use fields::{given, shown};
+pub use late::{Late, Look, look_up};
 pub use leaves::Leaf;
+pub use plans::{Plan, Slot, make_plan, make_plans};
 pub use values::{Scope, Value, reckon};

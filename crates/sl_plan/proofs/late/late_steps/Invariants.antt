@@ -1,0 +1,11 @@
+use Rattle.std.proofs.Common.{drop}
+use Rattle.sl_actions.specs.SeenActions.{seen_actions}
+use Rattle.sl_decoding.specs.Actions.{tell}
+use Rattle.sl_decoding.specs.Values.{Site}
+use Rattle.sl_plan.specs.Extents.{leaves_at}
+use Rattle.sl_plan.specs.Steps.{late_step}
+use Rattle.sl_plan.proofs.RunLemmas.{IsFront}
+use Rattle.sl_plan.proofs.late.late_steps.Given as goal
+
+abbrev pub invariant-actions : goal.invariant-actions
+invariant-actions l = (s : Site) → IsFront (tell l.t l.operands (leaves_at s.lengths l.leaves) s) (late_step l.t s) (seen_actions l.actions) (seen_actions (drop l.index l.actions)) l.all.items

@@ -1,0 +1,5 @@
+use Rattle.sl_plan.proofs.PlanLemmas.{AreFirst}
+use Rattle.sl_plan.proofs.plans.make_plans.Given as goal
+
+abbrev pub invariant-constructors : goal.invariant-constructors
+invariant-constructors l = AreFirst l.t l.t.constructors l.constructors l.index l.all.items

@@ -1,0 +1,23 @@
+use Rattle.std.proofs.Common.{◌++◌, ap, ◌∙◌}
+use Rattle.sl_actions.specs.SeenActions.{seen_actions}
+use Rattle.sl_ast.specs.Views.{constructor_of}
+use Rattle.sl_decoding.specs.Places.{leaves, length_in, length_of}
+use Rattle.sl_plan.specs.Extents.{leaves_at}
+use Rattle.sl_plan.proofs.MeaningLemmas.{said_as}
+use Rattle.sl_plan.proofs.plans.plan_with.Goals as goal
+use Rattle.sl_spec.specs.Unfolded.{heads_of, under}
+
+pub returns : goal.returns
+returns c =
+    let t = c.args.t.now in
+    let os = c.args.operands.now in
+    let heads = c.as_slice-heads.result.now in
+    let own = constructor_of c.args.of.now.own.now in
+    c.in_ok-plan.ensures
+    ∙ said_as t os _ _ _ _ _
+    (λ lengths. ap (leaves_at lengths) c.as_slice-leaves.ensures.value ∙ c.in_ok-length.ensures.added lengths
+    ∙ ap (λ ls. leaves_at lengths ls ++ leaves t os (length_of os lengths) 0 (under (heads_of heads) own).pattern) c.new-all.ensures.items
+    ∙ ap (λ hs. leaves t os (length_of os lengths) 0 (under (heads_of hs) own).pattern) c.as_slice-heads.ensures.value)
+    (λ lengths. c.in_ok-length.ensures.length lengths
+    ∙ ap (λ hs. length_in t os (length_of os lengths) (under (heads_of hs) own).pattern) c.as_slice-heads.ensures.value)
+    (ap seen_actions c.as_slice.ensures.value ∙ c.in_ok-actions.ensures)

@@ -1,0 +1,131 @@
+//! What is done at a node before its operands.
+
+ghost use Rattle.std.specs.Prelude.{◌≡◌, ◌+◌, ◌≤◌, ◌^◌, List, IfOk};
+ghost use Rattle.sl_actions.specs.SeenActions.{seen_actions};
+ghost use Rattle.sl_ast.specs.Views.{action_of, expression_of};
+ghost use Rattle.sl_decoding.specs.Actions.{Changed, act, add_note, mask_of, set_context};
+ghost use Rattle.sl_decoding.specs.Kinds.{context_field, kind_of};
+ghost use Rattle.sl_decoding.specs.Outcomes.{in_turn};
+ghost use Rattle.sl_decoding.specs.Places.{Leaf as LeafAt};
+ghost use Rattle.sl_decoding.specs.Values.{Site};
+ghost use Rattle.sl_plan.specs.Extents.{leaves_at};
+ghost use Rattle.sl_plan.specs.Steps.{early_step, maybe};
+
+use crate::expressions::compile;
+use crate::kinds::kind_of;
+use crate::leaves::Leaf;
+use crate::steps::{add, context_field};
+use crate::values::Value;
+use sl_actions::ActionRef;
+use sl_ast::expressions::Expr;
+use sl_ast::patterns::Action;
+use sl_spec::{Field, Operand, Tables};
+use std::alloc::{AllocError, Global};
+
+/// An action on a field of the context, or what a `globalset` notes.
+#[derive(Drop)]
+pub enum Early {
+    /// The bits of the mask get those of the value, which begin at this bit.
+    Set(u8, u64, Value),
+    /// The bits of the mask are noted, and whether they flow.
+    Note(u64, bool),
+}
+
+/// The greatest number of so many bits.
+fn greatest(width: u8) -> u64
+    requires some { 1 ≤ width }
+    requires most { width ≤ 64 }
+    ensures { result + 1 ≡ 2 ^ width }
+{
+    if width == 64 {
+        u64::MAX
+    } else {
+        (1u64 << width) - 1
+    }
+}
+
+/// The bits of a field in the context.
+#[tactic(auto, using(crate::proofs::MaskLemmas::mask_is))]
+fn mask_in(field: &Field) -> u64
+    ensures { result ≡ mask_of field.now }
+{
+    greatest(field.width()) << field.low
+}
+
+/// An action on a name.
+fn set_of(
+    alloc: Global,
+    t: &Tables,
+    operands: &[Operand],
+    leaves: &[Leaf],
+    name: &[u8],
+    e: &Expr,
+) -> Result<Option<Early>, AllocError>
+    ensures { IfOk result (λ o. (s : Site) (c : Changed) → maybe (early_step t.now s) o c
+        ≡ set_context t.now operands.now (leaves_at s.lengths leaves.now) s (expression_of e.now)
+        (context_field t.now (kind_of t.now operands.now name.now)) c) }
+{
+    match context_field(t, kind_of(t, operands, name)?) {
+        Some(of) => {
+            let value = compile(alloc, t, operands, leaves, e)?;
+            Ok(Some(Early::Set(of.low, mask_in(of), value)))
+        }
+        None => Ok(None),
+    }
+}
+
+/// A note of a name.
+fn note_of(t: &Tables, operands: &[Operand], name: &[u8]) -> Result<Option<Early>, AllocError>
+    ensures { IfOk result (λ o. (ls : List LeafAt) (s : Site) (c : Changed)
+        → maybe (early_step t.now s) o c ≡ add_note t.now operands.now ls s
+        (context_field t.now (kind_of t.now operands.now name.now)) c) }
+{
+    match context_field(t, kind_of(t, operands, name)?) {
+        Some(of) => Ok(Some(Early::Note(mask_in(of), !of.noflow))),
+        None => Ok(None),
+    }
+}
+
+/// What is done for an action before the operands.
+fn early_of(
+    alloc: Global,
+    t: &Tables,
+    operands: &[Operand],
+    leaves: &[Leaf],
+    action: &Action,
+) -> Result<Option<Early>, AllocError>
+    ensures { IfOk result (λ o. (s : Site) (c : Changed) → maybe (early_step t.now s) o c
+        ≡ act t.now operands.now (leaves_at s.lengths leaves.now) s (action_of action.now) c) }
+{
+    match action {
+        Action::Assign(name, e) => {
+            let step = set_of(alloc, t, operands, leaves, name, e)?;
+            Ok(step)
+        }
+        Action::GlobalSet(_, name) => {
+            let step = note_of(t, operands, name)?;
+            Ok(step)
+        }
+    }
+}
+
+/// What the actions of a constructor do before the operands.
+pub(crate) fn early_steps(
+    alloc: Global,
+    t: &Tables,
+    operands: &[Operand],
+    leaves: &[Leaf],
+    actions: &[ActionRef],
+) -> Result<Vec<Early>, AllocError>
+    ensures { IfOk result (λ v. (s : Site) (c : Changed) → in_turn (early_step t.now s) v.items c
+        ≡ in_turn (act t.now operands.now (leaves_at s.lengths leaves.now) s)
+        (seen_actions actions.now) c) }
+{
+    let mut all = Vec::new(alloc);
+    'actions: for index in 0..actions.len() {
+        let action = actions[index].action;
+        let step = early_of(alloc, t, operands, leaves, action)?;
+        add(step, &mut all)?;
+    }
+    Ok(all)
+}

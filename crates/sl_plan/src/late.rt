@@ -1,0 +1,190 @@
+//! What is done at a node when the whole tree stands.
+
+ghost use Rattle.std.specs.Prelude.{◌≡◌, ◌+◌, IfOk};
+ghost use Rattle.sl_actions.specs.SeenActions.{seen_actions};
+ghost use Rattle.sl_ast.specs.Views.{action_of, expression_of, operand_of_address};
+ghost use Rattle.sl_decoding.specs.Actions.{Own, look, make_commit, set_name, tell};
+ghost use Rattle.sl_decoding.specs.Kinds.{context_field, kind_of};
+ghost use Rattle.sl_decoding.specs.Lookups.{shown};
+ghost use Rattle.sl_decoding.specs.Outcomes.{in_turn};
+ghost use Rattle.sl_decoding.specs.Values.{Site};
+ghost use Rattle.sl_plan.specs.Extents.{extent, leaf_at, leaves_at};
+ghost use Rattle.sl_plan.specs.Steps.{late_step, look_step, maybe};
+ghost use Rattle.sl_plan.specs.Values.{site_of};
+
+use crate::expressions::{address, compile};
+use crate::extents::{Extent, again, extent_of};
+use crate::fields::shown;
+use crate::kinds::kind_of;
+use crate::leaves::Leaf;
+use crate::steps::{add, context_field};
+use crate::values::{Scope, Value};
+use sl_actions::ActionRef;
+use sl_ast::expressions::Expr;
+use sl_ast::patterns::{Action, Address};
+use sl_decoding::{Fault, Kind};
+use sl_spec::{FieldId, Operand, Tables};
+use std::alloc::{AllocError, Global};
+
+/// A field that something is attached to and that stands alone: it has an entry. The place is that
+/// of its token, in bytes from the node's own.
+#[derive(Drop)]
+pub struct Look {
+    pub field: FieldId,
+    pub place: Extent,
+}
+
+/// What an action does when the whole tree stands.
+#[derive(Drop)]
+pub enum Late {
+    /// The next action name gets its value.
+    Name(Value),
+    /// What was noted first of what is left is committed to the address.
+    Commit(Value),
+}
+
+/// Looks a field up at a node.
+pub fn look_up(t: &Tables, scope: &Scope, look: &Look) -> Result<(), Fault>
+    ensures { let s = site_of scope.now in result ≡ shown t.now look.now.field s.bytes
+        (s.at + extent look.now.place s.lengths) s.context }
+{
+    let at = u64::from(scope.at).saturating_add(extent_of(&look.place, scope.lengths));
+    shown(t, look.field, scope.bytes, at, scope.context)
+}
+
+/// The look-up of a leaf.
+#[tactic(auto, using(crate::proofs::LookLemmas::unattached))]
+fn look_of(
+    alloc: Global,
+    t: &Tables,
+    operands: &[Operand],
+    leaf: &Leaf,
+) -> Result<Option<Look>, AllocError>
+    ensures { IfOk result (λ o. (s : Site) (c : Own) → maybe (look_step t.now s) o c
+        ≡ look t.now operands.now s (leaf_at s.lengths leaf.now) c) }
+{
+    if !leaf.alone {
+        return Ok(None);
+    }
+    match kind_of(t, operands, leaf.name)? {
+        Kind::Field(field) => {
+            if t.attached.get(field).is_none() {
+                return Ok(None);
+            }
+            let place = again(alloc, &leaf.place)?;
+            Ok(Some(Look { field, place }))
+        }
+        Kind::Table(_) => Ok(None),
+        Kind::Action(_) => Ok(None),
+        Kind::Start => Ok(None),
+        Kind::Next => Ok(None),
+        Kind::Nothing => Ok(None),
+    }
+}
+
+/// The look-ups of a constructor.
+pub(crate) fn looks_of(
+    alloc: Global,
+    t: &Tables,
+    operands: &[Operand],
+    leaves: &[Leaf],
+) -> Result<Vec<Look>, AllocError>
+    ensures { IfOk result (λ v. (s : Site) (c : Own) → in_turn (look_step t.now s) v.items c
+        ≡ in_turn (look t.now operands.now s) (leaves_at s.lengths leaves.now) c) }
+{
+    let mut all = Vec::new(alloc);
+    'leaves: for leaf in leaves {
+        let step = look_of(alloc, t, operands, leaf)?;
+        add(step, &mut all)?;
+    }
+    Ok(all)
+}
+
+/// The value of a name that is no field of the context.
+fn name_of(
+    alloc: Global,
+    t: &Tables,
+    operands: &[Operand],
+    leaves: &[Leaf],
+    name: &[u8],
+    e: &Expr,
+) -> Result<Option<Late>, AllocError>
+    ensures { IfOk result (λ o. (s : Site) (c : Own) → maybe (late_step t.now s) o c
+        ≡ set_name t.now operands.now (leaves_at s.lengths leaves.now) s (expression_of e.now)
+        (context_field t.now (kind_of t.now operands.now name.now)) c) }
+{
+    match context_field(t, kind_of(t, operands, name)?) {
+        Some(_) => Ok(None),
+        None => {
+            let value = compile(alloc, t, operands, leaves, e)?;
+            Ok(Some(Late::Name(value)))
+        }
+    }
+}
+
+/// The commit of a field of the context.
+fn commit_of(
+    alloc: Global,
+    t: &Tables,
+    operands: &[Operand],
+    leaves: &[Leaf],
+    name: &[u8],
+    to: &Address,
+) -> Result<Option<Late>, AllocError>
+    ensures { IfOk result (λ o. (s : Site) (c : Own) → maybe (late_step t.now s) o c
+        ≡ make_commit t.now operands.now (leaves_at s.lengths leaves.now) s
+        (operand_of_address to.now)
+        (context_field t.now (kind_of t.now operands.now name.now)) c) }
+{
+    match context_field(t, kind_of(t, operands, name)?) {
+        Some(_) => {
+            let value = address(alloc, t, operands, leaves, to)?;
+            Ok(Some(Late::Commit(value)))
+        }
+        None => Ok(None),
+    }
+}
+
+/// What is done for an action when the whole tree stands.
+fn late_of(
+    alloc: Global,
+    t: &Tables,
+    operands: &[Operand],
+    leaves: &[Leaf],
+    action: &Action,
+) -> Result<Option<Late>, AllocError>
+    ensures { IfOk result (λ o. (s : Site) (c : Own) → maybe (late_step t.now s) o c
+        ≡ tell t.now operands.now (leaves_at s.lengths leaves.now) s (action_of action.now) c) }
+{
+    match action {
+        Action::Assign(name, e) => {
+            let step = name_of(alloc, t, operands, leaves, name, e)?;
+            Ok(step)
+        }
+        Action::GlobalSet(to, name) => {
+            let step = commit_of(alloc, t, operands, leaves, name, to)?;
+            Ok(step)
+        }
+    }
+}
+
+/// What the actions of a constructor do when the whole tree stands.
+pub(crate) fn late_steps(
+    alloc: Global,
+    t: &Tables,
+    operands: &[Operand],
+    leaves: &[Leaf],
+    actions: &[ActionRef],
+) -> Result<Vec<Late>, AllocError>
+    ensures { IfOk result (λ v. (s : Site) (c : Own) → in_turn (late_step t.now s) v.items c
+        ≡ in_turn (tell t.now operands.now (leaves_at s.lengths leaves.now) s)
+        (seen_actions actions.now) c) }
+{
+    let mut all = Vec::new(alloc);
+    'actions: for index in 0..actions.len() {
+        let action = actions[index].action;
+        let step = late_of(alloc, t, operands, leaves, action)?;
+        add(step, &mut all)?;
+    }
+    Ok(all)
+}

@@ -1,0 +1,176 @@
+//! What is done at the nodes of constructors.
+
+ghost use Rattle.std.specs.Prelude.{◌≡◌, ◌++◌, ◌∷◌, [], ℕ, List, map, IfOk, OnOk};
+ghost use Rattle.sl_actions.specs.SeenActions.{seen_actions};
+ghost use Rattle.sl_ast.specs.Unfolding.{written};
+ghost use Rattle.sl_decoding.specs.Meanings.{said, says, table_in};
+ghost use Rattle.sl_decoding.specs.Places.{bare_place, or_start, table_operands};
+ghost use Rattle.sl_plan.specs.Extents.{extent, leaves_at};
+ghost use Rattle.sl_plan.specs.Plans.{done, done_by, done_slot, said_by_leaves, slot_by};
+ghost use Rattle.sl_spec.specs.Unfolded.{all_placed, placed};
+
+use crate::early::{Early, early_steps};
+use crate::extents::Extent;
+use crate::late::{Late, Look, late_steps, looks_of};
+use crate::leaves::{Leaf, bare};
+use crate::patterns::{add_all_leaves, means_table};
+use sl_actions::{ActionRef, actions_of_unfolded};
+use sl_spec::{Ctor, Means, Operand, TableId, Tables, Unfolded};
+use std::alloc::{AllocError, Global};
+
+/// A table operand, and its place in bytes from the node's own.
+#[derive(Drop)]
+pub struct Slot {
+    pub table: TableId,
+    pub place: Extent,
+}
+
+/// What is done at the nodes of a constructor: the actions on its context and the notes of
+/// `globalset` before the operands, the operands in pattern order, its length, and when the whole
+/// tree stands the look-ups of bare fields and then the other actions.
+#[derive(Drop)]
+pub struct Plan {
+    pub early: Vec<Early>,
+    pub slots: Vec<Slot>,
+    pub length: Extent,
+    pub looks: Vec<Look>,
+    pub late: Vec<Late>,
+}
+
+/// The table of a table operand.
+fn table_in(operand: &Operand) -> TableId
+    ensures { result ≡ table_in operand.now.means }
+{
+    match operand.means {
+        Means::Table(table) => table,
+        Means::Field(_) => TableId(0),
+        Means::Action(_) => TableId(0),
+    }
+}
+
+/// The place of a table operand.
+fn place_in(alloc: Global, leaves: &[Leaf], operand: &Operand) -> Result<Extent, AllocError>
+    ensures { IfOk result (λ r. (lengths : List ℕ) → extent r lengths
+        ≡ or_start (bare_place operand.now.name (leaves_at lengths leaves.now))) }
+{
+    let place = bare(alloc, leaves, operand.name)?;
+    Ok(place)
+}
+
+fn slot_of(alloc: Global, leaves: &[Leaf], operand: &Operand) -> Result<Slot, AllocError>
+    ensures { IfOk result (λ r. done_slot r
+        ≡ slot_by (λ lengths. leaves_at lengths leaves.now) operand.now) }
+{
+    let place = place_in(alloc, leaves, operand)?;
+    Ok(Slot {
+        table: table_in(operand),
+        place,
+    })
+}
+
+/// Adds an operand, if it is a table.
+fn add_slot(
+    alloc: Global,
+    leaves: &[Leaf],
+    operand: &Operand,
+    all: &mut Vec<Slot>,
+) -> Result<(), AllocError>
+    ensures { OnOk result (map done_slot all.new.items ≡ map done_slot all.old.items
+        ++ map (slot_by (λ lengths. leaves_at lengths leaves.now))
+        (table_operands (operand.now ∷ []))) }
+{
+    if means_table(operand.means) {
+        let slot = slot_of(alloc, leaves, operand)?;
+        all.push(slot)?;
+    }
+    Ok(())
+}
+
+/// The operands that are tables.
+fn slots_of(alloc: Global, operands: &[Operand], leaves: &[Leaf]) -> Result<Vec<Slot>, AllocError>
+    ensures { IfOk result (λ v. map done_slot v.items
+        ≡ map (slot_by (λ lengths. leaves_at lengths leaves.now))
+        (table_operands operands.now)) }
+{
+    let mut all = Vec::new(alloc);
+    'operands: for index in 0..operands.len() {
+        add_slot(alloc, leaves, &operands[index], &mut all)?;
+    }
+    Ok(all)
+}
+
+/// The steps of a constructor with these operands, leaves and actions, and of this length.
+fn plan_of(
+    alloc: Global,
+    t: &Tables,
+    operands: &[Operand],
+    leaves: &[Leaf],
+    length: Extent,
+    actions: &[ActionRef],
+) -> Result<Plan, AllocError>
+    ensures { IfOk result (λ r. done t.now r ≡ said_by_leaves t.now operands.now
+        (λ lengths. leaves_at lengths leaves.now) (λ lengths. extent length lengths)
+        (seen_actions actions.now)) }
+{
+    let early = early_steps(alloc, t, operands, leaves, actions)?;
+    let slots = slots_of(alloc, operands, leaves)?;
+    let looks = looks_of(alloc, t, operands, leaves)?;
+    let late = late_steps(alloc, t, operands, leaves, actions)?;
+    Ok(Plan {
+        early,
+        slots,
+        length,
+        looks,
+        late,
+    })
+}
+
+/// The plan of a constructor with these operands.
+fn plan_with(
+    alloc: Global,
+    t: &Tables,
+    operands: &[Operand],
+    of: &Unfolded,
+) -> Result<Plan, AllocError>
+    ensures { IfOk result (λ r. done t.now r ≡ said t.now operands.now
+        (placed of.now).1.pattern (written (placed of.now).1.actions)) }
+{
+    let heads = of.heads.as_slice();
+    let own = of.own;
+    let mut all = Vec::new(alloc);
+    let length = add_all_leaves(alloc, t, operands, heads, own, &mut all)?;
+    let actions = actions_of_unfolded(alloc, of)?;
+    let leaves = all.as_slice();
+    let plan = plan_of(alloc, t, operands, leaves, length, actions.as_slice())?;
+    Ok(plan)
+}
+
+/// What is done at the nodes of a constructor, as its pattern and its actions say, those of the
+/// blocks round it before its own. The only error is want of memory.
+pub fn make_plan(alloc: Global, t: &Tables, ctor: &Ctor, of: &Unfolded) -> Result<Plan, AllocError>
+    ensures { IfOk result (λ r. done t.now r ≡ said t.now ctor.now.operands
+        (placed of.now).1.pattern (written (placed of.now).1.actions)) }
+{
+    let plan = plan_with(alloc, t, ctor.operands.as_slice(), of)?;
+    Ok(plan)
+}
+
+/// The plans of all constructors of a text. The only error is want of memory.
+pub fn make_plans(
+    alloc: Global,
+    t: &Tables,
+    constructors: &[Unfolded],
+) -> Result<Vec<Plan>, AllocError>
+    ensures { IfOk result (λ v. (number : ℕ) → done_by t.now v.items number
+        ≡ says t.now (all_placed constructors.now) number) }
+{
+    let mut all = Vec::new(alloc);
+    'constructors: for index in 0..constructors.len() {
+        let Some(ctor) = t.constructors.get(index) else {
+            return Ok(all);
+        };
+        let plan = make_plan(alloc, t, ctor, &constructors[index])?;
+        all.push(plan)?;
+    }
+    Ok(all)
+}
