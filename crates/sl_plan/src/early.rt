@@ -46,7 +46,7 @@ fn greatest(width: u8) -> u64
 
 /// The bits of a field in the context.
 #[tactic(auto, using(crate::proofs::MaskLemmas::mask_is))]
-fn mask_in(field: &Field) -> u64
+pub fn mask_in(field: &Field) -> u64
     ensures { result ≡ mask_of field.now }
 {
     greatest(field.width()) << field.low

@@ -13,7 +13,7 @@ mod plans;
 mod steps;
 mod values;
 
-pub use early::Early;
+pub use early::{Early, mask_in};
 pub use expressions::{address, compile};
 pub use extents::{Extent, again, extent_of, greater, sum};
 pub use fields::{given, shown};
