@@ -36,8 +36,9 @@ pub(crate) fn token_of<'t, 'a>(t: &'t Tables<'a>, of: &Field) -> Option<&'t Toke
     }
 }
 
-/// The integer of a field's token that begins at the place, or the context.
-fn number_at(t: &Tables, of: &Field, bytes: &[u8], at: u64, context: u64) -> u64
+/// The integer of a field's token that begins at the place, or the context. A token that isn't whole
+/// there counts as 0.
+pub fn number_at(t: &Tables, of: &Field, bytes: &[u8], at: u64, context: u64) -> u64
     ensures { result ≡ number_at t.now of.now bytes.now at context }
 {
     match token_of(t, of) {

@@ -10,7 +10,7 @@ use sl_spec::{FieldId, Means, Operand, Tables};
 use std::alloc::AllocError;
 
 /// The operand of this name.
-fn operand_named<'o, 'a>(operands: &'o [Operand<'a>], name: &[u8]) -> Option<&'o Operand<'a>>
+pub fn operand_named<'o, 'a>(operands: &'o [Operand<'a>], name: &[u8]) -> Option<&'o Operand<'a>>
     ensures { option_copied result ≡ named (λ o. o.name) name.now operands.now }
 {
     'operands: for index in 0..operands.len() {

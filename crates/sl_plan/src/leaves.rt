@@ -40,7 +40,7 @@ pub(crate) fn place_of(alloc: Global, leaves: &[Leaf], name: &[u8]) -> Result<Ex
 }
 
 /// The place where a name stands alone, or the front where it doesn't.
-pub(crate) fn bare(alloc: Global, leaves: &[Leaf], name: &[u8]) -> Result<Extent, AllocError>
+pub fn bare(alloc: Global, leaves: &[Leaf], name: &[u8]) -> Result<Extent, AllocError>
     ensures { IfOk result (λ r. (lengths : List ℕ) → extent r lengths
         ≡ or_start (bare_place name.now (leaves_at lengths leaves.now))) }
 {

@@ -3,11 +3,12 @@
 ghost use Rattle.std.specs.Prelude.{◌≡◌, ◌++◌, ◌<◌, ◌^◌, ℕ, List, IfOk, OnOk, slice_get};
 ghost use Rattle.sl_ast.specs.Views.{constructor_of, pattern_of};
 ghost use Rattle.sl_decoding.specs.Kinds.{kind_of};
+ghost use Rattle.sl_decoding.specs.Meanings.{leaves_by};
 ghost use Rattle.sl_decoding.specs.Places as spec;
 ghost use Rattle.sl_decoding.specs.Places.{covers, leaves, length_in, length_of, means_table};
 ghost use Rattle.sl_decoding.specs.Places.{next_slot, place_beside, slot_from};
 ghost use Rattle.sl_plan.specs.Extents.{extent, leaves_at};
-ghost use Rattle.sl_spec.specs.Unfolded.{heads_of, under};
+ghost use Rattle.sl_spec.specs.Unfolded.{heads_of, placed, under};
 ghost use Rattle.sl_tables.specs.Lengths.{field_bytes, joined_bytes};
 
 use crate::extents::{Extent, again, greater, sum};
@@ -17,7 +18,7 @@ use crate::leaves::Leaf;
 use sl_ast::constructors::Constructor;
 use sl_ast::patterns::{Pattern, PatternOp};
 use sl_decoding::Kind;
-use sl_spec::{Around, FieldId, Means, Operand, Tables};
+use sl_spec::{Around, FieldId, Means, Operand, Tables, Unfolded};
 use std::alloc::{AllocError, Global};
 
 pub(crate) fn means_table(means: Means) -> bool
@@ -38,7 +39,7 @@ fn next_slot(means: Means, number: usize) -> usize
 }
 
 /// The number of the table operand of this name among the table operands.
-fn slot_number(operands: &[Operand], name: &[u8]) -> Option<usize>
+pub fn slot_number(operands: &[Operand], name: &[u8]) -> Option<usize>
     ensures { result ≡ slot_from 0 operands.now name.now }
 {
     let mut number = 0;
@@ -195,4 +196,22 @@ pub(crate) fn add_all_leaves<'a>(
     let inside = add_all_leaves(alloc, t, operands, rest, own, all)?;
     let length = greater(alloc, around, inside)?;
     Ok(length)
+}
+
+/// The names of a constructor's pattern with their places, where these are its operands. The only
+/// error is want of memory.
+pub fn leaves_of<'a>(
+    alloc: Global,
+    t: &Tables,
+    operands: &[Operand],
+    of: &Unfolded<'_, 'a>,
+) -> Result<Vec<Leaf<'a>>, AllocError>
+    ensures { IfOk result (λ v. (lengths : List ℕ) → leaves_at lengths v.items
+        ≡ leaves_by t.now operands.now (placed of.now).1.pattern lengths) }
+{
+    let heads = of.heads.as_slice();
+    let own = of.own;
+    let mut all = Vec::new(alloc);
+    add_all_leaves(alloc, t, operands, heads, own, &mut all)?;
+    Ok(all)
 }

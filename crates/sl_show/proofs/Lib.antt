@@ -1,0 +1,7 @@
+mod RowTheorems
+pub mod DisplayLemmas
+pub mod EntryLemmas
+pub mod FlatLemmas
+pub mod MakingLemmas
+pub mod NumberLemmas
+pub mod PartLemmas

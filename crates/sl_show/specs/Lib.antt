@@ -1,0 +1,5 @@
+pub mod Entries
+pub mod Numbers
+pub mod Pieces
+pub mod Templates
+pub mod Texts

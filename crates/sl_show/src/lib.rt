@@ -1,0 +1,14 @@
+//! The text of an instruction, by its decode.
+#![tactic(auto)]
+
+mod displays;
+mod entries;
+mod fields;
+mod making;
+mod numbers;
+mod templates;
+mod texts;
+
+pub use making::{make_template, make_templates};
+pub use templates::{Part, Template};
+pub use texts::{Instruction, push_text};

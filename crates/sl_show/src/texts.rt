@@ -1,0 +1,152 @@
+//! The text of trees, appended to one buffer by the templates of their constructors.
+
+ghost use Rattle.std.specs.Prelude.{◌≡◌, ◌+◌, ◌++◌, ℤ, List, OnOk, slice_get};
+ghost use Rattle.sl_ast.specs.Trees.{Constructor as ConstructorOf};
+ghost use Rattle.sl_ast.specs.Unfolding.{Placed};
+ghost use Rattle.sl_decoding.specs.Flat.{all_values, entries};
+ghost use Rattle.sl_decoding.specs.Trees.{Node, Trees};
+ghost use Rattle.sl_plan.specs.Extents.{extent};
+ghost use Rattle.sl_show.specs.Entries.{row_of, rows, rows_of};
+ghost use Rattle.sl_show.specs.Templates.{AreTemplates, part_text, parts_of, parts_text};
+ghost use Rattle.sl_show.specs.Templates.{spot_among, template_text};
+ghost use Rattle.sl_show.specs.Texts.{field_text, first_text, lengths_of, shown_text, texts_by};
+
+use crate::entries::{extent_among, parted, skip, value_of};
+use crate::fields::push_field;
+use crate::numbers::push_number;
+use crate::templates::{Part, Template};
+use sl_decoding::Entry;
+use sl_plan::Extent;
+use sl_spec::{CtorId, FieldId, Tables};
+use std::alloc::AllocError;
+
+/// What all nodes of a decode share: the instruction's bytes, and the values of action names.
+#[derive(Clone, Copy)]
+pub struct Instruction<'i> {
+    pub bytes: &'i [u8],
+    pub values: &'i [i64],
+}
+
+/// The parts of a constructor.
+fn parts_of(templates: &[Template], constructor: CtorId) -> &[Part]
+    ensures { result.now ≡ parts_of (slice_get templates.now constructor) }
+{
+    match templates.get(constructor.0 as usize) {
+        Some(template) => template.parts.as_slice(),
+        None => &[],
+    }
+}
+
+/// Appends a field of a node with these operands.
+fn push_field_at(
+    t: &Tables,
+    bytes: &[u8],
+    node: &Entry,
+    kids: &[Entry],
+    id: FieldId,
+    place: &Extent,
+    out: &mut Vec<u8>,
+) -> Result<(), AllocError>
+    ensures { OnOk result ((values : List ℤ) (f : Trees Node) → rows_of values kids.now ≡ rows f
+        → out.new.items ≡ out.old.items ++ field_text t.now id bytes.now
+        (node.now.at + extent place.now (lengths_of f)) node.now.context) }
+{
+    let at = u64::from(node.at).saturating_add(extent_among(place, kids));
+    push_field(t, id, bytes, at, node.context, out)?;
+    Ok(())
+}
+
+/// Appends the text of the first tree.
+#[cycle(texts)]
+fn push_first(
+    t: &Tables,
+    templates: &[Template],
+    of: Instruction<'_>,
+    nodes: &[Entry],
+    out: &mut Vec<u8>,
+) -> Result<(), AllocError>
+    ensures { OnOk result ((f : Trees Node) → rows_of of.entry.values.now nodes.now ≡ rows f
+        → out.new.items ≡ out.old.items
+        ++ first_text (texts_by (template_text t.now templates.now) of.entry.bytes.now f)) }
+{
+    if nodes.is_empty() {
+        return Ok(());
+    }
+    let (kids, _) = parted(nodes);
+    let node = &nodes[0];
+    let parts = parts_of(templates, node.ctor);
+    match push_parts(t, templates, of, node, kids, parts, out) {
+        Ok(()) => Ok(()),
+        Err(error) => Err(error),
+    }
+}
+
+/// Appends one part of a node with these operands.
+#[cycle(texts)]
+fn push_part(
+    t: &Tables,
+    templates: &[Template],
+    of: Instruction<'_>,
+    node: &Entry,
+    kids: &[Entry],
+    part: &Part,
+    out: &mut Vec<u8>,
+) -> Result<(), AllocError>
+    ensures { OnOk result ((f : Trees Node) → rows_of of.entry.values.now kids.now ≡ rows f
+        → out.new.items ≡ out.old.items ++ part_text t.now
+        (spot_among t.now templates.now of.entry.bytes.now
+        (row_of of.entry.values.now node.now).node f) part.now) }
+{
+    match part {
+        Part::Text(text) => out.extend_from_slice(text),
+        Part::Table(number) => {
+            let rest = skip(kids, *number);
+            match push_first(t, templates, of, rest, out) {
+                Ok(()) => Ok(()),
+                Err(error) => Err(error),
+            }
+        }
+        Part::Field(id, place) => push_field_at(t, of.bytes, node, kids, *id, place, out),
+        Part::Action(number) => push_number(out, false, value_of(of.values, node, *number)),
+    }
+}
+
+/// Appends the parts of a node with these operands.
+#[cycle(texts)]
+fn push_parts(
+    t: &Tables,
+    templates: &[Template],
+    of: Instruction<'_>,
+    node: &Entry,
+    kids: &[Entry],
+    parts: &[Part],
+    out: &mut Vec<u8>,
+) -> Result<(), AllocError>
+    ensures { OnOk result ((f : Trees Node) → rows_of of.entry.values.now kids.now ≡ rows f
+        → out.new.items ≡ out.old.items ++ parts_text t.now
+        (spot_among t.now templates.now of.entry.bytes.now
+        (row_of of.entry.values.now node.now).node f) parts.now) }
+{
+    'parts: for part in parts {
+        push_part(t, templates, of, node, kids, part, out)?;
+    }
+    Ok(())
+}
+
+/// Appends the text of a decode, by its nodes and the values of their action names.
+pub fn push_text(
+    t: &Tables,
+    templates: &[Template],
+    of: Instruction<'_>,
+    nodes: &[Entry],
+    out: &mut Vec<u8>,
+) -> Result<(), AllocError>
+    ensures { OnOk result ((constructors : List (Placed ConstructorOf)) (f : Trees Node)
+        → AreTemplates t.now constructors templates.now
+        → nodes.now ≡ entries 0 f → of.entry.values.now ≡ all_values f
+        → out.new.items ≡ out.old.items
+        ++ shown_text t.now constructors of.entry.bytes.now f) }
+{
+    push_first(t, templates, of, nodes, out)?;
+    Ok(())
+}
