@@ -290,13 +290,13 @@ module _ (g : Setting) (code : List Op) (Local : (node x n : ℕ) → Type 0) wh
     module _ (base : ℕ) (label_place : Label → ℕ) (lists : List (List Operation)) (leap : Label → Next) (does_child : ℕ → Next) (most : ℕ) (go : Rest)
         (within : (x : Label) → base + label_place x < 2147483648)
         (jumps_right : (x : Label) (left : ℕ) (m : Memory) (l : Locals) (u : Temporaries) → left ≤ most → Holds g.endian Local m l u → jumped g code left (base + label_place x) m u ≡ after (leap x (state m l left)) go)
-        (child_right : (i p : ℕ) (onward : Rest) → HasAt g code p (child_code top g f label_place lists i) → Good most (p + length (child_code top g f label_place lists i)) onward → Good most p (λ st. after (does_child i st) onward)) where
+        (child_right : (i p : ℕ) (onward : Rest) → HasAt g code p (child_code top g f lists i) → Good most (p + length (child_code top g f lists i)) onward → Good most p (λ st. after (does_child i st) onward)) where
       -- what the statements left do, and then the rest
       abbrev Does : List Step → Rest
       Does ss st = after (steps_run g f leap does_child ss st) go
 
       direct_run : (to : Direct) (p left : ℕ) (m : Memory) (l : Locals) (u : Temporaries) → DirectFits Local g f to → base + p < 2147483648 → left ≤ most → Holds g.endian Local m l u
-          → at_target (direct top g f label_place lists p to).place (direct top g f label_place lists p to).offset (λ d. jumped g code left (place_at (base + p) d) m u) (λ x. final_ending g x m) ≡ after (goes g f leap to (state m l left)) go
+          → at_target (direct top g f label_place p to).place (direct top g f label_place p to).offset (λ d. jumped g code left (place_at (base + p) d) m u) (λ x. final_ending g x m) ≡ after (goes g f leap to (state m l left)) go
       direct_run (s.to_label x) p left m l u fits lp le holds =
           ap (λ q. jumped g code left q m u) (target base p (label_place x) lp (within x)) ∙ jumps_right x left m l u le holds
       direct_run (s.to_place a) p left m l u fits lp le holds = ap (λ q. leaves q m) (target_is (meant g f a) m l fits)
@@ -346,12 +346,12 @@ module _ (g : Setting) (code : List Op) (Local : (node x n : ℕ) → Type 0) wh
           let r = child_right i (base + p) (Does ss) has next in
           record { by = λ left m l u le holds. r.by left m l u le holds ∙ sym (after_then (does_child i (state m l left)) (steps_run g f leap does_child ss) go) }
       step_run (s.branch to) ss p fits has next =
-          let len = has_len g code (base + p) (exit kind.Branch (direct top g f label_place lists p to) ∷ []) has in
-          record { by = λ left m l u le holds. step g code (Branch (direct top g f label_place lists p to)) left (base + p) m u has.0 ∙ direct_run to p left m l u fits (omega arith) le holds }
+          let len = has_len g code (base + p) (exit kind.Branch (direct top g f label_place p to) ∷ []) has in
+          record { by = λ left m l u le holds. step g code (Branch (direct top g f label_place p to)) left (base + p) m u has.0 ∙ direct_run to p left m l u fits (omega arith) le holds }
       step_run (s.branch_if e to) ss p fits has next =
           let ce = term_before top g f 0 e in
           let a = term_operand top g f 0 e in
-          let d = direct top g f label_place lists (p + length ce) to in
+          let d = direct top g f label_place (p + length ce) to in
           let o = exit_if d a in
           let len : base + p + length (ce ++ o ∷ []) ≡ base + p + length ce + 1 = omega (arith, length-append ce (o ∷ [])) in
           let room = has_len g code (base + p) (ce ++ o ∷ []) has in

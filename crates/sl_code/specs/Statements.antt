@@ -107,10 +107,13 @@ module _ (top : ℕ) where
     abbrev pub address_bytes : ℕ
     address_bytes = slice_index g.sizes g.default
 
+    abbrev pub pointer_address : Reference → Size → ℕ
+    pointer_address (number v) width = residue width.bytes v % 256 ^ address_bytes
+    pointer_address _ width = 0
+
     abbrev pub target_address : Reference → ℕ
     target_address (number v) = residue address_bytes v
-    target_address (memory space size (number v) width) =
-        residue width.bytes v % 256 ^ address_bytes
+    target_address (memory space size pointer width) = pointer_address pointer width
     target_address _ = 0
 
     abbrev pub target_of : Symbol → Varnode
@@ -121,15 +124,17 @@ module _ (top : ℕ) where
     abbrev pub exit_code : Code → Term → List Operation
     exit_code kind e = term_before top g f 0 e ++ exit kind (term_operand top g f 0 e) ∷ []
 
-    -- by where labels are, and the lists of the operands
-    module _ (label_place : Label → ℕ) (children : List (List Operation)) where
+    abbrev pub child_code : List (List Operation) → (i : ℕ) → List Operation
+    child_code children i = unwrap_or (slice_get children i) []
+
+    -- by where labels are
+    module _ (label_place : Label → ℕ) where
       abbrev pub direct : (at : ℕ) → Direct → Varnode
       direct at (s.to_label l) = amount (relative at (label_place l))
       direct at (s.to_place a) = target_of a
 
-      abbrev pub child_code : (i : ℕ) → List Operation
-      child_code i = unwrap_or (slice_get children i) []
-
+    -- by the lists of the operands, too
+    module _ (label_place : Label → ℕ) (children : List (List Operation)) where
       -- a statement whose first operation has a place in the list
       abbrev pub step_code : (at : ℕ) → Step → List Operation
       step_code at (s.declare x n) = []
@@ -138,11 +143,11 @@ module _ (top : ℕ) where
       step_code at (s.store space n pointer x e) = store_code (space_of g space) pointer e
       step_code at (s.run_user op es) = terms_before top g f 0 (chain es)
           ++ call_user op (terms_operands top g f 0 (chain es)) ∷ []
-      step_code at (s.build i) = child_code i
+      step_code at (s.build i) = child_code children i
       step_code at (s.label l) = []
-      step_code at (s.branch to) = exit code.Branch (direct at to) ∷ []
+      step_code at (s.branch to) = exit code.Branch (direct label_place at to) ∷ []
       step_code at (s.branch_if e to) = term_before top g f 0 e
-          ++ exit_if (direct (at + length (term_before top g f 0 e)) to)
+          ++ exit_if (direct label_place (at + length (term_before top g f 0 e)) to)
           (term_operand top g f 0 e) ∷ []
       step_code at (s.branch_to e) = exit_code code.BranchInd e
       step_code at (s.call a) = exit code.Call (target_of a) ∷ []
