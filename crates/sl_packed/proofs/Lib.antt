@@ -1,0 +1,13 @@
+pub mod FormLaws
+pub mod Goods
+pub mod ExpressionLaws
+pub mod PatternLaws
+pub mod StatementLaws
+pub mod KeywordLaws
+pub mod DefinitionLaws
+pub mod ConstructorLaws
+pub mod ItemLaws
+pub mod CharacterLaws
+pub mod FileNameLaws
+pub mod PackedLaws
+pub mod ValidLaws

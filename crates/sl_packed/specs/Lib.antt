@@ -1,0 +1,11 @@
+pub mod Forms
+pub mod Keywords
+pub mod Expressions
+pub mod Patterns
+pub mod Statements
+pub mod Definitions
+pub mod Constructors
+pub mod Items
+pub mod FileNames
+pub mod Packed
+pub mod Laws

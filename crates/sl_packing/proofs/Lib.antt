@@ -1,0 +1,10 @@
+pub mod Steady
+pub mod Chains
+pub mod NumberLaws
+pub mod PartLaws
+pub mod LexemeLaws
+pub mod Collected
+pub mod VerdictLaws
+pub mod MarkLaws
+pub mod RuleLaws
+pub mod OrderLaws

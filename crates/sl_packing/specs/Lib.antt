@@ -1,0 +1,10 @@
+pub mod Reader
+pub mod Numbers
+pub mod Lists
+pub mod Tables
+pub mod Lexemes
+pub mod Words
+pub mod Orders
+pub mod Exact
+pub mod Verdicts
+pub mod Reads
