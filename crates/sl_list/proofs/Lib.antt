@@ -1,0 +1,5 @@
+pub mod LawLemmas
+pub mod ListLemmas
+pub mod ShowLemmas
+pub mod WritingLemmas
+pub mod ZeroLemmas

@@ -1,0 +1,6 @@
+pub mod Instructions
+pub mod Laws
+pub mod Lines
+pub mod Listings
+pub mod Told
+pub mod UnderWay

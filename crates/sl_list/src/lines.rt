@@ -1,0 +1,51 @@
+//! Lines of a listing, each appended to a buffer.
+
+ghost use Rattle.std.specs.Prelude.{◌≡◌, ◌++◌, ◌≤◌, OnOk, length};
+ghost use Rattle.hex.specs.Hex.{encode_lower};
+ghost use Rattle.sl_list.specs.Lines.{address_text, listed_line};
+
+use sl_word::AddressSize;
+use std::alloc::AllocError;
+
+/// The most bytes that a line shows.
+pub(crate) const MOST_BYTES: usize = 255;
+
+/// Appends the bytes in hexadecimal, two digits each.
+fn push_hex(out: &mut Vec<u8>, bytes: &[u8]) -> Result<(), AllocError>
+    requires { length bytes.now ≤ MOST_BYTES }
+    ensures { OnOk result (out.new.items ≡ out.old.items ++ encode_lower bytes.now) }
+{
+    let mut buffer = [0; 2 * MOST_BYTES];
+    let digits = &mut buffer[..2 * bytes.len()];
+    hex::encode_to_slice(bytes, digits).unwrap();
+    out.extend_from_slice(digits)
+}
+
+/// Appends an address in hexadecimal, with two digits for each of its bytes.
+fn push_address(out: &mut Vec<u8>, size: AddressSize, address: u64) -> Result<(), AllocError>
+    ensures { OnOk result (out.new.items ≡ out.old.items ++ address_text size.bytes address) }
+{
+    let bytes = address.to_be_bytes();
+    push_hex(out, &bytes[8 - usize::from(size.get())..])
+}
+
+/// Appends a line: an address, the bytes that are there, and what they are. Where memory runs out the
+/// buffer may have a part of it.
+pub fn push_listed(
+    out: &mut Vec<u8>,
+    size: AddressSize,
+    address: u64,
+    shown: &[u8],
+    text: &[u8],
+) -> Result<(), AllocError>
+    requires { length shown.now ≤ MOST_BYTES }
+    ensures { OnOk result (out.new.items
+        ≡ out.old.items ++ listed_line size.bytes address shown.now text.now) }
+{
+    push_address(out, size, address)?;
+    out.extend_from_slice(b": ")?;
+    push_hex(out, shown)?;
+    out.extend_from_slice(b" ")?;
+    out.extend_from_slice(text)?;
+    out.extend_from_slice(b"\n")
+}
