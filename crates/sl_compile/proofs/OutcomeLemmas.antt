@@ -1,38 +1,34 @@
 -- A specification has one outcome, and it can't be that it has none.
-use Rattle.std.proofs.Common.{◌≡◌, ℕ, ◌⊎◌, inl, inr, List, Result, Ok, Err, refl, sym, ap, subst, ◌∙◌}
+use Rattle.std.proofs.Common.{◌≡◌, ℕ, ◌⊎◌, inl, inr, List, Option, Result, Ok, Err, refl, sym, ap, subst, ◌∙◌}
 use Rattle.sl_ast.specs.Trees.{Constructor, Item}
 use Rattle.sl_ast.specs.Unfolding.{Placed}
-use Rattle.sl_bind.specs.Verdict.{Broken, taken}
-use Rattle.sl_compile.specs.Outcomes.{Binds, Compiles, IsAmbiguous, IsFaulty, Judges, Outcome, Refusal, all_constructors, ambiguous, of_broken, of_fault, of_report}
+use Rattle.sl_bind.proofs.VerdictLemmas.{one_verdict, some_verdict}
+use Rattle.sl_bind.specs.Binding as bind
+use Rattle.sl_bind.specs.declared.fault.BindFault.{BindFault}
+use Rattle.sl_compile.specs.Outcomes.{Binds, Compiles, IsAmbiguous, IsFaulty, Judges, Outcome, Refusal, all_constructors, ambiguous, of_bound, of_fault, of_report}
+use Rattle.sl_compile.proofs.ResultLemmas.{err_is, ok_is, ok_not_err}
 use Rattle.sl_compile.proofs.StandLemmas.{stands}
 use Rattle.sl_settle.specs.declared.report.Report.{Report}
-use Rattle.sl_settle.proofs.Surely.{Surely, surely, surely_map}
+use Rattle.sl_settle.proofs.Surely.{Surely, surely, surely_map, surely_then}
 use Rattle.sl_shape.specs.declared.faults.Fault.{Fault}
 use Rattle.sl_sound.specs.Soundness.{Stand}
 use Rattle.sl_sound.proofs.SoundLemmas.{Verdict, faulty_not_ambiguous, one_ambiguous, one_fault, some_judgement, sound_not_ambiguous, sound_not_faulty}
 use Rattle.sl_spec.specs.declared.tables.Tables.{Tables}
+use Rattle.sl_word.specs.declared.word.Size.{Size}
 
 -- ---- tables
 
-ok_not_err : {A E : Type 0} (x : A) (e : E) → ◌≡◌ {A = Result A E} (Ok x) (Err e) → ⊥
-ok_not_err x e h = absurd (cc)
-
-ok_is : {A E : Type 0} (x y : A) → ◌≡◌ {A = Result A E} (Ok x) (Ok y) → x ≡ y
-ok_is x y h = cc
-
-err_is : {A E : Type 0} (e f : E) → ◌≡◌ {A = Result A E} (Err e) (Err f) → e ≡ f
-err_is e f h = cc
-
 binds_one : (items : List Item) (r q : Outcome) → Binds items r → Binds items q → r ≡ q
-binds_one items (Ok t) (Ok u) h g = ap Ok (ok_is {E = Broken} t u (sym h ∙ g))
-binds_one items (Ok t) (Err x) h g = absurd (ok_not_err t g.0 (sym h ∙ g.1))
-binds_one items (Err x) (Ok t) h g = absurd (ok_not_err t h.0 (sym g ∙ h.1))
+binds_one items (Ok t) (Ok u) h g =
+    ap Ok (ap (λ (p : Tables × List (List Size)). p.0) (ok_is (t, h.0) (u, g.0) (one_verdict items (Ok (t, h.0)) (Ok (u, g.0)) h.1 g.1)))
+binds_one items (Ok t) (Err x) h g = absurd (ok_not_err (t, h.0) g.0 (one_verdict items (Ok (t, h.0)) (Err g.0) h.1 g.1))
+binds_one items (Err x) (Ok t) h g = absurd (ok_not_err (t, g.0) h.0 (one_verdict items (Ok (t, g.0)) (Err h.0) g.1 h.1))
 binds_one items (Err x) (Err y) h g =
-    ap Err (h.2 ∙ ap (λ (b : Broken). of_broken b) (err_is {A = Tables} h.0 g.0 (sym h.1 ∙ g.1)) ∙ sym g.2)
+    ap Err (h.2 ∙ ap (λ (f : BindFault × Option ℕ). of_bound f) (err_is {A = Tables × List (List Size)} h.0 g.0 (one_verdict items (Err h.0) (Err g.0) h.1 g.1)) ∙ sym g.2)
 
-binds_by : (items : List Item) (there : Result Tables Broken) → taken items ≡ there → (r : Outcome) × Binds items r
-binds_by items (Ok t) is = (Ok t, is)
-binds_by items (Err broken) is = (Err (of_broken broken), (broken, is, refl))
+binds_by : (items : List Item) → (v : bind.Verdict) × bind.Binds items v → (r : Outcome) × Binds items r
+binds_by items (Ok found, binds) = (Ok found.0, (found.1, binds))
+binds_by items (Err fault, binds) = (Err (of_bound fault), (fault, binds, refl))
 
 -- ---- sound tables
 
@@ -87,7 +83,7 @@ compiles_one items r q (inr h) (inr g) =
     judges_one h.tables cs (stands items h.tables h.binds) r q h.judges (subst (λ (t : Tables). Judges t cs q) same g.judges)
 
 pub some_compiles : (items : List Item) → Surely ((r : Outcome) × Compiles items r)
-some_compiles items = by (binds_by items (taken items) refl)
+some_compiles items = surely_then (surely_map (binds_by items) (some_verdict items)) by
   where
     by : (r : Outcome) × Binds items r → Surely ((r : Outcome) × Compiles items r)
     by (Err x, binds) = surely (Err x, inl (record { refusal = x; binds = binds; is = refl }))

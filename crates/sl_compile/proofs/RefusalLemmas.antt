@@ -9,12 +9,13 @@ use Rattle.sl_ast.specs.declared.items.Spec.{Spec}
 use Rattle.sl_bind.proofs.IndexLemmas.{joined_is_gathered}
 use Rattle.sl_bind.specs.Refusals as bind
 use Rattle.sl_bind.specs.Refusals.{token_of}
-use Rattle.sl_bind.specs.Verdict.{taken}
+use Rattle.sl_bind.specs.declared.fault.BindFault.{BindFault}
+use Rattle.sl_bind.specs.declared.fault.BindFault.TheVariants as broken
 use Rattle.sl_bind.specs.declared.bound.BindError.{BindError}
 use Rattle.sl_bind.specs.declared.bound.BindError.TheVariants as b
-use Rattle.sl_compile.specs.Outcomes.{Compiles, Refusal, all_constructors, ambiguous, flawed, of_broken, of_fault, of_report}
+use Rattle.sl_compile.specs.Outcomes.{Binds, Compiles, Refusal, all_constructors, ambiguous, flaw_bound, flawed, of_bound, of_fault, of_report}
 use Rattle.sl_compile.specs.Places.{IsTold, TellsRefusal, refused}
-use Rattle.sl_compile.specs.Refusals.{Refuses, unbound}
+use Rattle.sl_compile.specs.Refusals.{IsRefused, Refuses, unbound}
 use Rattle.sl_compile.specs.declared.error.CompileError.{CompileError}
 use Rattle.sl_compile.specs.declared.error.CompileError.TheVariants as e
 use Rattle.sl_compile.specs.declared.error.Flaw.TheVariants as flaw
@@ -31,20 +32,25 @@ use Rattle.sl_sound.specs.declared.judging.Unsound.{Unsound}
 use Rattle.sl_sound.specs.declared.judging.Unsound.TheVariants as u
 use Rattle.sl_spec.specs.declared.tables.Tables.{Tables}
 
--- ---- rules
+-- ---- rules and sizes
 
 -- an error of `bind` is one of `compile`
-pub unbound_refuses : (spec : Spec) (error : BindError) → bind.Refuses spec error → Refuses spec (unbound error)
-unbound_refuses spec (b.Rule number token) h = record {
-  refusal = of_broken h.0;
-  compiles = inl (record { refusal = of_broken h.0; binds = (h.0, h.1, refl); is = refl });
-  is = ap (λ (n : ℕ). flawed (flaw.Rule n) token) (sym h.2) ∙ ap (λ (o : Option ℕ). flawed (flaw.Rule h.0.0) o) h.3;
+by_bind : (spec : Spec) (fault : BindFault) (token : Option ℕ) → bind.HasFault spec fault token → IsRefused spec (flawed (flaw_bound fault) token)
+by_bind spec fault token h = record {
+  refusal = of_bound (fault, h.item);
+  compiles = inl (record { refusal = of_bound (fault, h.item); binds = ((fault, h.item), h.binds, refl); is = refl });
+  is = ap (λ (o : Option ℕ). flawed (flaw_bound fault) o) h.token_is;
 }
+
+pub unbound_refuses : (spec : Spec) (error : BindError) → bind.Refuses spec error → Refuses spec (unbound error)
+unbound_refuses spec (b.Rule number token) h = by_bind spec (broken.Rule number) token h
+unbound_refuses spec (b.SizeClash token) h = by_bind spec broken.SizeClash token h
+unbound_refuses spec (b.SizeUnfixed token) h = by_bind spec broken.SizeUnfixed token h
 unbound_refuses spec b.NoMemory h = tt
 
 -- ---- sound tables
 
-module _ (items : List Item) (t : Tables) (is : taken items ≡ Ok t) where
+module _ (items : List Item) (t : Tables) (is : Binds items (Ok t)) where
   -- sound tables are what the specification compiles to
   pub compiles_sound : IsSound t (all_constructors items) → Compiles items (Ok t)
   compiles_sound sound = inr (record { tables = t; binds = is; judges = (refl, sound) })

@@ -2,7 +2,9 @@
 use Rattle.std.specs.Prelude.{◌≡◌, ◌⊎◌, ℕ, List, [], Option, Some, None, Result, Ok, Err, option_map, slice_get}
 use Rattle.sl_ast.specs.Trees.{Constructor, Item}
 use Rattle.sl_ast.specs.Unfolding.{Placed, unfolded}
-use Rattle.sl_bind.specs.Verdict.{Broken, taken}
+use Rattle.sl_bind.specs.Binding as bind
+use Rattle.sl_bind.specs.declared.fault.BindFault.{BindFault}
+use Rattle.sl_bind.specs.declared.fault.BindFault.TheVariants as broken
 use Rattle.sl_compile.specs.Ambiguity.{Ambiguity}
 use Rattle.sl_compile.specs.declared.error.Flaw.{Flaw}
 use Rattle.sl_compile.specs.declared.error.Flaw.TheVariants as flaw
@@ -14,6 +16,7 @@ use Rattle.sl_sound.specs.Soundness.{IsAmbiguousAt, IsSound}
 use Rattle.sl_spec.specs.Tables.{Table}
 use Rattle.sl_spec.specs.Unfolded.{constructors_in}
 use Rattle.sl_spec.specs.declared.tables.Tables.{Tables}
+use Rattle.sl_word.specs.declared.word.Size.{Size}
 
 -- ---- refusals
 
@@ -28,14 +31,20 @@ Outcome = Result Tables Refusal
 
 -- ---- tables
 
--- a broken rule as a flaw of its item
-abbrev pub of_broken : Broken → Refusal
-of_broken broken = flawed (flaw.Rule broken.0) broken.1
+-- a broken rule, or sizes that aren't there, as a flaw
+abbrev pub flaw_bound : BindFault → Flaw
+flaw_bound (broken.Rule number) = flaw.Rule number
+flaw_bound broken.SizeClash = flaw.SizeClash
+flaw_bound broken.SizeUnfixed = flaw.SizeUnfixed
 
--- The specification has these tables, or it breaks a rule first.
+-- so of its item
+abbrev pub of_bound : BindFault × Option ℕ → Refusal
+of_bound fault = flawed (flaw_bound fault.0) fault.1
+
+-- The specification has these tables, and sizes; or it breaks a rule, or has no sizes, and this comes first.
 abbrev pub Binds : List Item → Outcome → Type 0
-Binds items (Ok t) = taken items ≡ Ok t
-Binds items (Err x) = (broken : Broken) × (taken items ≡ Err broken) × (x ≡ of_broken broken)
+Binds items (Ok t) = (sizes : List (List Size)) × bind.Binds items (Ok (t, sizes))
+Binds items (Err x) = (fault : BindFault × Option ℕ) × bind.Binds items (Err fault) × (x ≡ of_bound fault)
 
 -- ---- sound tables
 
@@ -99,13 +108,13 @@ module _ (t : Tables) (cs : List (Placed Constructor)) where
 abbrev pub all_constructors : List Item → List (Placed Constructor)
 all_constructors items = constructors_in (unfolded items)
 
--- A rule is broken.
+-- A rule is broken, or sizes aren't there.
 pub record IsUnbound (items : List Item) (r : Outcome) : Type 0 where
   pub refusal : Refusal
   pub binds : Binds items (Err refusal)
   pub is : r ≡ Err refusal
 
--- No rule is broken, and this becomes of the tables.
+-- No rule is broken and sizes are there, and this becomes of the tables.
 pub record IsJudged (items : List Item) (r : Outcome) : Type 0 where
   pub tables : Tables
   pub binds : Binds items (Ok tables)

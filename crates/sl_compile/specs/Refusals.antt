@@ -40,4 +40,6 @@ Refuses spec error.NoMemory = Unit {0}
 -- an error of `bind` as one of `compile`
 abbrev pub unbound : BindError → CompileError
 unbound (bind.Rule number token) = error.Flaw (flaw.Rule number) token
+unbound (bind.SizeClash token) = error.Flaw flaw.SizeClash token
+unbound (bind.SizeUnfixed token) = error.Flaw flaw.SizeUnfixed token
 unbound bind.NoMemory = error.NoMemory

@@ -10,6 +10,10 @@ use std::marker::Model;
 pub enum Flaw {
     /// A rule of the language is broken, by its number.
     Rule(u8),
+    /// No sizes fit the section of a constructor.
+    SizeClash,
+    /// Several sizes fit the section of a constructor.
+    SizeUnfixed,
     /// What stands behind a pattern that may go on doesn't hold everywhere.
     InteriorEllipsis,
     /// The tokens of two joined patterns differ.

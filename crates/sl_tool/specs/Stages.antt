@@ -103,6 +103,8 @@ Reads told = Then (Expands told) (Then Tokenizes Parses)
 
 abbrev pub problem_of_flaw : Flaw → Problem
 problem_of_flaw (flaw.Rule number) = Rule number
+problem_of_flaw flaw.SizeClash = SizeClash
+problem_of_flaw flaw.SizeUnfixed = SizeUnfixed
 problem_of_flaw flaw.InteriorEllipsis = InteriorEllipsis
 problem_of_flaw flaw.TokensDiffer = TokensDiffer
 problem_of_flaw flaw.Impossible = Impossible

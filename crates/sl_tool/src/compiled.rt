@@ -29,6 +29,8 @@ fn problem_of(flaw: Flaw) -> Problem
 {
     match flaw {
         Flaw::Rule(number) => Problem::Rule(number),
+        Flaw::SizeClash => Problem::SizeClash,
+        Flaw::SizeUnfixed => Problem::SizeUnfixed,
         Flaw::InteriorEllipsis => Problem::InteriorEllipsis,
         Flaw::TokensDiffer => Problem::TokensDiffer,
         Flaw::Impossible => Problem::Impossible,
