@@ -21,7 +21,7 @@ use Rattle.sl_spec.specs.declared.tables.Tables.{Tables}
 use Rattle.sl_tables.specs.TableRules.{late_fault}
 use Rattle.sl_tables.specs.declared.faults.LateFault.{LateFault}
 
-none_late : (late : Option LateFault) (t next : Tables) → unless_late late t ≡ Ok next → (late ≡ None) × (t ≡ next)
+pub none_late : (late : Option LateFault) (t next : Tables) → unless_late late t ≡ Ok next → (late ≡ None) × (t ≡ next)
 none_late None t next is = (refl, ap (tables_or t) is)
   where
     tables_or : {E : Type 0} → Tables → Result Tables E → Tables

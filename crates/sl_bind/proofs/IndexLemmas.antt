@@ -1,5 +1,5 @@
 -- The first tokens of what stands in blocks.
-use Rattle.std.proofs.Common.{◌≡◌, ℕ, List, [], ◌∷◌, ◌++◌, Vec, map, refl, sym, ap, ◌∙◌, append_assoc, Result, Ok, Err}
+use Rattle.std.proofs.Common.{◌≡◌, ℕ, List, [], ◌∷◌, ◌++◌, Vec, map, refl, sym, ap, ◌∙◌, append_assoc, Option, subst, Result, Ok, Err}
 use Rattle.std.specs.Prelude.{IfOk}
 use Rattle.std.specs.declared.alloc.Global.{Global}
 use Rattle.sl_ast.specs.Views.{inner_indexes, inner_indexes_step, joined_lists}
@@ -13,13 +13,12 @@ use Rattle.sl_ast.specs.Views.{indexes_of, item_indexes, items_of}
 use Rattle.sl_ast.specs.declared.items.Item.{Item}
 use Rattle.sl_ast.specs.declared.items.Spec.{Spec}
 use Rattle.sl_bind.specs.Indexes.{indexes_in}
-use Rattle.sl_bind.specs.Refusals.{Refuses, TellsStop, token_of}
-use Rattle.sl_bind.specs.Steps.{FailsAt}
-use Rattle.sl_bind.specs.Verdict.{taken}
+use Rattle.sl_bind.specs.Binding.{Binds}
+use Rattle.sl_bind.specs.Refusals.{HasFault, IsErrorOf, Refuses, TellsFault, token_of}
 use Rattle.sl_bind.specs.declared.bound.BindError.{BindError}
 use Rattle.sl_bind.specs.declared.bound.BindError.TheVariants as be
-use Rattle.sl_bind.specs.declared.stop.Stop.{Stop}
-use Rattle.sl_bind.specs.declared.stop.Stop.TheVariants as st
+use Rattle.sl_bind.specs.declared.fault.BindFault.{BindFault}
+use Rattle.sl_bind.specs.declared.fault.BindFault.TheVariants as fault
 use Rattle.sl_rules.specs.Gathered.{gathered}
 
 pub joined_is_gathered : {X : Type 0} (f : X → List ℕ) (xs : List X) → joined_lists (map f xs) ≡ gathered f xs
@@ -57,9 +56,25 @@ adds_item first inside parts old between new (Err e) listed pushed is = tt
 indexes_are : (spec : Spec) → indexes_of spec ≡ gathered item_indexes spec.items.items
 indexes_are spec = joined_is_gathered item_indexes spec.items.items
 
-pub refuses : (spec : Spec) (items : List Item) (s : Stop) (error : BindError) → items ≡ spec.items.items
-    → FailsAt s (taken (items_of spec)) → TellsStop (gathered item_indexes items) s error → Refuses spec error
-refuses spec items s be.NoMemory are fails tells = tt
-refuses spec items (st.Rule rule item) (be.Rule number token) are fails tells =
-    ((rule, item), fails, tells.0, tells.1 ∙ ap (λ (is : List Item). token_of (gathered item_indexes is) item) are ∙ ap (λ (l : List ℕ). token_of l item) (sym (indexes_are spec)))
-refuses spec items st.NoMemory (be.Rule number token) are fails tells = absurd tells
+pub refuses : (spec : Spec) (items : List Item) (f : BindFault) (item : Option ℕ) (error : BindError) → items ≡ spec.items.items
+    → Binds (items_of spec) (Err (f, item)) → TellsFault (gathered item_indexes items) f item error → Refuses spec error
+refuses spec items f item error are binds tells = by error tells
+  where
+    fits : (g : BindFault) (token : Option ℕ) → f ≡ g → token ≡ token_of (gathered item_indexes items) item → HasFault spec g token
+    fits g token is told = record {
+      item = item;
+      binds = subst (λ (x : BindFault). Binds (items_of spec) (Err (x, item))) is binds;
+      token_is = told ∙ ap (λ (is : List Item). token_of (gathered item_indexes is) item) are ∙ ap (λ (l : List ℕ). token_of l item) (sym (indexes_are spec));
+    }
+
+    by : (e : BindError) → TellsFault (gathered item_indexes items) f item e → Refuses spec e
+    by be.NoMemory told = tt
+    by (be.Rule number token) told = fits (fault.Rule number) token told.0 told.1
+    by (be.SizeClash token) told = fits fault.SizeClash token told.0 told.1
+    by (be.SizeUnfixed token) told = fits fault.SizeUnfixed token told.0 told.1
+
+pub tells_fault : (indexes : List ℕ) (f : BindFault) (item token : Option ℕ) (error : BindError) → token ≡ token_of indexes item → IsErrorOf f token error → TellsFault indexes f item error
+tells_fault indexes f item token be.NoMemory is told = tt
+tells_fault indexes f item token (be.Rule number given) is told = (told.0, told.1 ∙ is)
+tells_fault indexes f item token (be.SizeClash given) is told = (told.0, told.1 ∙ is)
+tells_fault indexes f item token (be.SizeUnfixed given) is told = (told.0, told.1 ∙ is)

@@ -9,3 +9,4 @@ pub mod OutcomeLemmas
 pub mod RunLemmas
 pub mod SideLemmas
 pub mod TakenLemmas
+pub mod VerdictLemmas

@@ -1,4 +1,7 @@
+pub mod Binding
 pub mod Indexes
+pub mod Laws
 pub mod Refusals
+pub mod Sections
 pub mod Steps
 pub mod Verdict

@@ -2,25 +2,43 @@
 use Rattle.std.specs.Prelude.{◌≡◌, ℕ, List, Option, Err, slice_get, option_and_then}
 use Rattle.sl_ast.specs.Views.{indexes_of, items_of}
 use Rattle.sl_ast.specs.declared.items.Spec.{Spec}
-use Rattle.sl_bind.specs.Verdict.{Broken, taken}
+use Rattle.sl_bind.specs.Binding.{Binds}
 use Rattle.sl_bind.specs.declared.bound.BindError.{BindError}
 use Rattle.sl_bind.specs.declared.bound.BindError.TheVariants as error
-use Rattle.sl_bind.specs.declared.stop.Stop.{Stop}
-use Rattle.sl_bind.specs.declared.stop.Stop.TheVariants as stop
+use Rattle.sl_bind.specs.declared.fault.BindFault.{BindFault}
+use Rattle.sl_bind.specs.declared.fault.BindFault.TheVariants as fault
 
--- The first token of the item that breaks the rule; none is the text's end.
+-- The first token of the item where the fault is; none is the text's end.
 abbrev pub token_of : List ℕ → Option ℕ → Option ℕ
 token_of indexes item = option_and_then (slice_get indexes) item
 
--- The specification breaks this rule first, and the item that breaks it begins at this token; the
--- text's end where there is none. Memory may run out.
+-- This is the first fault of the specification, and the item where it is begins at this token.
+pub record HasFault (spec : Spec) (fault : BindFault) (token : Option ℕ) : Type 0 where
+  pub item : Option ℕ
+  pub binds : Binds (items_of spec) (Err (fault, item))
+  pub token_is : token ≡ token_of (indexes_of spec) item
+
+-- The error tells the first fault of the specification, and where it is. Memory may run out.
 abbrev pub Refuses : Spec → BindError → Type 0
-Refuses spec (error.Rule number token) = (broken : Broken) × (taken (items_of spec) ≡ Err broken)
-    × (broken.0 ≡ number) × (token ≡ token_of (indexes_of spec) broken.1)
+Refuses spec (error.Rule number token) = HasFault spec (fault.Rule number) token
+Refuses spec (error.SizeClash token) = HasFault spec fault.SizeClash token
+Refuses spec (error.SizeUnfixed token) = HasFault spec fault.SizeUnfixed token
 Refuses spec error.NoMemory = Unit {0}
 
--- The error tells of a stop its rule and its item's first token, by the first tokens of all items.
-abbrev pub TellsStop : List ℕ → Stop → BindError → Type 0
-TellsStop indexes s error.NoMemory = Unit {0}
-TellsStop indexes (stop.Rule rule item) (error.Rule number token) = (rule ≡ number) × (token ≡ token_of indexes item)
-TellsStop indexes stop.NoMemory (error.Rule number token) = ⊥
+-- The error is this fault with this token.
+abbrev pub IsErrorOf : BindFault → Option ℕ → BindError → Type 0
+IsErrorOf f token error.NoMemory = ⊥
+IsErrorOf f token (error.Rule number told) = (f ≡ fault.Rule number) × (told ≡ token)
+IsErrorOf f token (error.SizeClash told) = (f ≡ fault.SizeClash) × (told ≡ token)
+IsErrorOf f token (error.SizeUnfixed told) = (f ≡ fault.SizeUnfixed) × (told ≡ token)
+
+-- The error is this fault with the item's first token, by the first tokens of all items; or memory
+-- ran out.
+abbrev pub TellsFault : List ℕ → BindFault → Option ℕ → BindError → Type 0
+TellsFault indexes f item error.NoMemory = Unit {0}
+TellsFault indexes f item (error.Rule number told) =
+    (f ≡ fault.Rule number) × (told ≡ token_of indexes item)
+TellsFault indexes f item (error.SizeClash told) =
+    (f ≡ fault.SizeClash) × (told ≡ token_of indexes item)
+TellsFault indexes f item (error.SizeUnfixed told) =
+    (f ≡ fault.SizeUnfixed) × (told ≡ token_of indexes item)

@@ -68,14 +68,6 @@ writes_map S R a b (Err WriteFault) f g = front_map S R a b f g
 writes_map S R a b (Err NoMemory) f (inl w) = inl w
 writes_map S R a b (Err NoMemory) f (inr w) = inr (front_map S R a b f w)
 
--- a command that writes nothing
-pub gives_writes : (S : Result Shown Refusal → Type 0) (a : Option (List ℕ)) (x : Result Ending Halt) → Gives S (λ e. shown e []) x → Writes S a a x
-gives_writes S a (Ok e) g = ([], g, Appends-nil a)
-gives_writes S a (Err (Refused x)) g = (g, Appends-nil a)
-gives_writes S a (Err ReadFault) g = Appends-nil a
-gives_writes S a (Err WriteFault) g = absurd g
-gives_writes S a (Err NoMemory) g = inl (Appends-nil a)
-
 -- a command that writes what is due
 pub show_writes : (S : Result Shown Refusal → Type 0) (due : Due) (a b : Option (List ℕ)) (x : Result Ending Halt)
     → ((e : Ending) (text : List ℕ) → due e text → S (Ok (shown e text))) → Streams due a b x → Writes S a b x
@@ -94,21 +86,20 @@ stop_sink S view faults calls out ReadFault g = record { never_falls = omega ari
 stop_sink S view faults calls out WriteFault g = absurd g
 stop_sink S view faults calls out NoMemory g = record { never_falls = omega arith; failed = λ f. absurd f; goes_on = omega arith }
 
--- a command that doesn't use the sink
-pub gives_sink : {K : Type 0} (S : Result Shown Refusal → Type 0) (faults calls : K → ℕ) (out : K) (x : Result Ending Halt) → Gives S (λ e. shown e []) x
-    → UsesSink faults calls out out (FailsToWrite x)
-gives_sink S faults calls out (Ok e) g = record { never_falls = omega arith; failed = λ f. absurd f; goes_on = omega arith }
-gives_sink S faults calls out (Err (Refused x)) g = record { never_falls = omega arith; failed = λ f. absurd f; goes_on = omega arith }
-gives_sink S faults calls out (Err ReadFault) g = absurd g
-gives_sink S faults calls out (Err WriteFault) g = absurd g
-gives_sink S faults calls out (Err NoMemory) g = record { never_falls = omega arith; failed = λ f. absurd f; goes_on = omega arith }
-
-never_reads : (due : Due) (a b : Option (List ℕ)) (x : Result Ending Halt) → Streams due a b x → FailsToRead x → ⊥
+-- what writes reads nothing
+pub never_reads : (due : Due) (a b : Option (List ℕ)) (x : Result Ending Halt) → Streams due a b x → FailsToRead x → ⊥
 never_reads due a b (Ok s) g f = f
 never_reads due a b (Err (Refused x)) g f = f
 never_reads due a b (Err ReadFault) g f = g
 never_reads due a b (Err WriteFault) g f = f
 never_reads due a b (Err NoMemory) g f = f
+
+-- a stage that stops and reads nothing
+pub stop_unread : {T B : Type 0} (S : Result B Refusal → Type 0) (view : T → B) (h : Halt) → Gives S view (Err h) → FailsToRead {T = Ending} (Err h) → ⊥
+stop_unread S view (Refused x) g f = f
+stop_unread S view ReadFault g f = g
+stop_unread S view WriteFault g f = f
+stop_unread S view NoMemory g f = f
 
 pub show_unwritten : {P : Type 0} (due : Due) (a b : Option (List ℕ)) (x : Result Ending Halt) → Streams due a b x → FailsToRead x → P
 show_unwritten due a b x g f = absurd (never_reads due a b x g f)
@@ -191,17 +182,9 @@ module _ {F : Type 0} (told : F → Option Folder) (faults : F → ℕ) (asked :
   }
 
   -- a command that reads nothing
-  pub gives_files : (S : Result Shown Refusal → Type 0) (old : F) (x : Result Ending Halt) → Gives S (λ e. shown e []) x
-      → UsesFor (λ names. names ≡ []) old old (IsEarly x) (FailsToRead x)
-  gives_files S old x g =
-      idle (λ names. names ≡ []) old (IsEarly x) (FailsToRead x) (surely (let p : (names : List (List ℕ)) × (names ≡ []) = ([], refl) in p)) (λ n. refl) (never x g)
-    where
-      never : (y : Result Ending Halt) → Gives S (λ e. shown e []) y → FailsToRead y → ⊥
-      never (Ok e) h f = f
-      never (Err (Refused z)) h f = f
-      never (Err ReadFault) h f = h
-      never (Err WriteFault) h f = f
-      never (Err NoMemory) h f = f
+  pub asks_nothing : (old : F) (x : Result Ending Halt) → (FailsToRead x → ⊥) → UsesFor (λ names. names ≡ []) old old (IsEarly x) (FailsToRead x)
+  asks_nothing old x never =
+      idle (λ names. names ≡ []) old (IsEarly x) (FailsToRead x) (surely (let p : (names : List (List ℕ)) × (names ≡ []) = ([], refl) in p)) (λ n. refl) never
 
   -- ---- the image
 

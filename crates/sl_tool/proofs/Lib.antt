@@ -7,6 +7,7 @@ pub mod ListedLemmas
 pub mod OneListing
 pub mod ChangeLemmas
 pub mod RunningLemmas
+pub mod CompiledLemmas
 pub mod Thens
 pub mod ExpandLemmas
 pub mod PlaceLemmas

@@ -1,13 +1,13 @@
 -- Lines built piece by piece.
-use Rattle.std.proofs.Common.{◌≡◌, ℕ, List, ◌++◌, Result, Ok, Err, append_assoc}
+use Rattle.std.proofs.Common.{◌≡◌, ℕ, List, [], ◌++◌, Result, Ok, Err, append_assoc}
 use Rattle.std.specs.Prelude.{OnOk, codes}
 use Rattle.std.specs.Int.{w64, w128, to_be_bytes}
 use Rattle.hex.specs.Hex.{encode_lower}
 use Rattle.sl_cube.specs.declared.Point.{Point}
 use Rattle.sl_tool.specs.Lines.{point_text}
 use Rattle.sl_tool.specs.Problems.{point_line, apart_lines}
-use Rattle.sl_sets.specs.declared.conflicts.Apart.{Apart}
-use Rattle.sl_sets.specs.declared.conflicts.Apart.TheVariants.{Two}
+use Rattle.sl_settle.specs.declared.report.Apart.{Apart}
+use Rattle.sl_settle.specs.declared.report.Apart.TheVariants.{Two}
 
 -- three pieces after a text, of which the last came with a result
 three_pieces : {T E : Type 0} (r : Result T E) (start one two whole a b c : List ℕ)
@@ -27,3 +27,9 @@ pub two_points : {T E : Type 0} (r : Result T E) (told : Apart) (p q : Point) (s
     → OnOk r (whole ≡ start ++ apart_lines told)
 two_points (Ok x) told p q start one whole are first second = rw (second, first, are) (append_assoc start (point_line (codes "first") p) (point_line (codes "second") q))
 two_points (Err e) told p q start one whole are first second = second
+
+-- two words with a number each, and what closes the line
+pub two_counts : (start one two whole a b z x y tables constructors : List ℕ) → start ≡ [] → one ≡ start ++ (a ++ x) → two ≡ one ++ (b ++ y) → whole ≡ two ++ z
+    → x ≡ tables → y ≡ constructors → whole ≡ a ++ (tables ++ (b ++ (constructors ++ z)))
+two_counts start one two whole a b z x y tables constructors empty first second third tables_are constructors_are =
+    rw (third, second, first, empty, tables_are, constructors_are) (simp append_assoc)

@@ -2,7 +2,7 @@
 use Rattle.std.proofs.Common.{◌≡◌, ℕ, ◌/◌, List, Some, Result, Ok, Err, sym, ap, ◌∙◌}
 use Rattle.sl_description.specs.Fields.{Matches}
 use Rattle.sl_outside.specs.Folder.{Folder}
-use Rattle.sl_tool.specs.Answers.{Answers, Follows, Shows, Waits, mnemonics}
+use Rattle.sl_tool.specs.Answers.{Answers, Counts, Follows, Shows, mnemonics}
 use Rattle.sl_tool.specs.Request.{CheckSpec, Command, ListImage, RunImage, Request, ShowImage, spec_of}
 use Rattle.sl_tool.specs.Stage.{HasOneResult}
 use Rattle.sl_tool.specs.Values.{Shown, shown}
@@ -10,7 +10,7 @@ use Rattle.sl_tool.specs.declared.refusal.Refusal.{Refusal}
 use Rattle.sl_tool.specs.declared.status.Ending.{Ending}
 use Rattle.sl_tool.proofs.OneListing.{listing_is_one}
 use Rattle.sl_tool.proofs.RunningLemmas.{run_is_told_once}
-use Rattle.sl_tool.proofs.StageLemmas.{accepts_one, binds_one, loads_one, reads_one}
+use Rattle.sl_tool.proofs.StageLemmas.{accepts_one, compiles_one, loads_one, reads_one}
 use Rattle.sl_tool.proofs.Thens.{then_one}
 
 shown_is : (s t : Shown) → s.ending ≡ t.ending → s.text ≡ t.text → s ≡ t
@@ -28,11 +28,13 @@ shows_one (RunImage n) i (Err x) q h g = absurd h
 shows_one ListImage i (Ok s) (Err x) h g = absurd g
 shows_one (RunImage n) i (Ok s) (Err x) h g = absurd g
 
-waits_one : HasOneResult Waits
-waits_one b r q h g = h ∙ sym g
+counts_one : HasOneResult Counts
+counts_one c (Ok s) (Ok t) h g = ap Ok (shown_is s t (h.0 ∙ sym g.0) (h.1 ∙ sym g.1))
+counts_one c (Err x) q h g = absurd h
+counts_one c (Ok s) (Err x) h g = absurd g
 
 follows_one : (folder : Folder) (r : Request) → HasOneResult (Follows (Some folder) r)
-follows_one folder (CheckSpec spec) = then_one _ _ binds_one waits_one
+follows_one folder (CheckSpec spec) = then_one _ _ compiles_one counts_one
 follows_one folder (ShowImage command t) = then_one _ _ accepts_one (then_one _ _ (loads_one folder t) (shows_one command))
 
 pub answer_one : (folder : Folder) (r : Request) (x y : Result Shown Refusal) → Answers (Some folder) r x → Answers (Some folder) r y → x ≡ y

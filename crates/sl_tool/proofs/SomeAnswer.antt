@@ -1,5 +1,5 @@
 -- It can't be that a request has no answer.
-use Rattle.std.proofs.Common.{ℕ, ◌/◌, List, Option, Result, Ok, Err, refl, sym, subst}
+use Rattle.std.proofs.Common.{ℕ, ◌/◌, List, length, Option, Result, Ok, Err, refl, sym, subst}
 use Rattle.std.specs.Prelude.{Bool}
 use Rattle.sl_description.specs.Description.{Description}
 use Rattle.sl_description.specs.Fields.{Matches}
@@ -8,22 +8,21 @@ use Rattle.sl_outside.specs.Folder.{Folder}
 use Rattle.sl_sets.specs.Sets.{HasNoConflict}
 use Rattle.sl_request.specs.Requests.{Target}
 use Rattle.sl_sets.proofs.Surely.{surely, surely_map}
-use Rattle.sl_tool.specs.Answers.{Displays, Follows, Shows, Waits, mnemonics}
+use Rattle.sl_tool.specs.Answers.{Counts, Displays, Follows, Shows, mnemonics}
 use Rattle.sl_tool.specs.Endings.{ending_of}
 use Rattle.sl_tool.specs.Listing.{Lists}
-use Rattle.sl_tool.specs.Problems.{refusal}
+use Rattle.sl_tool.specs.Lines.{count_line}
 use Rattle.sl_tool.specs.Request.{CheckSpec, Command, ListImage, RunImage, Request, ShowImage, spec_of}
 use Rattle.sl_tool.specs.Running.{IsRun}
 use Rattle.sl_tool.specs.Stage.{HasSomeResult, Then}
 use Rattle.sl_tool.specs.Stage.Then.{goes}
 use Rattle.sl_tool.specs.Stages.{Accepts, Reads}
-use Rattle.sl_tool.specs.Values.{Bound, Input, Shown, Tables, Tree, shown}
-use Rattle.sl_tool.specs.declared.problem.Problem.TheVariants.{NotYet}
+use Rattle.sl_tool.specs.Values.{Compiled, Input, Shown, Tables, Tree, shown}
 use Rattle.sl_tool.specs.declared.refusal.Refusal.{Refusal}
 use Rattle.sl_tool.specs.declared.status.Ending.TheVariants.{Done}
 use Rattle.sl_tool.proofs.SomeListing.{some_listing_of}
 use Rattle.sl_tool.proofs.SomeRunning.{some_running}
-use Rattle.sl_tool.proofs.StageLemmas.{accepts_some, binds_some, loads_some, reads_some}
+use Rattle.sl_tool.proofs.StageLemmas.{accepts_some, compiles_some, loads_some, reads_some}
 use Rattle.sl_tool.proofs.Thens.{then_some}
 
 -- A description that is accepted keeps the rules and has no conflict.
@@ -54,11 +53,13 @@ displays_some told c t u =
     then_some _ _ b (loads_some told t b) (λ i l.
     shows_some c i (subst IsAccepted (sym l.0) (accepted u b j))))
 
-waits_some : (b : Bound) → HasSomeResult Waits b
-waits_some b = surely (let p : (r : Result Shown Refusal) × Waits b r = (Err (refusal b.tree.tokens.source.name 0 NotYet), refl) in p)
+counts_some : (c : Compiled) → HasSomeResult Counts c
+counts_some c =
+    let line = count_line (length c.tables.tables) (length c.tables.constructors) in
+    surely (let p : (r : Result Shown Refusal) × Counts c r = (Ok (shown Done line), (refl, refl)) in p)
 
 follows_some : (told : Option Folder) (r : Request) (u : Tree) → HasSomeResult (Follows told r) u
-follows_some told (CheckSpec spec) u = then_some _ _ u (binds_some u) (λ b h. waits_some b)
+follows_some told (CheckSpec spec) u = then_some _ _ u (compiles_some u) (λ c h. counts_some c)
 follows_some told (ShowImage c t) u = displays_some told c t u
 
 pub answer_some : (told : Option Folder) (r : Request) → HasSomeResult (Then (Reads told) (Follows told r)) (spec_of r)

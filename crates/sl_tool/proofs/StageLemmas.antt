@@ -6,7 +6,9 @@ use Rattle.sl_ast.specs.Spelling.{spell}
 use Rattle.sl_ast.specs.Trees.{Item}
 use Rattle.sl_ast.specs.Unfolding.{firsts}
 use Rattle.sl_ast.specs.Validity.{AreItems}
-use Rattle.sl_bind.specs.Verdict.{taken}
+use Rattle.sl_compile.specs.Outcomes as outcome
+use Rattle.sl_compile.specs.Refusals.{at_tokens}
+use Rattle.sl_compile.proofs.OutcomeLemmas.{compiles_one as outcome_one, some_compiles}
 use Rattle.sl_description.specs.Compiles.{AreSound}
 use Rattle.sl_description.specs.Description.{Constructor, Description}
 use Rattle.sl_description.specs.Fields.{Matches}
@@ -28,12 +30,13 @@ use Rattle.sl_sets.specs.declared.conflicts.Report.{Report}
 use Rattle.sl_sets.proofs.SomeSets.{some_first_conflict, some_report}
 use Rattle.sl_sets.proofs.Surely.{Surely, surely, surely_either, surely_map, surely_then}
 use Rattle.sl_sets.proofs.UniqueSets.{first_is_one, report_is_one}
+use Rattle.sl_spec.specs.declared.tables.Tables as spec
 use Rattle.sl_symbols.specs.Symbols.{symbols_of}
 use Rattle.sl_tool.specs.Places.{place_of_byte, place_of_token}
 use Rattle.sl_tool.specs.Problems.{refusal, refusal_at}
 use Rattle.sl_tool.specs.Stage.{HasOneResult, HasSomeResult}
-use Rattle.sl_tool.specs.Stages.{Accepts, Binds, Expands, Tokenizes, Parses, Reads, Tabulates, Settles, Fetches, Decodes, Fits, SetsContext, Images, Loads, addresses_of, bound_of, decoded, image_in, problem_of_fault, problem_of_reason, source_of, with_context}
-use Rattle.sl_tool.specs.Values.{Source, Tokens, Tree, Bound, Tables, Input, input, tables, tokens, tree}
+use Rattle.sl_tool.specs.Stages.{Accepts, Compiles, Expands, Tokenizes, Parses, Reads, Tabulates, Settles, Fetches, Decodes, Fits, SetsContext, Images, Loads, addresses_of, decoded, image_in, problem_of_fault, problem_of_reason, refusal_told, root_conflict, source_of, with_context}
+use Rattle.sl_tool.specs.Values.{Source, Tokens, Tree, Compiled, Tables, Input, compiled, input, tables, tokens, tree}
 use Rattle.sl_tool.specs.declared.problem.Problem.TheVariants.{Ambiguous, NoFile, NotYet, TooLong}
 use Rattle.sl_tool.specs.declared.refusal.Refusal.{Refusal}
 use Rattle.sl_tool.proofs.SomeFault.{some_tree_or_fault}
@@ -105,11 +108,24 @@ parses_some k = surely (parses_by k (some_tree_or_fault (symbols_of k.tokens)))
 
 -- ---- 4: tables
 
-pub binds_one : HasOneResult Binds
-binds_one t r q h g = h ∙ sym g
+compiled_is : (b c : Compiled) → b.tree ≡ c.tree → b.tables ≡ c.tables → b ≡ c
+compiled_is b c e f = ap (λ (t : Tree). compiled t b.tables) e ∙ ap (λ (s : spec.Tables). compiled c.tree s) f
 
-pub binds_some : (t : Tree) → HasSomeResult Binds t
-binds_some t = surely (let p : (r : Result Bound Refusal) × Binds t r = (bound_of t (taken t.items), refl) in p)
+pub compiles_one : HasOneResult Compiles
+compiles_one t (Ok b) (Ok c) h g =
+    ap Ok (compiled_is b c (h.0 ∙ sym g.0) (ok_is outcome.Refusal b.tables c.tables (outcome_one t.items (Ok b.tables) (Ok c.tables) h.1 g.1)))
+compiles_one t (Ok b) (Err x) h g = absurd (not_both g.0 b.tables (outcome_one t.items (Err g.0) (Ok b.tables) g.1 h.1))
+compiles_one t (Err x) (Ok b) h g = absurd (not_both h.0 b.tables (outcome_one t.items (Err h.0) (Ok b.tables) h.1 g.1))
+compiles_one t (Err x) (Err y) h g =
+    ap Err (h.2 ∙ ap (λ (w : outcome.Refusal). refusal_told t.tokens (at_tokens (firsts t.items) w))
+    (err_is spec.Tables h.0 g.0 (outcome_one t.items (Err h.0) (Err g.0) h.1 g.1)) ∙ sym g.2)
+
+compiles_by : (t : Tree) → (r : outcome.Outcome) × outcome.Compiles t.items r → (r : Result Compiled Refusal) × Compiles t r
+compiles_by t (Ok b, h) = (Ok (compiled t b), (refl, h))
+compiles_by t (Err why, h) = (Err (refusal_told t.tokens (at_tokens (firsts t.items) why)), (why, h, refl))
+
+pub compiles_some : (t : Tree) → HasSomeResult Compiles t
+compiles_some t = surely_map (compiles_by t) (some_compiles t.items)
 
 -- ---- 4, of listings and runs: descriptions
 
@@ -133,7 +149,7 @@ tabulates_some t = surely_map (tabulates_by t) (surely_either (HasDescription t)
 
 -- the refusal for a conflict between these two
 abbrev refusal_of : Tables → Constructor → Constructor → Report → Refusal
-refusal_of b x y told = refusal_at (place_of_token b.tree.tokens x.first) (Ambiguous (record { other = place_of_token b.tree.tokens y.first; report = told }))
+refusal_of b x y told = refusal_at (place_of_token b.tree.tokens x.first) (Ambiguous (root_conflict (place_of_token b.tree.tokens y.first) told))
 
 settles_one : HasOneResult Settles
 settles_one b (Ok c) (Ok e) h g = ap Ok (h.0 ∙ sym g.0)
@@ -158,7 +174,7 @@ settles_by b (inl clear) = surely (let p : (r : Result Tables Refusal) × Settle
 settles_by b (inr f) =
     surely_map (λ (t : (told : Report) × IsReport (Matches b.description) f.2.here.first f.2.here.second told).
     let p : (r : Result Tables Refusal) × Settles b r = (
-      Err (refusal_at (place_of_token b.tree.tokens f.2.here.first.first) (Ambiguous (record { other = place_of_token b.tree.tokens f.2.here.second.first; report = t.0 }))),
+      Err (refusal_at (place_of_token b.tree.tokens f.2.here.first.first) (Ambiguous (root_conflict (place_of_token b.tree.tokens f.2.here.second.first) t.0))),
       record { first = f.0; second = f.1; told = t.0; conflict = f.2; report = t.1; is = refl },
     ) in p)
     (some_report (Matches b.description) f.2.here.first f.2.here.second f.2.here.conflict)

@@ -1,5 +1,5 @@
 -- meaning: the answer to a request, and the files that it asks for.
-use Rattle.std.specs.Prelude.{◌≡◌, ℕ, ◌/◌, ◌≤◌, List, [], ◌∷◌, ◌++◌, map, Option, Result, Ok, Err}
+use Rattle.std.specs.Prelude.{◌≡◌, ℕ, ◌/◌, ◌≤◌, List, [], ◌∷◌, ◌++◌, length, map, Option, Result, Ok, Err}
 use Rattle.sl_description.specs.Description.{Description}
 use Rattle.sl_description.specs.Fields.{Matches}
 use Rattle.sl_outside.specs.Causes.{Rose}
@@ -7,15 +7,16 @@ use Rattle.sl_outside.specs.Folder.{Folder}
 use Rattle.sl_outside.specs.Uses.{Names, Asks, AsksFront}
 use Rattle.sl_preproc.specs.Asks.{AsksFor as AsksForText}
 use Rattle.sl_request.specs.Requests.{Target}
+use Rattle.sl_spec.specs.declared.tables.Tables as spec
 use Rattle.sl_tool.specs.Endings.{ended}
 use Rattle.sl_tool.specs.Listing.{Lists}
-use Rattle.sl_tool.specs.Problems.{refusal, refusal_text}
+use Rattle.sl_tool.specs.Lines.{count_line}
+use Rattle.sl_tool.specs.Problems.{refusal_text}
 use Rattle.sl_tool.specs.Request.{Command, ListImage, RunImage, Request, CheckSpec, ShowImage, spec_of}
 use Rattle.sl_tool.specs.Running.{IsRun}
 use Rattle.sl_tool.specs.Stage.{Stage, Surely, Then}
-use Rattle.sl_tool.specs.Stages.{Accepts, Binds, Loads, Reads}
-use Rattle.sl_tool.specs.Values.{Bound, Input, Shown, Tables, Tree}
-use Rattle.sl_tool.specs.declared.problem.Problem.TheVariants.{NotYet}
+use Rattle.sl_tool.specs.Stages.{Accepts, Compiles, Loads, Reads}
+use Rattle.sl_tool.specs.Values.{Compiled, Input, Shown, Tables, Tree}
 use Rattle.sl_tool.specs.declared.refusal.Refusal.{Refusal}
 use Rattle.sl_tool.specs.declared.status.Ending.{Ending}
 use Rattle.sl_tool.specs.declared.status.Ending.TheVariants.{Done}
@@ -45,9 +46,14 @@ Shows command i (Err x) = ⊥
 
 -- ---- requests
 
--- So far nothing is known of a specification but that its definitions, constructors and tables keep the rules.
-abbrev pub Waits : Stage Refusal Bound Shown
-Waits b r = r ≡ Err (refusal b.tree.tokens.source.name 0 NotYet)
+-- what is due of a sound specification: how many tables and constructors there are
+abbrev pub counts_of : spec.Tables → Due
+counts_of t ending text = (ending ≡ Done) × (text ≡ count_line (length t.tables) (length t.constructors))
+
+-- A sound specification is counted.
+abbrev pub Counts : Stage Refusal Compiled Shown
+Counts c (Ok s) = counts_of c.tables s.ending s.text
+Counts c (Err x) = ⊥
 
 -- What is shown of an image by the specification that the tree is.
 abbrev pub Displays : Option Folder → Command → Target → Stage Refusal Tree Shown
@@ -55,7 +61,7 @@ Displays told command t = Then Accepts (Then (Loads told t) (Shows command))
 
 -- What becomes of the tree, a line for each kind of request: an ending and a text, or a refusal.
 abbrev pub Follows : Option Folder → Request → Stage Refusal Tree Shown
-Follows told (CheckSpec spec) = Then Binds Waits
+Follows told (CheckSpec spec) = Then Compiles Counts
 Follows told (ShowImage command t) = Displays told command t
 
 -- What becomes of a request.

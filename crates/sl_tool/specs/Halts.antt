@@ -1,5 +1,8 @@
 -- view: the errors of the crates below as halts and problems.
-use Rattle.std.specs.Prelude.{ℕ, Option, Some, None, string_bytes}
+use Rattle.std.specs.Prelude.{◌≡◌, ℕ, Option, Some, None, string_bytes, ⊤}
+use Rattle.sl_compile.specs.Outcomes.{ambiguous, flawed}
+use Rattle.sl_compile.specs.declared.error.CompileError.{CompileError}
+use Rattle.sl_compile.specs.declared.error.CompileError.TheVariants as compile
 use Rattle.sl_lex.specs.declared.LexError.{LexError}
 use Rattle.sl_lex.specs.declared.LexError.TheVariants as lex
 use Rattle.sl_parse.specs.declared.parser.ParseError.{ParseError}
@@ -7,8 +10,10 @@ use Rattle.sl_parse.specs.declared.parser.ParseError.TheVariants as parse
 use Rattle.sl_preproc.specs.declared.error.PreError.{PreError}
 use Rattle.sl_preproc.specs.declared.error.PreError.TheVariants as preproc
 use Rattle.sl_tool.specs.Problems.{refusal}
+use Rattle.sl_tool.specs.Stages.{refusal_told}
+use Rattle.sl_tool.specs.Values.{Tokens}
 use Rattle.sl_tool.specs.declared.halt.Halt.{Halt}
-use Rattle.sl_tool.specs.declared.halt.Halt.TheVariants.{Refused, ReadFault, NoMemory}
+use Rattle.sl_tool.specs.declared.halt.Halt.TheVariants.{Refused, ReadFault, WriteFault, NoMemory}
 use Rattle.sl_tool.specs.declared.problem.Problem.{Problem}
 use Rattle.sl_tool.specs.declared.problem.Problem.TheVariants as problem
 
@@ -37,3 +42,12 @@ first_fault (parse.Syntax at) = Some (at, problem.Syntax)
 first_fault (parse.Nesting at) = Some (at, problem.Nesting)
 first_fault (parse.NotSupported feature at) = Some (at, problem.NotSupported feature)
 first_fault parse.NoMemory = None
+
+-- The halt tells why a specification is refused, unless memory ran out.
+abbrev pub TellsRefusal : Tokens → CompileError → Halt → Type 0
+TellsRefusal k error NoMemory = ⊤
+TellsRefusal k error ReadFault = ⊥
+TellsRefusal k error WriteFault = ⊥
+TellsRefusal k (compile.Flaw flaw token) (Refused x) = x ≡ refusal_told k (flawed flaw token)
+TellsRefusal k (compile.Ambiguous a) (Refused x) = x ≡ refusal_told k (ambiguous a)
+TellsRefusal k compile.NoMemory (Refused x) = ⊥

@@ -21,3 +21,8 @@ point_text p = encode_lower (to_be_bytes w128 p.bytes) ++ (codes " " ++ encode_l
 -- a file, and a line of it
 abbrev pub place_text : List ℕ → ℕ → List ℕ
 place_text file line = file ++ (codes ":" ++ decimal line)
+
+-- how many tables and constructors a sound specification has
+abbrev pub count_line : ℕ → ℕ → List ℕ
+count_line tables constructors =
+    codes "ok: " ++ (decimal tables ++ (codes " tables, " ++ (decimal constructors ++ codes " constructors\n")))

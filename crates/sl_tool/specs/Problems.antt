@@ -4,12 +4,12 @@ use Rattle.std.specs.Fmt.{decimal}
 use Rattle.sl_ast.specs.declared.symbols.Feature.{Feature}
 use Rattle.sl_ast.specs.declared.symbols.Feature.TheVariants as feature
 use Rattle.sl_cube.specs.declared.Point.{Point}
-use Rattle.sl_sets.specs.declared.conflicts.Apart.{Apart}
-use Rattle.sl_sets.specs.declared.conflicts.Apart.TheVariants.{Same, Two}
-use Rattle.sl_sets.specs.declared.conflicts.Report.{Report}
+use Rattle.sl_settle.specs.declared.report.Apart.{Apart}
+use Rattle.sl_settle.specs.declared.report.Apart.TheVariants.{Same, Two}
 use Rattle.sl_tool.specs.Lines.{place_text, point_text}
+use Rattle.sl_tool.specs.declared.problem.Conflict.{Conflict}
 use Rattle.sl_tool.specs.declared.problem.Problem.{Problem}
-use Rattle.sl_tool.specs.declared.problem.Problem.TheVariants.{NoFile, TooLong, IncludeDepth, UndefinedName, ReplaceDepth, BadDirective, Unbalanced, BadByte, OpenString, WideInteger, Syntax, Nesting, NotSupported, Rule, NotYet, Ambiguous, BadHex, NoContextField}
+use Rattle.sl_tool.specs.declared.problem.Problem.TheVariants.{NoFile, TooLong, IncludeDepth, UndefinedName, ReplaceDepth, BadDirective, Unbalanced, BadByte, OpenString, WideInteger, Syntax, Nesting, NotSupported, Rule, SizeClash, SizeUnfixed, InteriorEllipsis, TokensDiffer, Impossible, TooManyCubes, WindowTooLong, NotYet, Ambiguous, BadHex, NoContextField}
 use Rattle.sl_tool.specs.declared.place.Place.{Place}
 use Rattle.sl_tool.specs.declared.refusal.Refusal.{Refusal}
 use Rattle.sl_tool.specs.declared.refusal.Subject.{Subject}
@@ -31,6 +31,10 @@ feature_words feature.WordSize = codes "word size"
 feature_words feature.InstNext2 = codes "inst_next2"
 feature_words feature.WideValue = codes "wide value"
 
+-- the table that isn't settled, and the place of the second constructor
+abbrev pub conflict_words : Conflict → List ℕ
+conflict_words conflict = codes "ambiguous in " ++ (conflict.table ++ (codes " with " ++ place_text conflict.other.file conflict.other.line))
+
 -- what is printed of a problem behind its place
 abbrev pub words_of : Problem → List ℕ
 words_of NoFile = codes "no such file"
@@ -47,8 +51,15 @@ words_of Syntax = codes "syntax error"
 words_of Nesting = codes "nesting too deep"
 words_of (NotSupported form) = codes "not supported: " ++ feature_words form
 words_of (Rule number) = codes "rule " ++ decimal number
+words_of SizeClash = codes "size clash"
+words_of SizeUnfixed = codes "size unfixed"
+words_of InteriorEllipsis = codes "interior ellipsis"
+words_of TokensDiffer = codes "tokens differ"
+words_of Impossible = codes "impossible pattern"
+words_of (TooManyCubes count) = codes "too many cubes " ++ decimal count
+words_of (WindowTooLong count) = codes "window too long " ++ decimal count
 words_of NotYet = codes "not yet"
-words_of (Ambiguous conflict) = codes "ambiguous in instruction with " ++ place_text conflict.other.file conflict.other.line
+words_of (Ambiguous conflict) = conflict_words conflict
 words_of BadHex = codes "bad hex"
 words_of NoContextField = codes "no such context field"
 
@@ -63,15 +74,15 @@ abbrev pub apart_lines : Apart → List ℕ
 apart_lines Same = codes "same\n"
 apart_lines (Two only_first only_second) = point_line (codes "first") only_first ++ point_line (codes "second") only_second
 
--- the least point of both, and how they differ
-abbrev pub report_lines : Report → List ℕ
-report_lines told = point_line (codes "both") told.both ++ apart_lines told.apart
+-- the least point at which neither is the choice, and how the two differ
+abbrev pub report_lines : Conflict → List ℕ
+report_lines conflict = point_line (codes "both") conflict.both ++ apart_lines conflict.apart
 
 -- ---- refusals
 
 -- what is printed after the line of a problem
 abbrev pub lines_after : Problem → List ℕ
-lines_after (Ambiguous conflict) = report_lines conflict.report
+lines_after (Ambiguous conflict) = report_lines conflict
 lines_after problem = []
 
 -- a line of a file, or the name of a context field

@@ -4,7 +4,7 @@ use Rattle.sl_description.specs.Views.{description}
 use Rattle.sl_tool.specs.TokensView.{tokens_view}
 use Rattle.sl_tool.specs.Values as values
 use Rattle.sl_tool.specs.declared.tree.Tree.{Tree}
-use Rattle.sl_tool.specs.declared.bound.Bound.{Bound}
+use Rattle.sl_tool.specs.declared.compiled.Compiled.{Compiled}
 use Rattle.sl_tool.specs.declared.tables.Tables.{Tables}
 use Rattle.sl_tool.specs.declared.checked.Checked.{Checked}
 use Rattle.sl_tool.specs.declared.input.Input.{Input}
@@ -12,8 +12,8 @@ use Rattle.sl_tool.specs.declared.input.Input.{Input}
 abbrev pub tree_view : Tree → values.Tree
 tree_view t = values.tree (tokens_view t.tokens) (items_of t.spec)
 
-abbrev pub bound_view : Bound → values.Bound
-bound_view b = values.bound (values.tree (tokens_view b.tokens) (items_of b.specification.spec)) b.specification.tables
+abbrev pub compiled_view : Compiled → values.Compiled
+compiled_view c = values.compiled (values.tree (tokens_view c.tokens) (items_of c.specification.bound.spec)) c.specification.bound.tables
 
 abbrev pub tables_view : Tables → values.Tables
 tables_view b = values.tables (tree_view b.tree) (description b.compiled.description)

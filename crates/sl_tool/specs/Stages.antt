@@ -1,10 +1,14 @@
 -- meaning: the stages from the name of a specification to what a command works on.
-use Rattle.std.specs.Prelude.{◌≡◌, ℕ, ◌+◌, ◌^◌, ◌<◌, ◌≤◌, ◌⊎◌, List, [], ◌∷◌, length, Option, Some, None, Bool, if◌then◌else◌, Result, Ok, Err, ⊤}
+use Rattle.std.specs.Prelude.{codes, ◌≡◌, ℕ, ◌+◌, ◌^◌, ◌<◌, ◌≤◌, ◌⊎◌, List, [], ◌∷◌, length, Option, Some, None, Bool, if◌then◌else◌, Result, Ok, Err, ⊤}
 use Rattle.sl_ast.specs.Spelling.{spell}
 use Rattle.sl_ast.specs.Unfolding.{firsts}
 use Rattle.sl_ast.specs.Validity.{AreItems}
-use Rattle.sl_bind.specs.Refusals.{token_of}
-use Rattle.sl_bind.specs.Verdict.{Broken, taken}
+use Rattle.sl_compile.specs.Ambiguity.{Ambiguity}
+use Rattle.sl_compile.specs.Outcomes.{ambiguous, flawed}
+use Rattle.sl_compile.specs.Outcomes as outcome
+use Rattle.sl_compile.specs.Refusals.{at_tokens}
+use Rattle.sl_compile.specs.declared.error.Flaw.{Flaw}
+use Rattle.sl_compile.specs.declared.error.Flaw.TheVariants as flaw
 use Rattle.sl_description.specs.Compiles.{AreSound}
 use Rattle.sl_description.specs.Description.{Description}
 use Rattle.sl_description.specs.Fields.{Matches}
@@ -23,16 +27,21 @@ use Rattle.sl_request.specs.Images.{image_of}
 use Rattle.sl_request.specs.Requests.{Field, Target}
 use Rattle.sl_sets.specs.Reports.{IsReport}
 use Rattle.sl_sets.specs.Sets.{IsFirstConflict, HasNoConflict}
+use Rattle.sl_sets.specs.declared.conflicts.Apart.{Apart as Difference}
+use Rattle.sl_sets.specs.declared.conflicts.Apart.TheVariants as difference
 use Rattle.sl_sets.specs.declared.conflicts.Report.{Report}
+use Rattle.sl_settle.specs.declared.report.Apart.{Apart}
+use Rattle.sl_settle.specs.declared.report.Apart.TheVariants as apart
 use Rattle.sl_spec.specs.declared.tables.Tables as spec
 use Rattle.sl_symbols.specs.Symbols.{symbols_of}
 use Rattle.sl_tool.specs.Places.{place_of_byte, place_of_some, place_of_token}
 use Rattle.sl_tool.specs.Problems.{refusal, refusal_at, refusal_of_field}
 use Rattle.sl_tool.specs.Stage.{Stage, Then}
-use Rattle.sl_tool.specs.Values.{Source, Tokens, Tree, Bound, Tables, Input, bound, source}
+use Rattle.sl_tool.specs.Values.{Source, Tokens, Tree, Compiled, Tables, Input, source}
 use Rattle.sl_tool.specs.declared.place.Place.{Place}
+use Rattle.sl_tool.specs.declared.problem.Conflict.{Conflict}
 use Rattle.sl_tool.specs.declared.problem.Problem.{Problem}
-use Rattle.sl_tool.specs.declared.problem.Problem.TheVariants.{NoFile, TooLong, IncludeDepth, UndefinedName, ReplaceDepth, BadDirective, Unbalanced, BadByte, OpenString, WideInteger, Syntax, Nesting, NotSupported, Rule, NotYet, Ambiguous, BadHex, NoContextField}
+use Rattle.sl_tool.specs.declared.problem.Problem.TheVariants.{NoFile, TooLong, IncludeDepth, UndefinedName, ReplaceDepth, BadDirective, Unbalanced, BadByte, OpenString, WideInteger, Syntax, Nesting, NotSupported, Rule, SizeClash, SizeUnfixed, InteriorEllipsis, TokensDiffer, Impossible, TooManyCubes, WindowTooLong, NotYet, Ambiguous, BadHex, NoContextField}
 use Rattle.sl_tool.specs.declared.refusal.Refusal.{Refusal}
 
 -- ---- 1: the name of the main file to its expanded text
@@ -90,19 +99,31 @@ Parses k (Err x) = (reason : Reason) × (index : ℕ) × TellsFault (symbols_of 
 abbrev pub Reads : Option Folder → Stage Refusal (List ℕ) Tree
 Reads told = Then (Expands told) (Then Tokenizes Parses)
 
--- ---- 4: the tree to its tables
+-- ---- 4: the tree to its tables, which are sound
 
--- the place at which a rule is broken: that of the first token of its item, or the text's end
-abbrev pub place_of_broken : Tree → Broken → Place
-place_of_broken t broken = place_of_some t.tokens (token_of (firsts t.items) broken.1)
+abbrev pub problem_of_flaw : Flaw → Problem
+problem_of_flaw (flaw.Rule number) = Rule number
+problem_of_flaw flaw.SizeClash = SizeClash
+problem_of_flaw flaw.SizeUnfixed = SizeUnfixed
+problem_of_flaw flaw.InteriorEllipsis = InteriorEllipsis
+problem_of_flaw flaw.TokensDiffer = TokensDiffer
+problem_of_flaw flaw.Impossible = Impossible
+problem_of_flaw (flaw.TooManyCubes count) = TooManyCubes count
+problem_of_flaw (flaw.WindowTooLong count) = WindowTooLong count
 
-abbrev pub bound_of : Tree → Result spec.Tables Broken → Result Bound Refusal
-bound_of t (Ok b) = Ok (bound t b)
-bound_of t (Err broken) = Err (refusal_at (place_of_broken t broken) (Rule broken.0))
+-- the conflict of a table that isn't settled, whose constructors are told by their first tokens
+abbrev pub conflict_of : Tokens → Ambiguity → Conflict
+conflict_of k a = record { table = a.table; other = place_of_some k a.second; both = a.both; apart = a.apart }
 
--- The tables that stand for the tree, or the first rule that it breaks.
-abbrev pub Binds : Stage Refusal Tree Bound
-Binds t r = r ≡ bound_of t (taken t.items)
+-- why a specification is refused, at the place of a token, or at the text's end where there is none
+abbrev pub refusal_told : Tokens → outcome.Refusal → Refusal
+refusal_told k (flawed flaw token) = refusal_at (place_of_some k token) (problem_of_flaw flaw)
+refusal_told k (ambiguous a) = refusal_at (place_of_some k a.first) (Ambiguous (conflict_of k a))
+
+-- The specification that the tree is keeps all rules and its tables are sound, or this is why it is refused.
+abbrev pub Compiles : Stage Refusal Tree Compiled
+Compiles t (Ok c) = (c.tree ≡ t) × outcome.Compiles t.items (Ok c.tables)
+Compiles t (Err x) = (why : outcome.Refusal) × outcome.Compiles t.items (Err why) × (x ≡ refusal_told t.tokens (at_tokens (firsts t.items) why))
 
 -- ---- 4, of listings and runs: the tree to what it describes
 
@@ -113,6 +134,14 @@ Tabulates t (Err x) = ((d : Description) → AreSound t.items (firsts t.items) d
 
 -- ---- 5, of listings and runs: a description without a conflict
 
+abbrev pub apart_of : Difference → Apart
+apart_of difference.Same = apart.Same
+apart_of (difference.Two only_first only_second) = apart.Two only_first only_second
+
+-- a conflict in the one table of such a description
+abbrev pub root_conflict : Place → Report → Conflict
+root_conflict other told = record { table = codes "instruction"; other = other; both = told.both; apart = apart_of told.apart }
+
 -- The refusal names the first two constructors in conflict, and tells their report.
 pub record IsAmbiguous (b : Tables) (x : Refusal) : Type 0 where
   pub first : ℕ
@@ -121,7 +150,7 @@ pub record IsAmbiguous (b : Tables) (x : Refusal) : Type 0 where
   pub conflict : IsFirstConflict (Matches b.description) b.description.constructors first second
   pub report : IsReport (Matches b.description) conflict.here.first conflict.here.second told
   pub is : x ≡ refusal_at (place_of_token b.tree.tokens conflict.here.first.first)
-      (Ambiguous (record { other = place_of_token b.tree.tokens conflict.here.second.first; report = told }))
+      (Ambiguous (root_conflict (place_of_token b.tree.tokens conflict.here.second.first) told))
 
 -- No two constructors are in conflict, or the first two that are.
 abbrev pub Settles : Stage Refusal Tables Tables

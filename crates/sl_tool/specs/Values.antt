@@ -20,8 +20,8 @@ pub record Tree : Type 0 where
   pub tokens : Tokens
   pub items : List Item
 
--- a tree with the tables that stand for it
-pub record Bound : Type 0 where
+-- a tree with its tables, which are sound
+pub record Compiled : Type 0 where
   pub tree : Tree
   pub tables : spec.Tables
 
@@ -51,8 +51,8 @@ tokens s ts = record { source = s; tokens = ts }
 abbrev pub tree : Tokens → List Item → Tree
 tree k items = record { tokens = k; items = items }
 
-abbrev pub bound : Tree → spec.Tables → Bound
-bound t b = record { tree = t; tables = b }
+abbrev pub compiled : Tree → spec.Tables → Compiled
+compiled t b = record { tree = t; tables = b }
 
 abbrev pub tables : Tree → Description → Tables
 tables t d = record { tree = t; description = d }

@@ -34,7 +34,7 @@ pub fn answered<F: Files, K: Sink>(
     let source = Source::read(alloc, request.spec(), files)?;
     let tree = Tree::read(alloc, &source)?;
     match request {
-        Request::Check(_) => check(alloc, tree),
+        Request::Check(_) => check(alloc, tree, out),
         Request::Show(command, target) => shown(alloc, *command, target, tree, files, out),
     }
 }

@@ -1,27 +1,53 @@
 //! `check`: whether a specification is sound.
 
-ghost use Rattle.std.specs.Prelude.{[]};
-ghost use Rattle.sl_tool.specs.Answers.{Waits};
-ghost use Rattle.sl_tool.specs.Outcomes.{Gives};
+ghost use Rattle.std.specs.Prelude.{◌≡◌, IfOk, length};
+ghost use Rattle.sl_outside.specs.Uses.{UsesSink};
+ghost use Rattle.sl_tool.specs.Answers.{Counts, counts_of};
+ghost use Rattle.sl_tool.specs.Lines.{count_line};
+ghost use Rattle.sl_tool.specs.Outcomes.{FailsToRead, FailsToWrite, Streams, Writes};
 ghost use Rattle.sl_tool.specs.Stage.{Then};
-ghost use Rattle.sl_tool.specs.Stages.{Binds};
+ghost use Rattle.sl_tool.specs.Stages.{Compiles};
 ghost use Rattle.sl_tool.specs.StageViews.{tree_view};
-ghost use Rattle.sl_tool.specs.Values.{shown};
 
-use crate::bound::Bound;
+use crate::compiled::Compiled;
 use crate::halt::Halt;
-use crate::problem::Problem;
-use crate::refusal::Refusal;
+use crate::lines::push_counted;
 use crate::status::Ending;
 use crate::tree::Tree;
-use std::alloc::Global;
+use crate::writing::write_all;
+use sl_outside::Sink;
+use sl_spec::Tables;
+use std::alloc::{AllocError, Global};
 
-/// Refuses the tree for the first rule that it breaks. A tree that keeps the rules of definitions,
-/// constructors and tables is refused too so far, since nothing more is judged of it.
-pub fn check(alloc: Global, tree: Tree<'_, '_>) -> Result<Ending, Halt>
-    ensures { Gives (Then Binds Waits (tree_view tree.entry)) (λ ending. shown ending []) result }
+/// Writes how many tables and constructors the specification has that the tree is, where it is sound.
+pub fn check<K: Sink>(alloc: Global, tree: Tree<'_, '_>, out: &mut K) -> Result<Ending, Halt>
+    ensures writes { Writes (Then Compiles Counts (tree_view tree.entry))
+        (K.taken out.old) (K.taken out.new) result }
+    ensures sink { UsesSink K.faults K.calls out.old out.new (FailsToWrite result) }
+    ensures unread { FailsToRead result → ⊥ }
 {
-    let bound = Bound::read(alloc, tree)?;
-    let refusal = Refusal::of_file(alloc, bound.tokens.source.name, Problem::NotYet)?;
-    Err(Halt::Refused(refusal))
+    let compiled = Compiled::read(alloc, tree)?;
+    count(alloc, &compiled.specification.bound.tables, out)
+}
+
+/// Writes how many tables and constructors there are.
+fn count<K: Sink>(alloc: Global, t: &Tables<'_>, out: &mut K) -> Result<Ending, Halt>
+    ensures streams { Streams (counts_of t.now) (K.taken out.old) (K.taken out.new) result }
+    ensures sink { UsesSink K.faults K.calls out.old out.new (FailsToWrite result) }
+{
+    let line = count_line(alloc, t)?;
+    write_all(out, line.as_slice())?;
+    Ok(Ending::Done)
+}
+
+/// The line that tells how many tables and constructors there are.
+fn count_line(alloc: Global, t: &Tables<'_>) -> Result<Vec<u8>, AllocError>
+    ensures { IfOk result (λ line.
+        line.items ≡ count_line (length t.now.tables) (length t.now.constructors)) }
+{
+    let mut out = Vec::new(alloc);
+    push_counted(&mut out, b"ok: ", t.tables.len() as u64)?;
+    push_counted(&mut out, b" tables, ", t.constructors.len() as u64)?;
+    out.extend_from_slice(b" constructors\n")?;
+    Ok(out)
 }

@@ -1,16 +1,50 @@
 //! The fifth stage of listings and runs: a description without a conflict.
 
+ghost use Rattle.std.specs.Prelude.{◌≡◌, IfOk};
+ghost use Rattle.sl_tool.specs.Stages.{apart_of, root_conflict};
+
 use crate::halt::Halt;
+use crate::place::{Name, Place};
 use crate::problem::{Conflict, Problem};
 use crate::refusal::{Refusal, Subject};
 use crate::tables::Tables;
-use sl_sets::{first_conflict, report_on};
+use sl_compile::Apart;
+use sl_sets::{Apart as Difference, Report, first_conflict, report_on};
 use std::alloc::{AllocError, Global};
 
 /// A description of which no two constructors are in conflict.
 #[derive(Drop)]
 pub struct Checked<'s, 'r> {
     pub tables: Tables<'s, 'r>,
+}
+
+/// How two sets differ, as it is told.
+fn apart_of(difference: Difference) -> Apart
+    ensures { result ≡ apart_of difference }
+{
+    match difference {
+        Difference::Same => Apart::Same,
+        Difference::Two {
+            only_first,
+            only_second,
+        } => Apart::Two {
+            only_first,
+            only_second,
+        },
+    }
+}
+
+/// A conflict in the one table of such a description, whose second constructor is at this place.
+fn root_conflict(alloc: Global, other: Place, report: Report) -> Result<Conflict, AllocError>
+    ensures { IfOk result (λ conflict. conflict ≡ root_conflict other report) }
+{
+    let table = Name::of_bytes(alloc, b"instruction")?;
+    Ok(Conflict {
+        table,
+        other,
+        both: report.both,
+        apart: apart_of(report.apart),
+    })
 }
 
 impl<'s, 'r> Checked<'s, 'r> {
@@ -53,7 +87,8 @@ impl<'s, 'r> Checked<'s, 'r> {
         let report = report_on(alloc, &sets[first], &sets[second])?;
         let place = tables.constructor_place(alloc, first)?;
         let other = tables.constructor_place(alloc, second)?;
-        let problem = Problem::Ambiguous(Conflict { other, report });
+        let conflict = root_conflict(alloc, other, report)?;
+        let problem = Problem::Ambiguous(conflict);
         let subject = Subject::Line(place);
         Ok(Refusal { subject, problem })
     }

@@ -1,26 +1,27 @@
 //! The tool as one call: [`run_tool`] takes the words of a command line, reads the files that they
 //! name, writes one text and gives a [`Status`].
 //!
-//! The words are read by `sl_words`. `check SPEC` prints the first rule that a specification breaks,
-//! `list SPEC IMAGE` a listing, and `run SPEC IMAGE` runs instructions and prints registers, changed
-//! memory and the fault; the image may be hexadecimal text, and begin at a base. For all of them the
-//! specification's main file is expanded, the text is split into tokens, and the tokens are parsed. For
-//! a listing and a run the tree has to be a description: one space, one
-//! token, registers, and constructors that test fields for equality and may add to registers. Each
-//! constructor becomes a set of points, a cube. Where two sets are in conflict the specification is refused as ambiguous;
-//! otherwise the one most specific matching constructor is chosen at each place.
+//! The words are read by `sl_words`. `check SPEC` prints why a specification is refused, or how many
+//! tables and constructors it has; `list SPEC IMAGE` prints a listing, and `run SPEC IMAGE` runs
+//! instructions and prints registers, changed memory and the fault; the image may be hexadecimal
+//! text, and begin at a base. For all of them the specification's main file is expanded, the text is
+//! split into tokens, and the tokens are parsed. For a listing and a run the tree has to be a
+//! description: one space, one token, registers, and constructors that test fields for equality and
+//! may add to registers. Each constructor becomes a set of points, a cube. Where two sets are in
+//! conflict the specification is refused as ambiguous; otherwise the one most specific matching
+//! constructor is chosen at each place.
 //!
-//! `answer.rt` has the first stages, source and tree, and then those of the kind of request: `check.rt`
-//! has the tables of the whole language, `shown.rt` today's tables, checked, input, and one room for
-//! each command in `commands/`. `specs/Stages.antt` says what each stage makes of the one before, and
-//! `specs/Answers.antt` what is due of a request.
+//! `answer.rt` has the first stages, source and tree, and then those of the kind of request:
+//! `compiled.rt` has the sound tables of the whole language, which `check.rt` counts; `shown.rt`
+//! today's tables, checked, input, and one room for each command in `commands/`. `specs/Stages.antt`
+//! says what each stage makes of the one before, and `specs/Answers.antt` what is due of a request.
 #![tactic(auto)]
 
 mod answer;
-mod bound;
 mod check;
 mod checked;
 mod commands;
+mod compiled;
 mod fetched;
 mod halt;
 mod image;

@@ -2,6 +2,7 @@
 //! line.
 
 ghost use Rattle.std.specs.Prelude.{◌≡◌, ◌++◌, ◌≤◌, OnOk, length};
+ghost use Rattle.std.specs.Fmt.{decimal};
 ghost use Rattle.hex.specs.Hex.{encode_lower};
 ghost use Rattle.sl_tool.specs.Lines.{address_text, listed_line, point_text, place_text};
 
@@ -40,6 +41,15 @@ pub fn push_point(out: &mut Vec<u8>, point: &Point) -> Result<(), AllocError>
     push_hex(out, &point.bytes.to_be_bytes())?;
     out.extend_from_slice(b" ")?;
     push_hex(out, &point.context.to_be_bytes())
+}
+
+/// Appends words and a number after them.
+pub fn push_counted(out: &mut Vec<u8>, words: &[u8], number: u64) -> Result<(), AllocError>
+    ensures { OnOk result (out.new.items ≡ out.old.items ++ (words.now ++ decimal number)) }
+{
+    let mut buffer = Buffer::new();
+    out.extend_from_slice(words)?;
+    out.extend_from_slice(buffer.format(number).as_bytes())
 }
 
 /// Appends the name of a file and the number of a line.

@@ -5,18 +5,18 @@ ghost use Rattle.std.specs.Prelude.{◌≡◌, IfOk};
 use std::alloc::{AllocError, Global};
 use std::marker::Model;
 
-/// The name of a file as it was fetched, or of a context field. Contracts see its bytes.
+/// The name of a file as it was fetched, of a context field, or of a table. Contracts see its bytes.
 #[derive(Debug, Drop)]
 pub struct Name {
-    text: String,
+    bytes: Vec<u8>,
 }
 
 impl Model for Name {
-    ghost use Rattle.std.specs.Prelude.{ℕ, List, string_bytes};
+    ghost use Rattle.std.specs.Prelude.{ℕ, List};
 
     ghost Value = { List ℕ };
 
-    ghost view = { λ name. string_bytes name.text };
+    ghost view = { λ name. name.bytes.items };
 }
 
 impl Name {
@@ -26,22 +26,32 @@ impl Name {
     pub fn of(text: String) -> Self
         ensures { result ≡ string_bytes text }
     {
-        Name { text }
+        Name {
+            bytes: text.into_bytes(),
+        }
+    }
+
+    /// A copy of the name that these bytes are.
+    pub fn of_bytes(alloc: Global, bytes: &[u8]) -> Result<Self, AllocError>
+        ensures { IfOk result (λ name. name ≡ bytes.now) }
+    {
+        let bytes = bytes.to_vec(alloc)?;
+        Ok(Name { bytes })
     }
 
     /// A copy of the name.
     pub fn copied(alloc: Global, text: &str) -> Result<Self, AllocError>
         ensures { IfOk result (λ name. name ≡ text.now) }
     {
-        let text = String::from_str(alloc, text)?;
-        Ok(Name { text })
+        let name = Self::of_bytes(alloc, text.as_bytes())?;
+        Ok(name)
     }
 
     /// The bytes of the name.
     pub fn as_bytes(&self) -> &[u8]
         ensures { result.now ≡ self.now }
     {
-        self.text.as_bytes()
+        self.bytes.as_slice()
     }
 }
 

@@ -1,20 +1,23 @@
 //! Why something is refused, and its words.
 
 ghost use Rattle.std.specs.Prelude.{◌≡◌, ◌++◌, OnOk};
-ghost use Rattle.sl_tool.specs.Problems.{feature_words, words_of};
+ghost use Rattle.sl_tool.specs.Problems.{conflict_words, feature_words, words_of};
 
-use crate::lines::push_place;
-use crate::place::Place;
-use itoa::Buffer;
+use crate::lines::{push_counted, push_place};
+use crate::place::{Name, Place};
 use sl_ast::symbols::Feature;
-use sl_sets::Report;
+use sl_compile::Apart;
+use sl_cube::Point;
 use std::alloc::AllocError;
 
-/// Two constructors of which neither is the more specific one: where the second is, and what shows it.
+/// Two constructors of a table of which neither is the more specific one: the table's name, where the
+/// second is, the least point that shows it, and how the two differ.
 #[derive(Debug, Drop)]
 pub struct Conflict {
+    pub table: Name,
     pub other: Place,
-    pub report: Report,
+    pub both: Point,
+    pub apart: Apart,
 }
 
 /// Why a specification, an image or a word is refused.
@@ -49,10 +52,23 @@ pub enum Problem {
     NotSupported(Feature),
     /// A rule of the language is broken, by its number.
     Rule(u8),
-    /// A specification of another form than the one that is listed today, or one that keeps all rules
-    /// that are judged so far.
+    /// No sizes fit the section of a constructor.
+    SizeClash,
+    /// Several sizes fit the section of a constructor.
+    SizeUnfixed,
+    /// What stands behind a pattern that may go on doesn't hold everywhere.
+    InteriorEllipsis,
+    /// The tokens of two joined patterns differ.
+    TokensDiffer,
+    /// A pattern holds of no point.
+    Impossible,
+    /// How many cubes a pattern may need, which is too many.
+    TooManyCubes(u32),
+    /// How many bytes there are up to the last one that a pattern looks at, which is too many.
+    WindowTooLong(u32),
+    /// A specification of another form than the one that is listed today.
     NotYet,
-    /// Two constructors that are in conflict.
+    /// Two constructors of a table that isn't settled.
     Ambiguous(Conflict),
     /// An image is to be hexadecimal text, and spells no bytes.
     BadHex,
@@ -79,6 +95,16 @@ fn push_feature(out: &mut Vec<u8>, feature: Feature) -> Result<(), AllocError>
     }
 }
 
+/// Appends the table that isn't settled, and the place of the second constructor.
+fn push_conflict(out: &mut Vec<u8>, conflict: &Conflict) -> Result<(), AllocError>
+    ensures { OnOk result (out.new.items ≡ out.old.items ++ conflict_words conflict.now) }
+{
+    out.extend_from_slice(b"ambiguous in ")?;
+    out.extend_from_slice(conflict.table.as_bytes())?;
+    out.extend_from_slice(b" with ")?;
+    push_place(out, &conflict.other)
+}
+
 /// Appends the words of the problem.
 pub fn push_words(out: &mut Vec<u8>, problem: &Problem) -> Result<(), AllocError>
     ensures { OnOk result (out.new.items ≡ out.old.items ++ words_of problem.now) }
@@ -100,16 +126,16 @@ pub fn push_words(out: &mut Vec<u8>, problem: &Problem) -> Result<(), AllocError
             out.extend_from_slice(b"not supported: ")?;
             push_feature(out, *feature)
         }
-        Problem::Rule(number) => {
-            let mut buffer = Buffer::new();
-            out.extend_from_slice(b"rule ")?;
-            out.extend_from_slice(buffer.format(*number).as_bytes())
-        }
+        Problem::Rule(number) => push_counted(out, b"rule ", u64::from(*number)),
+        Problem::SizeClash => out.extend_from_slice(b"size clash"),
+        Problem::SizeUnfixed => out.extend_from_slice(b"size unfixed"),
+        Problem::InteriorEllipsis => out.extend_from_slice(b"interior ellipsis"),
+        Problem::TokensDiffer => out.extend_from_slice(b"tokens differ"),
+        Problem::Impossible => out.extend_from_slice(b"impossible pattern"),
+        Problem::TooManyCubes(count) => push_counted(out, b"too many cubes ", u64::from(*count)),
+        Problem::WindowTooLong(count) => push_counted(out, b"window too long ", u64::from(*count)),
         Problem::NotYet => out.extend_from_slice(b"not yet"),
-        Problem::Ambiguous(conflict) => {
-            out.extend_from_slice(b"ambiguous in instruction with ")?;
-            push_place(out, &conflict.other)
-        }
+        Problem::Ambiguous(conflict) => push_conflict(out, conflict),
         Problem::BadHex => out.extend_from_slice(b"bad hex"),
         Problem::NoContextField => out.extend_from_slice(b"no such context field"),
     }

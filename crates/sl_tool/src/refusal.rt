@@ -5,9 +5,9 @@ ghost use Rattle.sl_tool.specs.Problems.{apart_lines, lines_after, point_line, r
 
 use crate::lines::{push_place, push_point};
 use crate::place::{Name, Place};
-use crate::problem::{Problem, push_words};
+use crate::problem::{Conflict, Problem, push_words};
+use sl_compile::Apart;
 use sl_cube::Point;
-use sl_sets::{Apart, Report};
 use std::alloc::{AllocError, Global};
 
 /// What a refusal speaks of.
@@ -82,7 +82,7 @@ fn push_named_point(out: &mut Vec<u8>, name: &[u8], point: &Point) -> Result<(),
     out.extend_from_slice(b"\n")
 }
 
-/// Appends the lines that say how two sets in conflict differ.
+/// Appends the lines that say how the sets of two constructors differ.
 fn push_apart(out: &mut Vec<u8>, apart: &Apart) -> Result<(), AllocError>
     ensures { OnOk result (out.new.items ≡ out.old.items ++ apart_lines apart.now) }
 {
@@ -99,11 +99,11 @@ fn push_apart(out: &mut Vec<u8>, apart: &Apart) -> Result<(), AllocError>
 }
 
 /// Appends the report of a conflict.
-fn push_report(out: &mut Vec<u8>, report: &Report) -> Result<(), AllocError>
-    ensures { OnOk result (out.new.items ≡ out.old.items ++ report_lines report.now) }
+fn push_report(out: &mut Vec<u8>, conflict: &Conflict) -> Result<(), AllocError>
+    ensures { OnOk result (out.new.items ≡ out.old.items ++ report_lines conflict.now) }
 {
-    push_named_point(out, b"both", &report.both)?;
-    push_apart(out, &report.apart)
+    push_named_point(out, b"both", &conflict.both)?;
+    push_apart(out, &conflict.apart)
 }
 
 /// Appends what is printed after the line of the problem.
@@ -111,7 +111,7 @@ fn push_after(out: &mut Vec<u8>, problem: &Problem) -> Result<(), AllocError>
     ensures { OnOk result (out.new.items ≡ out.old.items ++ lines_after problem.now) }
 {
     match problem {
-        Problem::Ambiguous(conflict) => push_report(out, &conflict.report),
+        Problem::Ambiguous(conflict) => push_report(out, conflict),
         _ => Ok(()),
     }
 }

@@ -3,17 +3,17 @@ use Rattle.std.proofs.lemmas.Result.{err_from_is_err_and}
 use Rattle.sl_outside.specs.Folder.{Folder}
 use Rattle.sl_preproc.specs.Asks.{AsksFor as AsksForText}
 use Rattle.sl_request.specs.Views.{target}
-use Rattle.sl_tool.specs.Answers.{Answers, AsksAfter, AsksFor, Displays, Follows, UsesFilesFor, Waits}
+use Rattle.sl_tool.specs.Answers.{Answers, AsksAfter, AsksFor, Counts, Displays, Follows, UsesFilesFor}
 use Rattle.sl_tool.specs.Outcomes.{FailsToRead, IsEarly}
 use Rattle.sl_tool.specs.Request.{spec_of}
 use Rattle.sl_tool.specs.Requests.{command, request}
 use Rattle.sl_tool.specs.SourceView.{source_view}
 use Rattle.sl_tool.specs.Stage.{Then}
 use Rattle.sl_tool.specs.Stage.Then.{stops, goes}
-use Rattle.sl_tool.specs.Stages.{Binds, Expands, Parses, Reads, Tokenizes}
+use Rattle.sl_tool.specs.Stages.{Compiles, Expands, Parses, Reads, Tokenizes}
 use Rattle.sl_tool.specs.StageViews.{tree_view}
 use Rattle.sl_tool.specs.declared.request.Request.{Request}
-use Rattle.sl_tool.proofs.AnsweredLemmas.{follows, gives_files, gives_obtains, gives_sink, gives_writes, stop_first, stop_second, stop_sink, stop_writes, writes_map}
+use Rattle.sl_tool.proofs.AnsweredLemmas.{asks_nothing, follows, gives_obtains, stop_first, stop_second, stop_sink, stop_writes, writes_map}
 use Rattle.sl_tool.proofs.answer.answered.Goals as goal
 
 -- ---- the text has no expansion
@@ -83,8 +83,8 @@ returns-in-Check-clause-writes g c =
     let s = source_view c.in_ok-source.source in
     let u = tree_view c.in_ok-tree.tree in
     let read : Reads told (spec_of r) (Ok u) = goes (subst (λ (name : List ℕ). Expands told name (Ok s)) c.spec.ensures c.in_ok-source.ensures.gives) c.in_ok-tree.ensures in
-    writes_map (Then Binds Waits u) (Answers told r) _ _ c.check.result
-    (λ x t. goes read (subst (λ (q : Request). Follows told (request q) u x) (sym c.in-Check.is) t)) (gives_writes (Then Binds Waits u) _ c.check.result c.check.ensures)
+    writes_map (Then Compiles Counts u) (Answers told r) _ _ c.check.result
+    (λ x t. goes read (subst (λ (q : Request). Follows told (request q) u x) (sym c.in-Check.is) t)) c.check.ensures.writes
 
 pub returns-in-Check-clause-files : goal.returns-in-Check-clause-files
 returns-in-Check-clause-files g c =
@@ -98,11 +98,10 @@ returns-in-Check-clause-files g c =
     (w.0, subst (λ (name : List ℕ). AsksForText told name w.0) c.spec.ensures w.1, w.2) (λ n. n)
     (subst (λ (q : Request). UsesFilesFor g.F.Files.told g.F.Files.faults g.F.Files.asked (AsksAfter (request q) u) c.read.new.files c.read.new.files
     (IsEarly c.check.result) (FailsToRead c.check.result)) (sym c.in-Check.is)
-    (gives_files g.F.Files.told g.F.Files.faults g.F.Files.asked (Then Binds Waits u) c.read.new.files c.check.result c.check.ensures))
+    (asks_nothing g.F.Files.told g.F.Files.faults g.F.Files.asked c.read.new.files c.check.result c.check.ensures.unread))
 
-pub returns-in-Check-clause-sink : goal.returns-in-Check-clause-sink
-returns-in-Check-clause-sink g c =
-    gives_sink (Then Binds Waits (tree_view c.in_ok-tree.tree)) g.K.Sink.faults g.K.Sink.calls c.args.out.now c.check.result c.check.ensures
+pub returns-in-Check-clause-unwritten : goal.returns-in-Check-clause-unwritten
+returns-in-Check-clause-unwritten g c = λ f. absurd (c.check.ensures.unread f)
 
 -- ---- an image is shown
 

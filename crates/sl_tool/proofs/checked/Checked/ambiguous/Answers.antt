@@ -8,8 +8,10 @@ use Rattle.sl_description.specs.Fields.{Matches}
 use Rattle.sl_description.specs.Views.{description}
 use Rattle.sl_tool.specs.Places.{place_of_token}
 use Rattle.sl_tool.specs.Problems.{refusal_at}
+use Rattle.sl_tool.specs.Stages.{root_conflict}
 use Rattle.sl_tool.specs.TokensView.{tokens_view}
 use Rattle.sl_tool.specs.declared.place.Place.{Place}
+use Rattle.sl_tool.specs.declared.problem.Conflict.{Conflict}
 use Rattle.sl_tool.specs.declared.problem.Problem.TheVariants.{Ambiguous}
 use Rattle.sl_tool.proofs.SetLemmas.{alike_sets}
 use Rattle.sl_tool.proofs.checked.Checked.ambiguous.Goals as goal
@@ -44,6 +46,7 @@ returns c =
           (alike_there has_cube (Matches d) cubes d.constructors i cube first.here.first alike cube_is first.here.first_is)
           (alike_there has_cube (Matches d) cubes d.constructors j other first.here.second alike other_is first.here.second_is)
           c.in_ok-report.ensures;
-      is = ap (λ (p : Place). refusal_at p (Ambiguous (record { other = c.in_ok-other.other; report = told }))) (c.in_ok-place.ensures first.here.first first.here.first_is)
-          ∙ ap (λ (p : Place). refusal_at place (Ambiguous (record { other = p; report = told }))) (c.in_ok-other.ensures first.here.second first.here.second_is);
+      is = ap (λ (x : Conflict). refusal_at c.in_ok-place.place (Ambiguous x)) c.in_ok-conflict.ensures
+          ∙ ap (λ (p : Place). refusal_at p (Ambiguous (root_conflict c.in_ok-other.other told))) (c.in_ok-place.ensures first.here.first first.here.first_is)
+          ∙ ap (λ (p : Place). refusal_at place (Ambiguous (root_conflict p told))) (c.in_ok-other.ensures first.here.second first.here.second_is);
     }

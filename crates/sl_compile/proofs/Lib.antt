@@ -1,0 +1,4 @@
+pub mod ResultLemmas
+pub mod StandLemmas
+pub mod OutcomeLemmas
+pub mod RefusalLemmas

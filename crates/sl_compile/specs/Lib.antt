@@ -1,0 +1,5 @@
+pub mod Ambiguity
+pub mod Outcomes
+pub mod Refusals
+pub mod Places
+pub mod Laws

@@ -1,0 +1,15 @@
+use Rattle.std.proofs.Common.{ap}
+use Rattle.sl_ast.specs.Views.{items_of}
+use Rattle.sl_ast.specs.declared.items.Spec.{Spec}
+use Rattle.sl_tool.specs.StageViews.{compiled_view}
+use Rattle.sl_tool.specs.TokensView.{tokens_view}
+use Rattle.sl_tool.specs.Values.{tree}
+use Rattle.sl_tool.proofs.CompiledLemmas.{halts}
+use Rattle.sl_tool.proofs.compiled.Compiled.read.Goals as goal
+
+pub returns-in-Ok : goal.returns-in-Ok
+returns-in-Ok c = (ap (λ (s : Spec). tree (tokens_view c.args.tree.tokens) (items_of s)) c.in-Ok.ensures.kept, c.in-Ok.ensures.compiles)
+
+pub returns : goal.returns
+returns c =
+    halts (tokens_view c.args.tree.tokens) c.args.tree.spec compiled_view c.in-Err.error c.refused.result c.args.tree.indexes c.in-Err.ensures.refused c.refused.ensures
