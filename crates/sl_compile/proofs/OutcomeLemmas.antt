@@ -1,5 +1,5 @@
 -- A specification has one outcome, and it can't be that it has none.
-use Rattle.std.proofs.Common.{◌≡◌, ℕ, ◌⊎◌, inl, inr, List, Option, Result, Ok, Err, refl, sym, ap, subst, ◌∙◌}
+use Rattle.std.proofs.Common.{◌≡◌, ℕ, ◌⊎◌, inl, inr, List, Option, Ok, Err, refl, sym, ap, subst, ◌∙◌}
 use Rattle.sl_ast.specs.Trees.{Constructor, Item}
 use Rattle.sl_ast.specs.Unfolding.{Placed}
 use Rattle.sl_bind.proofs.VerdictLemmas.{one_verdict, some_verdict}

@@ -18,7 +18,6 @@ use Rattle.sl_compile.specs.Places.{IsTold, TellsRefusal, refused}
 use Rattle.sl_compile.specs.Refusals.{IsRefused, Refuses, unbound}
 use Rattle.sl_compile.specs.declared.error.CompileError.{CompileError}
 use Rattle.sl_compile.specs.declared.error.CompileError.TheVariants as e
-use Rattle.sl_compile.specs.declared.error.Flaw.TheVariants as flaw
 use Rattle.sl_conflict.specs.declared.judging.ConflictError.TheVariants as conflict
 use Rattle.sl_rules.specs.Gathered.{gathered}
 use Rattle.sl_settle.specs.declared.report.Report.{Report}

@@ -1,5 +1,5 @@
 -- The tables of a specification that keeps the rules are ones on which a verdict is.
-use Rattle.std.proofs.Common.{◌≡◌, ℕ, List, Option, Some, None, Result, Ok, Err, ap, subst, sym}
+use Rattle.std.proofs.Common.{◌≡◌, List, Option, Some, None, Result, Ok, Err, ap, subst, sym}
 use Rattle.sl_ast.specs.Trees.{Constructor, Item}
 use Rattle.sl_ast.specs.Unfolding.{Placed}
 use Rattle.sl_bind.proofs.BoundLemmas as kept
