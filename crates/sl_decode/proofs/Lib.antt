@@ -1,0 +1,5 @@
+pub mod BitLemmas
+pub mod ChoiceLemmas
+pub mod FinishLemmas
+pub mod ReadLemmas
+pub mod SproutLemmas

@@ -1,0 +1,144 @@
+//! The late moments of a decode: all nodes once more in the same order.
+
+ghost use Rattle.std.specs.Prelude.{◌≡◌, ◌++◌, ◌∷◌, List, length, IfOk, OnOk};
+ghost use Rattle.sl_contexts.specs.declared.commits.Commit.{Commit as CommitOf};
+ghost use Rattle.sl_decode.specs.Finishing as spec;
+ghost use Rattle.sl_decode.specs.Finishing.{begun_of, finish_kept, kept, roots, told, told_of};
+ghost use Rattle.sl_decode.specs.Inputs.{input_of};
+ghost use Rattle.sl_decode.specs.Outcomes.{Gives};
+ghost use Rattle.sl_decode.specs.declared.walk.Sprout.{Sprout as SproutOf};
+ghost use Rattle.sl_decoding.specs.Decoding.{finish_node};
+
+use crate::decode::{Choose, Decode};
+use crate::late::{look_all, tell_all};
+use crate::outcomes::DecodeError;
+use crate::points::divided;
+use crate::walk::Sprout;
+use sl_contexts::Commit;
+use sl_decoding::{Entry, Noted};
+use sl_plan::Scope;
+use sl_spec::{CtorId, TableId};
+use std::alloc::AllocError;
+
+/// Looks at one more node, of which `skipped` are skipped first: how many are behind it. Its length
+/// is added, if it isn't skipped.
+fn add_length(sprout: &Sprout, skipped: usize, lengths: &mut Vec<u32>) -> Result<usize, AllocError>
+    ensures { IfOk result (λ n. (rest : List SproutOf) → lengths.new.items ++ roots n rest
+        ≡ lengths.old.items ++ roots skipped (sprout.now ∷ rest)) }
+{
+    if skipped > 0 {
+        return Ok(skipped - 1);
+    }
+    lengths.push(sprout.length)?;
+    Ok(sprout.below)
+}
+
+/// Adds the lengths of the nodes that stand below none of the others.
+fn add_lengths(sprouts: &[Sprout], lengths: &mut Vec<u32>) -> Result<(), AllocError>
+    ensures { OnOk result (lengths.new.items ≡ lengths.old.items ++ roots 0 sprouts.now) }
+{
+    let mut skipped = 0;
+    'sprouts: for index in 0..sprouts.len() {
+        skipped = add_length(&sprouts[index], skipped, lengths)?;
+    }
+    Ok(())
+}
+
+/// Adds a node with its values.
+fn keep(
+    sprout: &Sprout,
+    own: &[i64],
+    nodes: &mut Vec<Entry>,
+    values: &mut Vec<i64>,
+) -> Result<(), AllocError>
+    ensures { OnOk result ((cs ds : List CommitOf) → kept nodes.new.items values.new.items ds
+        ≡ spec.keep sprout.now (told own.now ds) (kept nodes.old.items values.old.items cs)) }
+{
+    let first = values.len();
+    values.extend_from_slice(own)?;
+    nodes.push(Entry {
+        ctor: sprout.ctor,
+        at: sprout.at,
+        length: sprout.length,
+        context: sprout.context,
+        first,
+        end: values.len(),
+        below: sprout.below,
+    })?;
+    Ok(())
+}
+
+impl<C: Choose> Decode<'_, '_, C> {
+    /// The late moments of a node: its values are put in place of those of `own`, and commits are
+    /// added.
+    fn finish_one(
+        &self,
+        next: u64,
+        sprout: &Sprout,
+        below: &[Sprout],
+        notes: &[Noted],
+        lengths: &mut Vec<u32>,
+        own: &mut Vec<i64>,
+        commits: &mut Vec<Commit>,
+    ) -> Result<(), DecodeError>
+        ensures { Gives (λ _. told own.new.items commits.new.items) result
+            (told_of (finish_node (input_of C.chosen self.now) next
+            (begun_of sprout.now notes.now) (roots 0 below.now) commits.old.items)) }
+    {
+        lengths.clear();
+        own.clear();
+        add_lengths(below, lengths)?;
+        let CtorId(number) = sprout.ctor;
+        let plan = self.plan_of(sprout.ctor, TableId(number), sprout.at)?;
+        let scope = Scope {
+            ctor: sprout.ctor,
+            bytes: self.bytes,
+            at: sprout.at,
+            lengths: lengths.as_slice(),
+            context: sprout.context,
+            start: self.address,
+            next,
+            values: &[],
+        };
+        look_all(self.tables, &scope, plan.looks.as_slice())?;
+        tell_all(
+            self.tables,
+            &scope,
+            plan.late.as_slice(),
+            notes,
+            own,
+            commits,
+        )?;
+        Ok(())
+    }
+
+    /// The late moments of all nodes, `next` being the address behind the instruction. Nodes, values
+    /// and commits are added.
+    pub fn finish(
+        &self,
+        next: u64,
+        sprouts: &[Sprout],
+        notes: &[Noted],
+        lengths: &mut Vec<u32>,
+        own: &mut Vec<i64>,
+        nodes: &mut Vec<Entry>,
+        values: &mut Vec<i64>,
+        commits: &mut Vec<Commit>,
+    ) -> Result<(), DecodeError>
+        ensures { Gives (λ _. kept nodes.new.items values.new.items commits.new.items) result
+            (finish_kept (input_of C.chosen self.now) next sprouts.now notes.now
+            (kept nodes.old.items values.old.items commits.old.items)) }
+    {
+        let mut rest = notes;
+        'sprouts: for index in 0..sprouts.len() {
+            let sprout = &sprouts[index];
+            let (_, behind) = divided(sprouts, index + 1);
+            let (below, _) = divided(behind, sprout.below);
+            let (noted, left) = divided(rest, sprout.noted);
+            self.finish_one(next, sprout, below, noted, lengths, own, commits)?;
+            keep(sprout, own.as_slice(), nodes, values)?;
+            rest = left;
+        }
+        Ok(())
+    }
+}

@@ -1,0 +1,124 @@
+//! What is done at a node when the whole tree stands.
+
+ghost use Rattle.std.specs.Prelude.{◌≡◌, drop};
+ghost use Rattle.sl_decode.specs.Outcomes.{Gives};
+ghost use Rattle.sl_decode.specs.Finishing.{told, told_of};
+ghost use Rattle.sl_decoding.specs.Actions as spec;
+ghost use Rattle.sl_decoding.specs.Actions.{Own, at_values, own};
+ghost use Rattle.sl_decoding.specs.Outcomes.{in_turn};
+ghost use Rattle.sl_plan.specs.Steps.{late_step, look_step};
+ghost use Rattle.sl_plan.specs.Values.{site_of, value_in};
+
+use crate::addresses::address_in;
+use crate::decode::value_of;
+use crate::outcomes::DecodeError;
+use sl_contexts::Commit;
+use sl_decoding::Noted;
+use sl_plan::{Late, Look, Scope, Value, look_up};
+use sl_spec::Tables;
+
+/// The look-ups of a node.
+pub fn look_all(t: &Tables, scope: &Scope, looks: &[Look]) -> Result<(), DecodeError>
+    ensures { (c : Own) → Gives (λ _. c) result
+        (in_turn (look_step t.now (site_of scope.now)) looks.now c) }
+{
+    'looks: for index in 0..looks.len() {
+        match look_up(t, scope, &looks[index]) {
+            Ok(()) => {}
+            Err(fault) => return Err(DecodeError::Fault(fault)),
+        }
+    }
+    Ok(())
+}
+
+fn commit_of(t: &Tables, note: &Noted, address: i64) -> Commit
+    ensures { result ≡ spec.commit_of t.now note.now address }
+{
+    Commit {
+        address: address_in(t, address.cast_unsigned()),
+        mask: note.mask,
+        value: note.value,
+        flows: note.flows,
+    }
+}
+
+/// A value of an action at a node, where its action names have these values so far.
+fn value_with(t: &Tables, scope: &Scope, values: &[i64], value: &Value) -> Result<i64, DecodeError>
+    ensures { Gives (λ n. n) result
+        (value_in t.now (at_values values.now (site_of scope.now)) value.now) }
+{
+    let here = Scope {
+        ctor: scope.ctor,
+        bytes: scope.bytes,
+        at: scope.at,
+        lengths: scope.lengths,
+        context: scope.context,
+        start: scope.start,
+        next: scope.next,
+        values,
+    };
+    value_of(t, &here, value)
+}
+
+/// One step, where the first `used` notes are taken: how many are taken behind it. A value or a
+/// commit is added.
+fn tell_once(
+    t: &Tables,
+    scope: &Scope,
+    step: &Late,
+    notes: &[Noted],
+    used: usize,
+    values: &mut Vec<i64>,
+    commits: &mut Vec<Commit>,
+) -> Result<usize, DecodeError>
+    ensures { Gives (λ n. own (drop n notes.now) values.new.items commits.new.items) result
+        (late_step t.now (site_of scope.now) step.now
+        (own (drop used notes.now) values.old.items commits.old.items)) }
+{
+    match step {
+        Late::Name(value) => {
+            match value_with(t, scope, values.as_slice(), value) {
+                Ok(n) => {
+                    values.push(n)?;
+                    Ok(used)
+                }
+                Err(error) => Err(error),
+            }
+        }
+        Late::Commit(value) => {
+            let Some(note) = notes.get(used) else {
+                return Ok(used);
+            };
+            match value_with(t, scope, values.as_slice(), value) {
+                Ok(address) => {
+                    commits.push(commit_of(t, note, address))?;
+                    Ok(used + 1)
+                }
+                Err(error) => Err(error),
+            }
+        }
+    }
+}
+
+/// All steps. Values and commits are added.
+pub fn tell_all(
+    t: &Tables,
+    scope: &Scope,
+    steps: &[Late],
+    notes: &[Noted],
+    values: &mut Vec<i64>,
+    commits: &mut Vec<Commit>,
+) -> Result<(), DecodeError>
+    ensures { Gives (λ _. told values.new.items commits.new.items) result
+        (told_of (in_turn (late_step t.now (site_of scope.now)) steps.now
+        (own notes.now values.old.items commits.old.items))) }
+{
+    let mut used = 0;
+    'steps: for index in 0..steps.len() {
+        match tell_once(t, scope, &steps[index], notes, used, values, commits) {
+            Ok(next) => used = next,
+            Err(error) => return Err(error),
+        }
+    }
+    Ok(())
+}
