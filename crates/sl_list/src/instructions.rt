@@ -23,6 +23,9 @@ pub trait Decoder {
     /// What bytes at an address decode to, from a context.
     ghost tells: { Self → Tells };
 
+    /// What has to hold before anything is told.
+    ghost ready: { Self → Type 0 };
+
     /// Puts the text and the commits of the instruction in the place of what the buffers hold. The
     /// result is its length in bytes, or why the bytes don't decode. The only error is want of
     /// memory.
@@ -35,7 +38,8 @@ pub trait Decoder {
         text: &mut Vec<u8>,
         commits: &mut Vec<Commit>,
     ) -> Result<Result<u32, Fault>, AllocError>
-        requires { length bytes.now ≡ window }
+        requires ready { ready self.now }
+        requires bytes { length bytes.now ≡ window }
         ensures { IfOk result (λ r. told_by r text.new.items commits.new.items
             ≡ tells self.now bytes.now address context) };
 }
@@ -137,6 +141,8 @@ impl<'l, D: Decoder> Lister for Listing<'l, D> {
     }) };
 
     ghost end = { λ l. length l.image.now };
+
+    ghost ready = { λ l. D.ready l.decoder.now };
 
     ghost start = { λ l. l.start };
 

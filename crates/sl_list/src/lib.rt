@@ -5,11 +5,13 @@ mod instructions;
 pub mod laws;
 mod lines;
 mod listings;
+mod specified;
 mod writing;
 
 pub use instructions::{Decoder, ListBuffers, Listing, WINDOW};
 pub use lines::push_listed;
 pub use listings::{ListError, Lister, list_all};
+pub use specified::Specified;
 
 #[cfg(test)]
 mod tests;

@@ -43,6 +43,9 @@ pub trait Lister {
 
     ghost end: { Self → ℕ };
 
+    /// What has to hold before a position is shown.
+    ghost ready: { Self → Type 0 };
+
     /// The context where no commit counts.
     ghost start: { Self → ℕ };
 
@@ -63,7 +66,8 @@ pub trait Lister {
         text: &mut Vec<u8>,
         commits: &mut Vec<Commit>,
     ) -> Result<usize, AllocError>
-        requires { at < end self.now }
+        requires ready { ready self.now }
+        requires within { at < end self.now }
         ensures some { IfOk result (λ n. (1 ≤ n) × (n ≤ 255)) }
         ensures shown { IfOk result (λ n. (cs : List CommitOf)
             → Stands contexts.now (start self.now) cs
@@ -91,7 +95,8 @@ fn next_line<L: Lister, K: Sink>(
     commits: &mut Vec<Commit>,
     out: &mut K,
 ) -> Result<usize, ListError>
-    requires { at < L.end lister.now }
+    requires ready { L.ready lister.now }
+    requires within { at < L.end lister.now }
     ensures some { IfOk result (λ n. (1 ≤ n) × (n ≤ 255)) }
     ensures next { IfOk result (λ n. (cs : List CommitOf)
         → Stands contexts.old (L.start lister.now) cs
@@ -125,6 +130,7 @@ pub fn list_all<L: Lister, K: Sink>(
     buffers: &mut L::Buffers,
     out: &mut K,
 ) -> Result<(), ListError>
+    requires { L.ready lister.now }
     ensures whole { OnOk result (IsListed (L.shows lister.now) (L.end lister.now)
         (K.taken out.old) (K.taken out.new)) }
     ensures front { OnErr result (IsBegun (L.shows lister.now) (L.end lister.now)

@@ -20,6 +20,8 @@ impl Decoder for Pairs {
         then Err (NoConstructor 0 0)
         else Ok (record { text = codes "pair"; length = 2; commits = [] }) };
 
+    ghost ready = { λ _. Unit {0} };
+
     fn tell(
         &self,
         bytes: &[u8],
