@@ -1,5 +1,6 @@
 //! Laws of packed specifications.
 
+ghost use Rattle.sl_packed.specs.Cases.{WorkedCases};
 ghost use Rattle.sl_packed.specs.Laws.{ConditionsAreExact, ItemsHaveNoFault, PlacesTellTheValue, VerdictsExcludeEachOther};
 ghost use Rattle.sl_packed.specs.Packed.{IsPackable, pack, write_written, written_here};
 ghost use Rattle.sl_packing.specs.Exact.{AreApart, Exact};
@@ -35,4 +36,9 @@ pub fn items_have_no_fault()
 /// of the files.
 pub fn conditions_are_exact()
     ensures { ConditionsAreExact }
+{}
+
+/// Worked cases, reckoned by the definition.
+pub fn worked_cases()
+    ensures { WorkedCases }
 {}
