@@ -11,3 +11,4 @@ pub mod CharacterLaws
 pub mod FileNameLaws
 pub mod PackedLaws
 pub mod ValidLaws
+pub mod ConditionLaws

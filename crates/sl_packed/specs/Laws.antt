@@ -1,7 +1,7 @@
 -- Meaning: laws of packed specifications.
 use Rattle.std.specs.Prelude.{◌≡◌, ℕ, List}
 use Rattle.sl_ast.specs.Validity as v
-use Rattle.sl_packed.specs.Packed.{Written, IsPackable, pack, apart}
+use Rattle.sl_packed.specs.Packed.{Written, Packed, IsPackable, IsPacked, pack, apart}
 use Rattle.sl_packing.specs.Verdicts.{Are, AreCut, AreDamagedAt}
 
 -- The verdicts on a list of bytes exclude each other, and damage is at one place.
@@ -21,3 +21,12 @@ PlacesTellTheValue = (w v : Written) → IsPackable w → IsPackable v → apart
 -- The items of what may be packed are those of a specification without a fault.
 abbrev pub ItemsHaveNoFault : Type 0
 ItemsHaveNoFault = (w : Written) → IsPackable w → v.AreItems (apart w).items
+
+-- A value with its places apart meets the conditions exactly where it is one that may be packed.
+pub record MayBePacked (p : Packed) : Type 0 where
+  pub written : Written
+  pub packable : IsPackable written
+  pub is : apart written ≡ p
+
+abbrev pub ConditionsAreExact : Type 0
+ConditionsAreExact = ((p : Packed) → IsPacked p → MayBePacked p) × ((p : Packed) → MayBePacked p → IsPacked p)

@@ -9,3 +9,4 @@ pub mod Items
 pub mod FileNames
 pub mod Packed
 pub mod Laws
+pub mod Cases

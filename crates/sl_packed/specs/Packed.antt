@@ -1,10 +1,12 @@
 -- Meaning: a packed specification: the files' names, the places of its items, and the items; and its bytes.
-use Rattle.std.specs.Prelude.{◌≡◌, ◌≤◌, ℕ, suc, List, [], ◌∷◌, ◌++◌, length, map, codes}
+use Rattle.std.specs.Prelude.{◌≡◌, ◌≤◌, ℕ, suc, ◌+◌, List, [], ◌∷◌, ◌++◌, length, map, codes}
 use Rattle.std.specs.Str.{IsUtf8}
 use Rattle.sl_ast.specs.Trees.{Constructor, Head, Inside, nothing, constructor_then, block_then, Item, block}
+use Rattle.sl_ast.specs.Validity as v
 use Rattle.sl_ast.specs.Validity.{Each}
+use Rattle.sl_packed.specs.Constructors.{ConstructorLeaves, HeadLeaves}
 use Rattle.sl_packed.specs.FileNames.{file_name}
-use Rattle.sl_packed.specs.Items.{greatest_line, Inner, constructor_at, block_at, Inners, no_inner, with_inner, Placed, item_at, with_at, write_placed, GoodPlaced, items_here}
+use Rattle.sl_packed.specs.Items.{ItemLeaves, IsPlace, greatest_line, Inner, constructor_at, block_at, Inners, no_inner, with_inner, Placed, item_at, with_at, write_placed, GoodPlaced, items_here}
 use Rattle.sl_packing.specs.Lexemes.{write_bytes}
 use Rattle.sl_packing.specs.Lists.{write_list, listed, same_state}
 use Rattle.sl_packing.specs.Numbers.{greatest}
@@ -83,3 +85,45 @@ all_places (i ∷ is) = item_places i ++ all_places is
 -- the places and the items of the value, apart
 abbrev pub apart : Written → Packed
 apart w = record { files = w.files; places = all_places w.items; items = map item_of w.items }
+
+-- ---- the conditions, on the value with the places apart
+
+abbrev pub chain_length : Inside → ℕ
+chain_length nothing = 0
+chain_length (constructor_then c more) = suc (chain_length more)
+chain_length (block_then h inside more) = suc (chain_length more)
+
+-- how many items are inside a block, those of blocks among them
+abbrev pub inside_count : Inside → ℕ
+inside_count nothing = 0
+inside_count (constructor_then c more) = suc (inside_count more)
+inside_count (block_then h inside more) = suc (inside_count inside + inside_count more)
+
+abbrev pub item_count : Item → ℕ
+item_count (block h inside) = suc (inside_count inside)
+item_count i = 1
+
+abbrev pub items_count : List Item → ℕ
+items_count [] = 0
+items_count (i ∷ is) = item_count i + items_count is
+
+-- names, texts and numbers are such
+abbrev pub InsideLeaves : Inside → Type 0
+InsideLeaves nothing = Unit {0}
+InsideLeaves (constructor_then c more) = ConstructorLeaves c × InsideLeaves more
+InsideLeaves (block_then h inside more) = HeadLeaves h × (chain_length inside ≤ greatest) × InsideLeaves inside × InsideLeaves more
+
+abbrev pub AllItemLeaves : Item → Type 0
+AllItemLeaves (block h inside) = HeadLeaves h × (chain_length inside ≤ greatest) × InsideLeaves inside
+AllItemLeaves i = ItemLeaves i
+
+-- The items are those of a specification without a fault, names, texts and numbers are such, there are as many
+-- places as items, and each is in one of the files.
+pub record IsPacked (p : Packed) : Type 0 where
+  pub few : length p.files ≤ greatest_line
+  pub names : Each IsFileName p.files
+  pub many : length p.items ≤ greatest
+  pub no_fault : v.AreItems p.items
+  pub leaves : Each AllItemLeaves p.items
+  pub as_many : length p.places ≡ items_count p.items
+  pub places : Each (IsPlace (length p.files)) p.places

@@ -1,6 +1,7 @@
 //! Laws of packed specifications.
 
-ghost use Rattle.sl_packed.specs.Laws.{ItemsHaveNoFault, PlacesTellTheValue, VerdictsExcludeEachOther};
+ghost use Rattle.sl_packed.specs.Cases.{WorkedCases};
+ghost use Rattle.sl_packed.specs.Laws.{ConditionsAreExact, ItemsHaveNoFault, PlacesTellTheValue, VerdictsExcludeEachOther};
 ghost use Rattle.sl_packed.specs.Packed.{IsPackable, pack, write_written, written_here};
 ghost use Rattle.sl_packing.specs.Exact.{AreApart, Exact};
 
@@ -28,4 +29,16 @@ pub fn places_tell_the_value()
 /// The items of what may be packed are those of a specification without a fault.
 pub fn items_have_no_fault()
     ensures { ItemsHaveNoFault }
+{}
+
+/// What may be packed, told with the places in a list of their own: the items are those of a specification
+/// without a fault, names, texts and numbers are such, there are as many places as items, and each is in one
+/// of the files.
+pub fn conditions_are_exact()
+    ensures { ConditionsAreExact }
+{}
+
+/// Worked cases, reckoned by the definition.
+pub fn worked_cases()
+    ensures { WorkedCases }
 {}
