@@ -1,4 +1,5 @@
 pub mod Fits
+pub mod Fitting
 pub mod Nodes
 pub mod Operations
 pub mod Runs
