@@ -2,4 +2,5 @@ pub mod Order
 pub mod Sides
 pub mod Trees
 pub mod Choosers
+pub mod Picked
 pub mod Added
