@@ -29,9 +29,9 @@ pub loop-entry-preserved : goal.loop-entry-preserved
 loop-entry-preserved c =
     let below : c.loop-entry.entry-index < length c.args.leaf.now = omega arith in (
       below_more _ _ c.loop-entry.invariant.0 (at_read c.args.leaf.now (λ (e : Entry). IsIn c.args.point.now e.cube → ⊥) c.loop-entry.entry-index c.entry-item.result below c.entry-item.is
-      (λ inside. false≢true (sym c.if-has.false ∙ c.has.ensures.inside.1 inside))),
+          (λ inside. false≢true (sym c.if-has.false ∙ c.has.ensures.inside.1 inside))),
       find_more (λ (e : Entry). is_in c.args.point.now e.cube) c.args.leaf.now c.loop-entry.entry-index c.loop-entry.invariant.1 c.entry-item.result c.entry-item.result below
-      c.entry-item.is (sym c.has.ensures.value ∙ c.if-has.false),
+          c.entry-item.is (sym c.has.ensures.value ∙ c.if-has.false),
     )
 
 pub returns-clause-first : goal.returns-clause-first
