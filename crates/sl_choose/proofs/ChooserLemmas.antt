@@ -1,6 +1,6 @@
 -- The first entry of a leaf that has the point holds what the point picks.
-use Rattle.std.proofs.Common.{◌≡◌, ◌≢◌, ◌↔◌, get_or, ℕ, ◌+◌, ◌<◌, ◌≤◌, ◌⊎◌, List, length, Option, Some, None, arith, sym, ◌∙◌, ap, refl, inl, inr, subst}
-use Rattle.std.specs.Prelude.{Contains, slice_get}
+use Rattle.std.proofs.Common.{◌≡◌, get_or, ℕ, ◌<◌, ◌≤◌, List, length, Some, None, arith, sym, ◌∙◌, ap, refl, inl, inr, subst}
+use Rattle.std.specs.Prelude.{Contains}
 use Rattle.std.specs.List.{HoldsAt}
 use Rattle.std.proofs.lemmas.Bool.{cases_eq, cases_lt}
 use Rattle.std.proofs.lemmas.List.{get_or_default}
@@ -15,7 +15,7 @@ use Rattle.sl_settle.proofs.WithinLemmas.{below_irrefl}
 use Rattle.sl_choose.specs.Order.{NotAbove}
 use Rattle.sl_choose.specs.declared.Entry.{Entry}
 use Rattle.sl_choose.specs.Trees.{IsLeafOf}
-use Rattle.sl_choose.specs.Choosers.{IsGiven, AreEntriesOf, IsPick, FirstHas, IsFirst, HoldsPick}
+use Rattle.sl_choose.specs.Choosers.{AreEntriesOf, FirstHas, IsFirst, HoldsPick}
 
 pub first_none : (leaf : List Entry) (p : Point) (n : ℕ) → length leaf ≤ n → ((k : ℕ) → k < n → HoldsAt (λ (e : Entry). IsIn p e.cube → ⊥) leaf k) → IsFirst leaf p None
 first_none leaf p n all f = λ e h.

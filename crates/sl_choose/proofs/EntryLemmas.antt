@@ -1,7 +1,7 @@
 -- Entries for the cubes of given sets, one set after the other.
-use Rattle.std.proofs.Common.{◌≡◌, ◌↔◌, suc, zero, get_or, ℕ, ◌+◌, ◌<◌, ◌≤◌, ◌⊎◌, List, [], ◌∷◌, ◌++◌, length, take, Option, Some, None, arith, sym, ◌∙◌, ap, refl, inl, inr, subst, length-append}
+use Rattle.std.proofs.Common.{◌≡◌, ◌↔◌, suc, zero, get_or, ℕ, ◌+◌, ◌<◌, ◌≤◌, ◌⊎◌, List, [], ◌∷◌, ◌++◌, length, take, Some, arith, sym, ◌∙◌, ap, refl, inl, inr, subst, length-append}
 use Rattle.std.specs.Prelude.{Contains, slice_get}
-use Rattle.std.proofs.lemmas.Bool.{cases_eq, cases_lt}
+use Rattle.std.proofs.lemmas.Bool.{cases_lt}
 use Rattle.std.proofs.lemmas.List.{get_or_default}
 use Rattle.std.proofs.lemmas.List.Elements.{Contains-append_left, Contains-push, Contains-push_cases}
 use Rattle.std.proofs.lemmas.Option.{slice_get_read, slice_get_within}

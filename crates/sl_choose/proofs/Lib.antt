@@ -3,3 +3,4 @@ pub mod SideLemmas
 pub mod TreeLemmas
 pub mod ChooserLemmas
 pub mod EntryLemmas
+pub mod PickLemmas

@@ -1,21 +1,19 @@
 -- Entries at the two sides of bits.
-use Rattle.std.proofs.Common.{◌≡◌, ◌↔◌, ℕ, ◌+◌, ◌-◌, ◌<◌, ◌≤◌, ◌^◌, ◌⊎◌, List, length, get_or, [], ◌∷◌, ◌++◌, below_more, Option, Some, None, Bool, true, false, IsTrue, min, bit_and, arith, sym, ◌∙◌, ap, refl, inl, inr, subst, length-append}
+use Rattle.std.proofs.Common.{◌≡◌, ◌↔◌, ℕ, ◌+◌, ◌<◌, ◌≤◌, ◌⊎◌, List, length, get_or, [], ◌∷◌, ◌++◌, below_more, min, bit_and, arith, sym, ◌∙◌, ap, refl, inl, inr, subst, length-append}
 use Rattle.std.specs.Prelude.{Contains}
 use Rattle.std.specs.Int.{bit_at}
 use Rattle.std.specs.List.{HoldsAt}
 use Rattle.std.proofs.lemmas.Nat.{and_le_l}
 use Rattle.std.proofs.lemmas.Nat.Bits.{bit_at_and, bit_at-lt, bit_at-zero, same_from_bits}
-use Rattle.std.proofs.lemmas.Bool.{cases_eq, false≢true}
 use Rattle.std.proofs.lemmas.List.Elements.{Contains-append_left, Contains-get_or, Contains-push, Contains-push_cases, at_read}
 use Rattle.sl_cube.specs.declared.Cube.{Cube}
 use Rattle.sl_cube.specs.declared.Point.{Point}
 use Rattle.sl_cube.specs.Bits.{Agrees}
 use Rattle.sl_cube.specs.Points.{IsIn}
 use Rattle.sl_cube.specs.Search.{Lacks}
-use Rattle.sl_cube.proofs.BitLemmas.{within_bit, clash, agrees_from_and, and_from_agrees}
+use Rattle.sl_cube.proofs.BitLemmas.{within_bit, agrees_from_and, and_from_agrees}
 use Rattle.sl_choose.specs.declared.Entry.{Entry}
-use Rattle.sl_choose.specs.declared.Halves.{Halves}
-use Rattle.sl_choose.specs.Sides.{SetsNone, Covers, IsPut, AllCover, SomeClear, SomeSet, IsSides, IsForced, HasNoForced, HasNoForcedByte, HasNoForcedContext, byte_bit, context_bit, IsSplitOf}
+use Rattle.sl_choose.specs.Sides.{SetsNone, Covers, IsPut, AllCover, SomeClear, SomeSet, IsSides, IsForced}
 
 -- ---- bits of a cube and of its points
 

@@ -1,15 +1,14 @@
 -- A tree of fewer entries, among which are all that have the point, is a tree of all.
-use Rattle.std.proofs.Common.{◌≡◌, get_or, ℕ, ◌+◌, ◌-◌, ◌<◌, ◌≤◌, ◌⊎◌, List, length, Option, Some, None, arith, sym, ◌∙◌, ap, refl, inl, inr, subst}
+use Rattle.std.proofs.Common.{ℕ, ◌⊎◌, List, inl, inr}
 use Rattle.std.specs.Prelude.{Contains}
 use Rattle.sl_cube.specs.declared.Point.{Point}
 use Rattle.sl_cube.specs.Points.{IsIn}
-use Rattle.sl_cube.specs.Search.{Lacks}
 use Rattle.sl_settle.specs.declared.CubeSet.{CubeSet}
-use Rattle.sl_choose.specs.Order.{IsOrdered, NotAbove}
+use Rattle.sl_choose.specs.Order.{IsOrdered}
 use Rattle.sl_choose.specs.declared.Entry.{Entry}
 use Rattle.sl_choose.specs.declared.Node.{Node, Leaf, Test'}
-use Rattle.sl_choose.specs.Sides.{IsSides, IsSplitOf, IsForced, HasNoForced, byte_bit, context_bit}
-use Rattle.sl_choose.specs.Trees.{IsTreeOf, IsLeafOf, IsTest, entries_in, IsBit}
+use Rattle.sl_choose.specs.Sides.{IsSplitOf, IsForced, HasNoForced, byte_bit, context_bit}
+use Rattle.sl_choose.specs.Trees.{IsTreeOf, IsLeafOf, IsTest}
 use Rattle.sl_choose.proofs.SideLemmas.{none_from_lacking, lacking_from_clear}
 
 module _ (sets : List CubeSet) (few entries : List Entry) (p : Point) (among : (e : Entry) → Contains few e → Contains entries e)

@@ -2,4 +2,6 @@ pub mod Order
 pub mod Sides
 pub mod Trees
 pub mod Choosers
+pub mod Laws
+pub mod Picked
 pub mod Added

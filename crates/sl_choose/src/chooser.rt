@@ -28,6 +28,7 @@ impl Chooser {
     ghost use Rattle.sl_choose.specs.declared.Entry.{Entry};
     ghost use Rattle.sl_choose.specs.Sides.{HasNoForced};
     ghost use Rattle.sl_choose.specs.Choosers.{StandsFor, IsGiven, IsPick, HoldsPick};
+    ghost use Rattle.sl_choose.specs.Picked.{leaf_in, picked};
 
     /// A chooser of the constructors, by their sets. The only error is want of memory.
     pub fn build(alloc: Global, ctors: &[u32], sets: &[CubeSet]) -> Result<Chooser, AllocError>
@@ -53,6 +54,7 @@ impl Chooser {
             → HoldsPick ctors sets result.now point.now }
         ensures no_forced { (ctors : List ℕ) (sets : List CubeSet) → StandsFor self.now ctors sets
             → HasNoForced result.now }
+        ensures value { result.now ≡ leaf_in self.now point.now }
     {
         leaf_of(&self.root, point)
     }
@@ -60,9 +62,10 @@ impl Chooser {
     /// The constructor that the point picks: of those whose sets have it, the one whose set lies
     /// properly within each other. `None` where no set has the point.
     pub fn pick(&self, point: &Point) -> Option<u32>
-        ensures { (ctors : List ℕ) (sets : List CubeSet) → StandsFor self.now ctors sets
+        ensures choice { (ctors : List ℕ) (sets : List CubeSet) → StandsFor self.now ctors sets
             → length ctors ≡ length sets → IsSettledAt has_set sets point.now
             → IsPick ctors sets point.now result }
+        ensures value { result ≡ picked self.now point.now }
     {
         let leaf = self.leaf(point);
         let first = first_of(leaf, point)?;

@@ -1,6 +1,8 @@
 //! The entries of given constructors, and the first of a leaf that has a point.
 
-ghost use Rattle.std.specs.Prelude.{◌≡◌, ◌+◌, IfOk, length};
+ghost use Rattle.std.specs.Prelude.{◌≡◌, ◌↔◌, ◌+◌, IfOk, IsTrue, find, length};
+ghost use Rattle.sl_cube.specs.Points.{IsIn};
+ghost use Rattle.sl_choose.specs.Picked.{is_in};
 ghost use Rattle.sl_choose.specs.Choosers.{AreEntriesOf, cubes_in, IsFirst};
 ghost use Rattle.sl_choose.specs.Added.{AddsAll};
 
@@ -41,12 +43,21 @@ pub fn entries_of(alloc: Global, ctors: &[u32], sets: &[CubeSet]) -> Result<Vec<
     Ok(entries)
 }
 
+/// Whether the cube has the point.
+fn has(cube: &Cube, point: &Point) -> bool
+    ensures inside { IsTrue result ↔ IsIn point.now cube.now }
+    ensures value { result ≡ is_in point.now cube.now }
+{
+    cube.has(point)
+}
+
 /// The first entry of the leaf that has the point.
 pub fn first_of(leaf: &[Entry], point: &Point) -> Option<Entry>
-    ensures { IsFirst leaf.now point.now result }
+    ensures first { IsFirst leaf.now point.now result }
+    ensures value { result ≡ find (λ e. is_in point.now e.cube) leaf.now }
 {
     for entry in leaf {
-        if entry.cube.has(point) {
+        if has(&entry.cube, point) {
             return Some(*entry);
         }
     }

@@ -3,6 +3,7 @@
 
 mod chooser;
 mod entries;
+pub mod laws;
 mod order;
 mod sides;
 mod tree;

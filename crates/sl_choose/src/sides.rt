@@ -1,7 +1,8 @@
 //! Entries at the two sides of bits.
 
-ghost use Rattle.std.specs.Prelude.{◌↔◌, ◌≤◌, IsTrue, IfOk, MatchOption, length};
+ghost use Rattle.std.specs.Prelude.{◌≡◌, ◌↔◌, ◌≤◌, IsTrue, IfOk, MatchOption, length};
 ghost use Rattle.sl_cube.specs.Search.{Lacks};
+ghost use Rattle.sl_choose.specs.Picked.{lacks};
 ghost use Rattle.sl_choose.specs.Sides.{SetsNone, Covers, IsPut, IsSides, IsForced, HasNoForced, HasNoForcedByte, HasNoForcedContext, IsDivided, AllCover, SomeClear, SomeSet};
 
 use super::{Entry, Halves};
@@ -24,7 +25,8 @@ fn covers(cube: &Cube, bits: &Point) -> bool
 
 /// Whether the point has none of the bits.
 pub fn lacks(bits: &Point, point: &Point) -> bool
-    ensures { IsTrue result ↔ Lacks bits.now point.now }
+    ensures lacks { IsTrue result ↔ Lacks bits.now point.now }
+    ensures value { result ≡ lacks bits.now point.now }
 {
     let bytes = point.bytes & bits.bytes == 0;
     let context = point.context & bits.context == 0;

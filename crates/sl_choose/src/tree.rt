@@ -5,6 +5,7 @@ ghost use Rattle.sl_cube.specs.declared.Point.{Point};
 ghost use Rattle.sl_settle.specs.declared.CubeSet.{CubeSet};
 ghost use Rattle.sl_settle.specs.Kept.{AreRight};
 ghost use Rattle.sl_choose.specs.declared.Entry.{Entry};
+ghost use Rattle.sl_choose.specs.Picked.{leaf_at};
 ghost use Rattle.sl_choose.specs.Sides.{HasNoForced};
 ghost use Rattle.sl_choose.specs.Trees.{IsTreeOf, IsLeafOf, entries_in, IsBit, IsTest};
 
@@ -167,8 +168,10 @@ pub fn grow(
 
 /// The entries of the leaf that the point leads to.
 pub fn leaf_of<'a>(node: &'a Node, point: &Point) -> &'a [Entry]
-    ensures { (sets : List CubeSet) (entries : List Entry) → IsTreeOf sets node.now entries point.now
+    ensures leaf { (sets : List CubeSet) (entries : List Entry)
+        → IsTreeOf sets node.now entries point.now
         → IsLeafOf sets entries point.now result.now }
+    ensures value { result.now ≡ leaf_at node.now point.now }
 {
     match node {
         Node::Leaf(entries) => entries.as_slice(),

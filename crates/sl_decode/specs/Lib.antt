@@ -1,3 +1,4 @@
+pub mod Choosers
 pub mod Disassemblers
 pub mod Finishing
 pub mod Inputs

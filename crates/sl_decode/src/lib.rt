@@ -2,6 +2,7 @@
 #![tactic(auto)]
 
 mod addresses;
+mod choosers;
 mod decode;
 mod disassembler;
 mod early;
@@ -12,6 +13,7 @@ mod outcomes;
 mod points;
 mod walk;
 
+pub use choosers::Choosers;
 pub use decode::Choose;
 pub use disassembler::Disassembler;
 pub use outcomes::DecodeError;
