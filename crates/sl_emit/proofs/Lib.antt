@@ -1,0 +1,2 @@
+pub mod EmitLemmas
+pub mod SectionLemmas

@@ -1,0 +1,83 @@
+-- view: the program's references, nodes and operations as those of the definitions.
+use Rattle.std.specs.Prelude.{ℕ, ℤ, pos, negsuc, List, Vec, Option, Some, None, map, slice_get}
+use Rattle.std.specs.Prelude.{unwrap_or, ◌+◌, [], ◌∷◌, if◌then◌else◌}
+use Rattle.std.specs.declared.alloc.Global.{Global}
+use Rattle.sl_code.specs.Operations.{Operation, operation_of}
+use Rattle.sl_emit.specs.declared.reference.Number.{Number}
+use Rattle.sl_emit.specs.declared.reference.Number.TheVariants as n
+use Rattle.sl_emit.specs.declared.reference.Reference.{Reference, fold-Reference}
+use Rattle.sl_emit.specs.declared.reference.Reference.TheOpen.{Reference-F}
+use Rattle.sl_emit.specs.declared.site.Site.{Site}
+use Rattle.sl_equations.specs.Equations.{size_at}
+use Rattle.sl_meaning.specs.References as m
+use Rattle.sl_meaning.specs.Statements.{is_label}
+use Rattle.sl_meaning.specs.Values.{Frame}
+use Rattle.sl_pcode.specs.declared.operation.Op.{Op}
+use Rattle.sl_section.specs.Sections as s
+use Rattle.sl_word.specs.Sizes.{byte_counts}
+use Rattle.sl_word.specs.declared.word.Size.{Size}
+
+abbrev pub number_of : Number → ℤ
+number_of (n.Natural v) = pos v
+number_of (n.Below v) = negsuc v
+
+-- one level, with the pointer already seen
+abbrev pub reference_step : Reference-F m.Reference → m.Reference
+reference_step (Reference-F.Storage r) = m.storage r.space.0 r.offset r.size
+reference_step (Reference-F.Local node x size) = m.local node x size
+reference_step (Reference-F.Plain v) = m.number (number_of v)
+reference_step (Reference-F.Memory space size pointer width) =
+    m.memory space.0 size pointer.value width
+
+abbrev pub reference_of : Reference → m.Reference
+reference_of = fold-Reference m.Reference reference_step
+
+abbrev pub references_of : List Reference → List m.Reference
+references_of rs = map reference_of rs
+
+abbrev pub size_in : List Size → ℕ → Size
+size_in sizes x = unwrap_or (slice_get sizes x) (size_at 1)
+
+abbrev pub setting_of : Site → m.Setting
+setting_of site = record {
+  endian = site.endian;
+  sizes = byte_counts site.spaces.now;
+  default = site.default.0;
+  start = number_of site.start;
+  next = number_of site.next;
+}
+
+abbrev pub frame_of : Site → Frame
+frame_of site = record {
+  node = site.node;
+  size = size_in site.sizes.now;
+  refs = references_of site.refs.now;
+}
+
+abbrev pub operations_of : List Op → List Operation
+operations_of ops = map operation_of ops
+
+-- the lists of operands
+abbrev pub lists_of : List (Vec Op Global) → List (List Operation)
+lists_of lists = map (λ v. operations_of v.items) lists
+
+-- the label that a statement jumps to
+abbrev pub label_in : s.Direct → Option s.Label
+label_in (s.to_label l) = Some l
+label_in (s.to_place a) = None
+
+abbrev pub jumps_to : s.Step → Option s.Label
+jumps_to (s.branch to) = label_in to
+jumps_to (s.branch_if e to) = label_in to
+jumps_to _ = None
+
+-- the place of that label
+abbrev pub place_by : (s.Label → ℕ) → Option s.Label → ℕ
+place_by label_place None = 0
+place_by label_place (Some l) = label_place l
+
+-- the place of a label, by how many operations each statement has
+abbrev pub scan : List s.Step → List ℕ → s.Label → ℕ → ℕ
+scan [] ns l p = p
+scan (a ∷ ss) [] l p = p
+scan (a ∷ ss) (n ∷ ns) l p = if is_label a l then p else scan ss ns l (p + n)

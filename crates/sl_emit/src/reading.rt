@@ -1,0 +1,118 @@
+//! What operands stand for is read.
+
+ghost use Rattle.std.specs.Prelude.{◌≡◌, ◌≤◌, ◌^◌, ◌++◌, IfOk, OnOk};
+ghost use Rattle.sl_code.specs.Operations as o;
+ghost use Rattle.sl_code.specs.Terms as term;
+ghost use Rattle.std.specs.Prelude.{◌∷◌, []};
+ghost use Rattle.sl_emit.specs.Views.{number_of, operations_of, reference_of};
+ghost use Rattle.sl_equations.specs.Equations.{size_at};
+ghost use Rattle.sl_word.specs.Numbers as z;
+ghost use Rattle.sl_word.specs.declared.operation.Op1.TheVariants.{IntSext};
+
+use crate::operations::{put_load, put_unary};
+use crate::reference::{Number, Reference};
+use crate::varnodes::{at_temp, in_space, number_leaf, range, temporary, wide_number};
+use sl_pcode::{Op, Varnode};
+use sl_word::{Op1, Size};
+use std::alloc::{AllocError, Global};
+
+/// The varnode that is read, or another one.
+pub(crate) fn operand(leaf: Option<Varnode>, otherwise: Varnode) -> Varnode
+    ensures { result ≡ term.operand leaf otherwise }
+{
+    match leaf {
+        Some(v) => v,
+        None => otherwise,
+    }
+}
+
+/// The varnode that a reference stands for, where it is one.
+pub(crate) fn read_leaf(r: &Reference, n: Size) -> Option<Varnode>
+    ensures { result ≡ term.read_leaf (reference_of r.now) n }
+{
+    match r {
+        Reference::Storage(r) => Some(in_space(r.space, r.offset, n)),
+        Reference::Local(node, x, _) => Some(temporary(range(*node, *x), n)),
+        Reference::Plain(v) => number_leaf(*v, n),
+        Reference::Memory(_, _, _, _) => None,
+    }
+}
+
+/// A number is put into a varnode.
+pub(crate) fn number_into(
+    alloc: Global,
+    out: &mut Vec<Op>,
+    v: Number,
+    to: Varnode,
+) -> Result<(), AllocError>
+    ensures { OnOk result (operations_of out.new.items ≡ operations_of out.old.items
+        ++ term.copied (term.number_leaf (number_of v) to.size) to
+        (o.unary IntSext to (o.constant (z.residue 8 (number_of v)) (size_at 8)) ∷ [])) }
+{
+    match number_leaf(v, to.size) {
+        Some(leaf) => put_unary(alloc, out, Op1::Copy, to, leaf),
+        None => put_unary(alloc, out, Op1::IntSext, to, wide_number(v)),
+    }
+}
+
+/// What a reference stands for is put into a varnode.
+pub(crate) fn read_into(
+    alloc: Global,
+    top: u64,
+    out: &mut Vec<Op>,
+    t: u32,
+    r: &Reference,
+    to: Varnode,
+) -> Result<(), AllocError>
+    requires { top ≤ 2 ^ 32 }
+    ensures { OnOk result (operations_of out.new.items ≡ operations_of out.old.items
+        ++ term.read_into top t (reference_of r.now) to) }
+{
+    match r {
+        Reference::Storage(r) => {
+            let from = in_space(r.space, r.offset, to.size);
+            put_unary(alloc, out, Op1::Copy, to, from)
+        }
+        Reference::Local(node, x, _) => {
+            let from = temporary(range(*node, *x), to.size);
+            put_unary(alloc, out, Op1::Copy, to, from)
+        }
+        Reference::Plain(v) => number_into(alloc, out, *v, to),
+        Reference::Memory(space, _, pointer, width) => {
+            let tmp = at_temp(top, t, *width);
+            match read_leaf(pointer, *width) {
+                Some(leaf) => put_load(alloc, out, to, *space, leaf),
+                None => {
+                    read_into(alloc, top, out, t, pointer, tmp)?;
+                    put_load(alloc, out, to, *space, tmp)
+                }
+            }
+        }
+    }
+}
+
+/// What a reference stands for is read at `n` bytes: the operations before, and the varnode.
+pub(crate) fn read_operand(
+    alloc: Global,
+    top: u64,
+    out: &mut Vec<Op>,
+    t: u32,
+    r: &Reference,
+    n: Size,
+) -> Result<Varnode, AllocError>
+    requires { top ≤ 2 ^ 32 }
+    ensures code { OnOk result (operations_of out.new.items ≡ operations_of out.old.items
+        ++ term.code_before (term.read_leaf (reference_of r.now) n)
+        (term.read_into top t (reference_of r.now) (o.at_temp top t n))) }
+    ensures value { IfOk result (λ v. v
+        ≡ term.operand (term.read_leaf (reference_of r.now) n) (o.at_temp top t n)) }
+{
+    match read_leaf(r, n) {
+        Some(leaf) => Ok(leaf),
+        None => {
+            let tmp = at_temp(top, t, n);
+            read_into(alloc, top, out, t, r, tmp)?;
+            Ok(tmp)
+        }
+    }
+}
