@@ -136,6 +136,3 @@ pub fn blocks_of(alloc: Global, codes: &Codes, size: u32) -> Result<Vec<Block>, 
     put(codes, 0, size, &mut blocks)?;
     Ok(blocks)
 }
-
-#[cfg(test)]
-mod tests;

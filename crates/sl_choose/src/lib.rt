@@ -33,6 +33,3 @@ enum Node {
     Leaf(Vec<Entry>),
     Test(Point, Box<Node>, Box<Node>),
 }
-
-#[cfg(test)]
-mod tests;

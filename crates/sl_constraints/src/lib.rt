@@ -15,6 +15,3 @@ mod windows;
 pub use constraint::Constraint;
 pub use lists::{meets_of, put_all};
 pub use shift::{moved, put_moved};
-
-#[cfg(test)]
-mod tests;

@@ -10,6 +10,3 @@ mod runs;
 
 pub use commits::Commit;
 pub use map::ContextMap;
-
-#[cfg(test)]
-mod tests;

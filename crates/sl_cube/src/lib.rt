@@ -133,6 +133,3 @@ impl Cube {
         }
     }
 }
-
-#[cfg(test)]
-mod tests;

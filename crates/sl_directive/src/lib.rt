@@ -12,6 +12,3 @@ pub mod parts;
 pub mod replace;
 
 pub use lines::first_line;
-
-#[cfg(test)]
-mod tests;

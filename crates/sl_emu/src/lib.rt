@@ -7,8 +7,6 @@ mod paged;
 mod run;
 mod step;
 mod temporaries;
-#[cfg(test)]
-mod tests;
 
 pub use emu::{Emu, KeepingEmu, Runner};
 pub use laws::texts_fix_runs;

@@ -9,6 +9,3 @@ mod specification;
 pub use image::generated_image;
 pub use line::{Figures, push_line};
 pub use specification::generated_specification;
-
-#[cfg(test)]
-mod tests;

@@ -6,6 +6,3 @@ mod sorting;
 
 pub use heights::heights_of;
 pub use sorting::sorted_by_height;
-
-#[cfg(test)]
-mod tests;

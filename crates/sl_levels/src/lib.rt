@@ -5,8 +5,6 @@
 mod laws;
 mod order;
 mod search;
-#[cfg(test)]
-mod tests;
 
 pub use laws::{reaching_is_told, values_meet_equations};
 pub use order::{Levels, order_of};

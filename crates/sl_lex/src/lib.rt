@@ -58,6 +58,3 @@ pub enum LexError {
     #[error("NoMemory")]
     NoMemory,
 }
-
-#[cfg(test)]
-mod tests;

@@ -12,6 +12,3 @@ pub use instructions::{Decoder, ListBuffers, Listing, WINDOW};
 pub use lines::push_listed;
 pub use listings::{ListError, Lister, list_all};
 pub use specified::Specified;
-
-#[cfg(test)]
-mod tests;

@@ -12,8 +12,6 @@ ghost use Rattle.sl_outside.specs.Uses.{Names, UsesFiles, UsesSink};
 mod calls;
 mod disk;
 mod memory;
-#[cfg(test)]
-mod tests;
 
 pub use disk::{DiskFiles, StdSink};
 pub use memory::{MemFiles, MemSink};

@@ -7,8 +7,6 @@ mod laws;
 mod list;
 mod operation;
 mod print;
-#[cfg(test)]
-mod tests;
 mod varnode;
 
 pub use code::{Code, Kind};

@@ -19,6 +19,3 @@ pub use error::PreError;
 pub use inclusion::expand;
 pub use places::Place;
 pub use text::Expanded;
-
-#[cfg(test)]
-mod tests;

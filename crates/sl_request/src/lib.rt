@@ -16,6 +16,3 @@ pub use request::{Arguments, FieldValue, Request, Target};
 /// The usage line, with its line end.
 pub const USAGE: &str =
     "usage: sleigh check SPEC | list SPEC IMAGE | pcode SPEC IMAGE | run SPEC IMAGE | gen NUMBER\n";
-
-#[cfg(test)]
-mod tests;

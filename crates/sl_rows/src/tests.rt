@@ -8,6 +8,7 @@ mod listings;
 mod options;
 mod parser;
 mod refusals;
+mod requests;
 mod rules;
 mod runs;
 mod texts;

@@ -4,8 +4,6 @@
 mod fault;
 mod laws;
 mod names;
-#[cfg(test)]
-mod tests;
 
 pub use fault::Fault;
 pub use laws::{first_broken_is_first, refusal_is_first, steps_go_in_parts};

@@ -29,6 +29,3 @@ struct Candidate {
     set: usize,
     cubes: Vec<Cube>,
 }
-
-#[cfg(test)]
-mod tests;

@@ -13,6 +13,3 @@ pub use lists::Lists;
 pub use nodes::TokenList;
 pub use shapes::{Kind, Shape};
 pub use shaping::{extended, of_nothing};
-
-#[cfg(test)]
-mod tests;

@@ -3,8 +3,6 @@
 
 mod inference;
 mod nodes;
-#[cfg(test)]
-mod tests;
 
 pub use inference::infer;
 use sl_word::Size;

@@ -6,8 +6,6 @@ mod exports;
 mod laws;
 mod sizing;
 mod stop;
-#[cfg(test)]
-mod tests;
 
 pub use constructor::Constructor;
 pub use laws::sizes_are_of_the_whole;

@@ -8,8 +8,6 @@ mod page;
 mod signed;
 mod space;
 mod state;
-#[cfg(test)]
-mod tests;
 mod word;
 
 pub use operation::{DivideByZero, Op1, Op2, apply1, apply2};

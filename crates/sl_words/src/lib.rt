@@ -6,6 +6,3 @@ mod command;
 mod reading;
 
 pub use reading::request_of;
-
-#[cfg(test)]
-mod tests;
