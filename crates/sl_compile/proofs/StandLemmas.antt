@@ -47,7 +47,7 @@ ends_in : (s : Scopes) (cs : List (Placed Constructor)) (r : Result Tables Broke
 ends_in s cs (Ok u) t sizes h = ap Ok (with_same t u sizes h.0 h.2)
 ends_in s cs (Err e) t sizes h = absurd (ok_not_err (t, sizes) (fault.Rule e.0, e.1) h)
 
-bound_taken : (items : List Item) (t : Tables) → Binds items (Ok t) → taken items ≡ Ok t
+pub bound_taken : (items : List Item) (t : Tables) → Binds items (Ok t) → taken items ≡ Ok t
 unfolding judged_tables
 bound_taken items t binds =
     judged_taken (taken items) (λ u. sections_fault u (scopes_of items) (constructors_of items)) t

@@ -1,4 +1,3 @@
-pub mod Choosers
 pub mod Disassemblers
 pub mod Finishing
 pub mod Inputs

@@ -19,7 +19,7 @@ fn default_space<'t, 'a>(t: &'t Tables<'a>) -> Option<&'t Space<'a>>
 }
 
 /// The size of an address of the default space.
-fn address_size(t: &Tables) -> AddressSize
+pub fn address_size(t: &Tables) -> AddressSize
     ensures { result.bytes ≡ address_bytes t.now }
 {
     match default_space(t) {

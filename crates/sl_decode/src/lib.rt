@@ -2,7 +2,6 @@
 #![tactic(auto)]
 
 mod addresses;
-mod choosers;
 mod decode;
 mod disassembler;
 mod early;
@@ -13,7 +12,7 @@ mod outcomes;
 mod points;
 mod walk;
 
-pub use choosers::Choosers;
+pub use addresses::address_size;
 pub use decode::Choose;
 pub use disassembler::Disassembler;
 pub use outcomes::DecodeError;

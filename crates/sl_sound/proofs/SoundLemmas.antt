@@ -1,19 +1,20 @@
 -- The verdict on tables: from unions of cubes to the points of patterns; there is one verdict, and it can't be that there is none.
 use Rattle.std.proofs.Common.{◌≡◌, ℕ, zero, suc, ◌⊎◌, inl, inr, List, [], ◌∷◌, length, Option, Some, refl, sym, ap, subst, ◌∙◌, arith}
 use Rattle.std.specs.Prelude.{option_map, slice_get}
-use Rattle.std.proofs.lemmas.Option.{same_Some, slice_get-map, slice_get_within}
+use Rattle.std.proofs.lemmas.Option.{get_or_from_slice_get, same_Some, slice_get-map, slice_get_within}
 use Rattle.sl_ast.specs.Trees.{Constructor}
 use Rattle.sl_ast.specs.Unfolding.{Placed}
 use Rattle.sl_conflict.specs.Ambiguity as cubes
 use Rattle.sl_conflict.specs.Ambiguity.{AreSettled, IsFirstAmbiguous, IsOf, Tells}
-use Rattle.sl_conflict.specs.Kept.{AreTablesOf}
+use Rattle.sl_conflict.specs.Kept.{AreTablesOf, HasChoices}
 use Rattle.sl_conflict.specs.Rows.{Row, of_table, rows, rows_from}
 use Rattle.sl_conflict.specs.declared.judging.ConflictError.{ConflictError}
 use Rattle.sl_conflict.specs.declared.judging.ConflictError.TheVariants as conflict
 use Rattle.sl_conflict.specs.declared.table_sets.TableSets.{TableSets}
 use Rattle.sl_conflict.proofs.AmbiguityLemmas.{are_settled_alike, first_ambiguous_alike, first_ambiguous_is_one, settled_not_ambiguous, some_verdict}
+use Rattle.sl_conflict.proofs.JudgeLemmas.{all_choices}
 use Rattle.sl_conflict.proofs.NumberLemmas.{numbers_are_of, rows_alike}
-use Rattle.sl_conflict.proofs.RowLemmas.{number_is, row_is_of, up}
+use Rattle.sl_conflict.proofs.RowLemmas.{down, number_is, row_is_of, up}
 use Rattle.sl_conflict.proofs.SpreadLemmas.{made_of}
 use Rattle.sl_constraints.specs.Sets.{IsUnionOf}
 use Rattle.sl_cube.specs.declared.Cube.{Cube}
@@ -44,6 +45,19 @@ set_from n (c ∷ ctors) (s ∷ sets) (suc i) r e = set_from (suc n) ctors sets 
 row_set : (ctors : List Ctor) (sets : List CubeSet) (i : ℕ) (r : Row) → slice_get (rows ctors sets) i ≡ Some r → slice_get sets i ≡ Some r.set
 unfolding rows
 row_set ctors sets i r e = set_from 0 ctors sets i r e
+
+-- there is a row of each constructor, where each has a set
+row_from : (n : ℕ) (ctors : List Ctor) (sets : List CubeSet) (i : ℕ) (c : Ctor) → length sets ≡ length ctors → slice_get ctors i ≡ Some c
+    → (r : Row) × (slice_get (rows_from n ctors sets) i ≡ Some r)
+row_from n [] sets i c long e = absurd cc
+row_from n (x ∷ ctors) [] i c long e = absurd cc
+row_from n (x ∷ ctors) (s ∷ sets) zero c long e = (record { number = n; table = x.table; set = s }, refl)
+row_from n (x ∷ ctors) (s ∷ sets) (suc i) c long e = row_from (suc n) ctors sets i c (omega (arith, long)) e
+
+some_row : (ctors : List Ctor) (sets : List CubeSet) (i : ℕ) (c : Ctor) → length sets ≡ length ctors → slice_get ctors i ≡ Some c
+    → (r : Row) × (slice_get (rows ctors sets) i ≡ Some r)
+unfolding rows
+some_row ctors sets i c long e = row_from 0 ctors sets i c long e
 
 -- ---- cubes that have the points of patterns
 
@@ -91,13 +105,18 @@ module _ (t : Tables) (cs : List (Placed Constructor)) (stand : Stand t cs) (set
   is_refused conflict.NoMemory tells = tt
 
   -- the sets of each table are those of its constructors
-  pub are_sets : (kept : List TableSets) → AreTablesOf (length t.tables) (rows t.constructors sets) kept → AreSetsOf t cs kept
-  are_sets kept tables = record {
+  pub are_sets : (kept : List TableSets) → AreTablesOf (length t.tables) (rows t.constructors sets) kept → AreSettled cubes.has_in (rows t.constructors sets) (length t.tables)
+      → AreSetsOf t cs kept
+  are_sets kept tables settled = record {
     counted = tables.counted;
     own = λ table k place number at e. let there = row_at table k place number at e in there.is_of;
+    all = place_of;
     sets = λ table k place number set at e f. let there = row_at table k place number at e in record {
       union = each_union number set (there.set_is ∙ f);
     };
+    choices = λ table k at.
+        let all = all_choices t.constructors sets kept (length t.tables) tables settled in
+        subst (λ (x : TableSets). HasChoices x) (get_or_from_slice_get kept table k k at) (all table k (slice_get_within kept table k at));
   }
     where
       row_at : (table : ℕ) (k : TableSets) (place number : ℕ) → slice_get kept table ≡ Some k → slice_get k.ctors.items place ≡ Some number → RowAt t sets k table place number
@@ -114,6 +133,20 @@ module _ (t : Tables) (cs : List (Placed Constructor)) (stand : Stand t cs) (set
                 ∙ sym (ap (λ (l : List CubeSet). slice_get l place) of.sets ∙ slice_get-map (λ (x : Row). x.set) (of_table table (rows t.constructors sets)) place
                 ∙ ap (option_map (λ (x : Row). x.set)) r.1);
           }
+
+      -- where the constructor of a number stands
+      place_of : (table : ℕ) (k : TableSets) (number : ℕ) → slice_get kept table ≡ Some k → IsOf t.constructors table number → (place : ℕ) × (slice_get k.ctors.items place ≡ Some number)
+      place_of table k number at is_of =
+          let of = tables.each table k at in
+          let r = some_row t.constructors sets number is_of.ctor long is_of.ctor_is in
+          let row_of = row_is_of t.constructors sets number r.0 r.1 in
+          let same = ap (λ (c : Ctor). c.table) (same_Some row_of.ctor is_of.ctor (sym row_of.ctor_is ∙ is_of.ctor_is)) in
+          let in_table : r.0.table ≡ table = sym row_of.of_table ∙ same ∙ is_of.of_table in
+          let there = down table (rows t.constructors sets) number r.0 r.1 in_table in (
+            there.0,
+            ap (λ (l : List ℕ). slice_get l there.0) of.ctors ∙ slice_get-map (λ (x : Row). x.number) (of_table table (rows t.constructors sets)) there.0
+                ∙ ap (option_map (λ (x : Row). x.number)) there.1 ∙ ap Some (number_is t.constructors sets number r.0 r.1),
+          )
 
 -- ---- one verdict, and some
 

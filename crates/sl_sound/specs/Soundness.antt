@@ -4,6 +4,7 @@ use Rattle.std.specs.List.{range_with_len}
 use Rattle.sl_ast.specs.Trees.{Constructor}
 use Rattle.sl_ast.specs.Unfolding.{Placed}
 use Rattle.sl_conflict.specs.Ambiguity.{AreSettled, IsFirstAmbiguous, IsOf}
+use Rattle.sl_conflict.specs.Kept.{HasChoices}
 use Rattle.sl_conflict.specs.declared.judging.ConflictError.{ConflictError}
 use Rattle.sl_conflict.specs.declared.judging.ConflictError.TheVariants as conflict
 use Rattle.sl_conflict.specs.declared.table_sets.TableSets.{TableSets}
@@ -60,10 +61,13 @@ module _ (t : Tables) (cs : List (Placed Constructor)) where
   pub record IsSetOf (number : ℕ) (set : CubeSet) : Type 0 where
     pub union : IsUnionOf (HasPoint t cs number) set.cubes.items
 
-  -- Each table has its constructors, and a set for each of them.
+  -- Each table has its constructors, all of them, and a set for each; and where some set has a point there is a choice.
   pub record AreSetsOf (kept : List TableSets) : Type 0 where
     pub counted : length kept ≡ length t.tables
     pub own : (table : ℕ) (k : TableSets) (place number : ℕ) → slice_get kept table ≡ Some k
         → slice_get k.ctors.items place ≡ Some number → IsOf t.constructors table number
+    pub all : (table : ℕ) (k : TableSets) (number : ℕ) → slice_get kept table ≡ Some k
+        → IsOf t.constructors table number → (place : ℕ) × (slice_get k.ctors.items place ≡ Some number)
     pub sets : (table : ℕ) (k : TableSets) (place number : ℕ) (set : CubeSet) → slice_get kept table ≡ Some k
         → slice_get k.ctors.items place ≡ Some number → slice_get k.sets.items place ≡ Some set → IsSetOf number set
+    pub choices : (table : ℕ) (k : TableSets) → slice_get kept table ≡ Some k → HasChoices k

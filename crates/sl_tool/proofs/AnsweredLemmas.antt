@@ -13,16 +13,16 @@ use Rattle.sl_tool.specs.Answers.{AsksAfter, AsksFor, AsksForImage, Due, UsesFil
 use Rattle.sl_tool.specs.Answers.AsksFor.{unread, read}
 use Rattle.sl_tool.specs.Answers.AsksForImage.{refused, accepted}
 use Rattle.sl_tool.specs.Outcomes.{FailsToRead, FailsToWrite, Gives, IsEarly, IsReadFault, Obtains, StopsEarly, Streams, Writes, WritesFront}
-use Rattle.sl_tool.specs.Request.{CheckSpec, Request, ShowImage, spec_of}
-use Rattle.sl_tool.specs.Stage.{Stage, Then}
+use Rattle.sl_tool.specs.Request.{CheckSpec, ListImage, Request, RunImage, spec_of}
+use Rattle.sl_tool.specs.Stage.{HasSomeResult, Stage, Then}
 use Rattle.sl_tool.specs.Stage.Then.{stops, goes}
-use Rattle.sl_tool.specs.Stages.{Accepts, Reads}
-use Rattle.sl_tool.specs.Values.{Shown, Tables, Tree, shown}
+use Rattle.sl_tool.specs.Stages.{Accepts, Compiles, Reads}
+use Rattle.sl_tool.specs.Values.{Shown, Tree, shown}
 use Rattle.sl_tool.specs.declared.halt.Halt.{Halt}
 use Rattle.sl_tool.specs.declared.halt.Halt.TheVariants.{Refused, ReadFault, WriteFault, NoMemory}
 use Rattle.sl_tool.specs.declared.refusal.Refusal.{Refusal}
 use Rattle.sl_tool.specs.declared.status.Ending.{Ending}
-use Rattle.sl_tool.proofs.StageLemmas.{accepts_some, reads_some}
+use Rattle.sl_tool.proofs.StageLemmas.{accepts_some, compiles_some, reads_some}
 
 pub gives_obtains : {T B : Type 0} (S : Result B Refusal → Type 0) (view : T → B) (h : Halt) → Gives S view (Err h) → Obtains S view (Err h)
 gives_obtains S view (Refused x) g = g
@@ -106,6 +106,17 @@ show_unwritten due a b x g f = absurd (never_reads due a b x g f)
 
 -- ---- names
 
+-- files were read, and what follows reads nothing
+pub reads_on : {T B F : Type 0} (told : F → Option Folder) (faults : F → ℕ) (asked : F → Names) (old new : F) (names : List (List ℕ)) (S : Result B Refusal → Type 0) (view : T → B)
+    (h : Halt) → Gives S view (Err h) → UsesFiles told faults asked old new names ⊥ ⊥ → UsesFiles told faults asked old new names (StopsEarly h) (IsReadFault h)
+reads_on told faults asked old new names S view h g v = record {
+  same_folder = v.same_folder;
+  never_falls = v.never_falls;
+  failed = λ f. absurd (stop_unread S view h g f);
+  asks_front = v.asks_front;
+  asks_all = λ n. v.asks_all (λ e. e);
+}
+
 pub Asks-nil : (a : Names) → Asks a a []
 Asks-nil None = tt
 Asks-nil (Some x) = sym (append-nil x)
@@ -136,16 +147,17 @@ rose_more : (a b c : ℕ) → a ≤ b → Rose b c → Rose a c
 rose_more a b c h k = omega (arith, h, k)
 
 -- the image is asked for, or it isn't
-image_some : (t : Target) (u : Tree) → Surely ((names : List (List ℕ)) × AsksForImage t u names)
-image_some t u = surely_map by (accepts_some u)
+image_some : {B : Type 0} (S : Stage Refusal Tree B) (t : Target) (u : Tree) → HasSomeResult S u → Surely ((names : List (List ℕ)) × AsksForImage S t u names)
+image_some {B = B} S t u some = surely_map by some
   where
-    by : (q : Result Tables Refusal) × Accepts u q → (names : List (List ℕ)) × AsksForImage t u names
+    by : (q : Result B Refusal) × S u q → (names : List (List ℕ)) × AsksForImage S t u names
     by (Err x, j) = ([], refused j)
     by (Ok b, j) = (t.image ∷ [], accepted j)
 
 after_some : (r : Request) (u : Tree) → Surely ((names : List (List ℕ)) × AsksAfter r u names)
 after_some (CheckSpec spec) u = surely (let p : (names : List (List ℕ)) × (names ≡ []) = ([], refl) in p)
-after_some (ShowImage command t) u = image_some t u
+after_some (ListImage t) u = image_some Compiles t u (compiles_some u)
+after_some (RunImage t steps) u = image_some Accepts t u (accepts_some u)
 
 abbrev pub FrontDue : (List (List ℕ) → Type 0) → Names → Names → Type 0
 FrontDue due a b = (names : List (List ℕ)) × due names × AsksFront a b names
@@ -188,34 +200,34 @@ module _ {F : Type 0} (told : F → Option Folder) (faults : F → ℕ) (asked :
 
   -- ---- the image
 
-  module _ (t : Target) (u : Tree) where
+  module _ {C : Type 0} (R : Stage Refusal Tree C) (t : Target) (u : Tree) (some : HasSomeResult R u) where
     -- a stage that reads nothing stopped
     pub stop_pure : {T B : Type 0} (S : Result B Refusal → Type 0) (view : T → B) (old : F) (h : Halt)
-        → ((e : Refusal) → S (Err e) → Accepts u (Err e)) → Gives S view (Err h)
-        → UsesFor (AsksForImage t u) old old (IsEarly {T = Ending} (Err h)) (FailsToRead {T = Ending} (Err h))
-    stop_pure S view old (Refused x) f g = idle (AsksForImage t u) old _ _ (image_some t u) (λ n. refused (f x g)) (λ e. e)
+        → ((e : Refusal) → S (Err e) → R u (Err e)) → Gives S view (Err h)
+        → UsesFor (AsksForImage R t u) old old (IsEarly {T = Ending} (Err h)) (FailsToRead {T = Ending} (Err h))
+    stop_pure S view old (Refused x) f g = idle (AsksForImage R t u) old _ _ (image_some R t u some) (λ n. refused (f x g)) (λ e. e)
     stop_pure S view old ReadFault f g = absurd g
     stop_pure S view old WriteFault f g = absurd g
-    stop_pure S view old NoMemory f g = idle (AsksForImage t u) old _ _ (image_some t u) (λ n. absurd (n tt)) (λ e. e)
+    stop_pure S view old NoMemory f g = idle (AsksForImage R t u) old _ _ (image_some R t u some) (λ n. absurd (n tt)) (λ e. e)
 
     -- the image was asked for
-    pub imaged : (old new : F) (b : Tables) (early fails : Type 0) → Accepts u (Ok b) → Uses old new (t.image ∷ []) early fails → UsesFor (AsksForImage t u) old new early fails
+    pub imaged : (old new : F) (b : C) (early fails : Type 0) → R u (Ok b) → Uses old new (t.image ∷ []) early fails → UsesFor (AsksForImage R t u) old new early fails
     imaged old new b early fails j v = record {
       same_folder = v.same_folder;
       never_falls = v.never_falls;
       failed = v.failed;
-      asks_front = surely (let p : FrontDue (AsksForImage t u) (asked old) (asked new) = (t.image ∷ [], accepted j, v.asks_front) in p);
+      asks_front = surely (let p : FrontDue (AsksForImage R t u) (asked old) (asked new) = (t.image ∷ [], accepted j, v.asks_front) in p);
       asks_all = λ n. (t.image ∷ [], accepted j, v.asks_all n);
     }
 
     -- the image could not be had, or was refused
-    pub stop_image : (old new : F) (b : Tables) (h : Halt) → Accepts u (Ok b) → Uses old new (t.image ∷ []) (StopsEarly h) (IsReadFault h)
-        → UsesFor (AsksForImage t u) old new (StopsEarly h) (IsReadFault h)
+    pub stop_image : (old new : F) (b : C) (h : Halt) → R u (Ok b) → Uses old new (t.image ∷ []) (StopsEarly h) (IsReadFault h)
+        → UsesFor (AsksForImage R t u) old new (StopsEarly h) (IsReadFault h)
     stop_image old new b h j v = imaged old new b (StopsEarly h) (IsReadFault h) j v
 
     -- all files were read
-    pub read_all : (old new : F) (b : Tables) (early fails : Type 0) (due : Due) (x y : Option (List ℕ)) (q : Result Ending Halt) → Accepts u (Ok b)
-        → Uses old new (t.image ∷ []) early fails → (early → ⊥) → Streams due x y q → UsesFor (AsksForImage t u) old new (IsEarly q) (FailsToRead q)
+    pub read_all : (old new : F) (b : C) (early fails : Type 0) (due : Due) (x y : Option (List ℕ)) (q : Result Ending Halt) → R u (Ok b)
+        → Uses old new (t.image ∷ []) early fails → (early → ⊥) → Streams due x y q → UsesFor (AsksForImage R t u) old new (IsEarly q) (FailsToRead q)
     read_all old new b early fails due x y q j v also s =
         let w = imaged old new b early fails j v in
         record {

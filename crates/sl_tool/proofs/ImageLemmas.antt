@@ -1,9 +1,10 @@
 -- The number of addresses, and stages that stop as a part of a longer one.
-use Rattle.std.proofs.Common.{◌≡◌, ℕ, ◌*◌, ◌%◌, ◌^◌, ◌<◌, ◌≤◌, Result, Err, ◌∙◌, sym, arith}
+use Rattle.std.proofs.Common.{◌≡◌, ℕ, ◌+◌, ◌*◌, ◌%◌, ◌^◌, ◌<◌, ◌≤◌, List, length, Result, Err, ◌∙◌, sym, arith}
 use Rattle.std.proofs.Math.Nat.{mod-eq_of_lt}
 use Rattle.std.proofs.Math.Pow.{pow_mono}
-use Rattle.sl_word.proofs.Powers.{bytes-bits}
+use Rattle.sl_word.proofs.Powers.{bytes-bits, bytes_mono}
 use Rattle.sl_tool.specs.Outcomes.{Gives, Obtains}
+use Rattle.sl_tool.specs.Stages.{HasRoom}
 use Rattle.sl_tool.specs.declared.halt.Halt.{Halt}
 use Rattle.sl_tool.specs.declared.halt.Halt.TheVariants.{Refused, ReadFault, WriteFault, NoMemory}
 use Rattle.sl_tool.specs.declared.refusal.Refusal.{Refusal}
@@ -29,3 +30,9 @@ module _ {T U B C : Type 0} (S : Result B Refusal → Type 0) (R : Result C Refu
   obtains_err ReadFault f g = g
   obtains_err WriteFault f g = g
   obtains_err NoMemory f g = g
+
+-- an image that fits so many addresses has addresses below 2^64
+pub image_fits : (bytes base : ℕ) (image : List ℕ) → bytes ≤ 8 → HasRoom (256 ^ bytes) base (length image) → base + length image ≤ 2 ^ 64
+image_fits bytes base image within room =
+    let most = bytes_mono bytes 8 within in
+    omega (arith, most, room.ends)

@@ -2,9 +2,6 @@ pub mod TextLemmas
 pub mod LineLemmas
 pub mod WritingLemmas
 pub mod SetLemmas
-pub mod ListingLemmas
-pub mod ListedLemmas
-pub mod OneListing
 pub mod ChangeLemmas
 pub mod RunningLemmas
 pub mod CompiledLemmas
@@ -12,7 +9,6 @@ pub mod Thens
 pub mod ExpandLemmas
 pub mod PlaceLemmas
 pub mod ImageLemmas
-pub mod SomeListing
 pub mod SomeRunning
 pub mod SomeFault
 pub mod StageLemmas

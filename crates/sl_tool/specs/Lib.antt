@@ -5,7 +5,6 @@ pub mod Endings
 pub mod Values
 pub mod Places
 pub mod Stages
-pub mod Listing
 pub mod Request
 pub mod RunLines
 pub mod Running
@@ -21,6 +20,5 @@ pub mod Halts
 pub mod Compiled
 pub mod Inputs
 pub mod Writing
-pub mod Shown
 pub mod Told
 pub mod Opened

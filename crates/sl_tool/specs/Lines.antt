@@ -9,11 +9,6 @@ use Rattle.sl_cube.specs.declared.Point.{Point}
 abbrev pub address_text : ℕ → ℕ → List ℕ
 address_text bytes address = encode_lower (drop (8 - bytes) (to_be_bytes w64 address))
 
--- a line of a listing: the address, the bytes that are shown, and the text
-abbrev pub listed_line : ℕ → ℕ → List ℕ → List ℕ → List ℕ
-listed_line address_bytes address shown text =
-    address_text address_bytes address ++ (codes ": " ++ (encode_lower shown ++ (codes " " ++ (text ++ codes "\n"))))
-
 -- the sixteen bytes of a point, and its context
 abbrev pub point_text : Point → List ℕ
 point_text p = encode_lower (to_be_bytes w128 p.bytes) ++ (codes " " ++ encode_lower (to_be_bytes w64 p.context))

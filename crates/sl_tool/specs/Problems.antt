@@ -9,7 +9,7 @@ use Rattle.sl_settle.specs.declared.report.Apart.TheVariants.{Same, Two}
 use Rattle.sl_tool.specs.Lines.{place_text, point_text}
 use Rattle.sl_tool.specs.declared.problem.Conflict.{Conflict}
 use Rattle.sl_tool.specs.declared.problem.Problem.{Problem}
-use Rattle.sl_tool.specs.declared.problem.Problem.TheVariants.{NoFile, TooLong, IncludeDepth, UndefinedName, ReplaceDepth, BadDirective, Unbalanced, BadByte, OpenString, WideInteger, Syntax, Nesting, NotSupported, Rule, SizeClash, SizeUnfixed, InteriorEllipsis, TokensDiffer, Impossible, TooManyCubes, WindowTooLong, NotYet, Ambiguous, BadHex, NoContextField}
+use Rattle.sl_tool.specs.declared.problem.Problem.TheVariants.{NoFile, TooLong, IncludeDepth, UndefinedName, ReplaceDepth, BadDirective, Unbalanced, BadByte, OpenString, WideInteger, Syntax, Nesting, NotSupported, Rule, SizeClash, SizeUnfixed, InteriorEllipsis, TokensDiffer, Impossible, TooManyCubes, WindowTooLong, NotYet, Ambiguous, BadHex, NoContextField, ValueOutOfRange}
 use Rattle.sl_tool.specs.declared.place.Place.{Place}
 use Rattle.sl_tool.specs.declared.refusal.Refusal.{Refusal}
 use Rattle.sl_tool.specs.declared.refusal.Subject.{Subject}
@@ -62,6 +62,7 @@ words_of NotYet = codes "not yet"
 words_of (Ambiguous conflict) = conflict_words conflict
 words_of BadHex = codes "bad hex"
 words_of NoContextField = codes "no such context field"
+words_of ValueOutOfRange = codes "value out of range"
 
 -- ---- the report of a conflict
 

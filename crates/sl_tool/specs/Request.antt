@@ -3,27 +3,24 @@ use Rattle.std.specs.Prelude.{ℕ, List, Option, Some, None, codes}
 use Rattle.std.specs.Option.{option_and_then}
 use Rattle.sl_request.specs.Requests.{Asked, Checks, Lists, Prints, Runs, Generates, Target, asked_of}
 
--- What is done with an image: it is listed, or run for at most so many steps.
-pub data Command : Type 0 where
-  ListImage : Command
-  RunImage : ℕ → Command
-
--- A specification, by the name of its main file, is checked; or something is done with a specification and an image.
+-- A specification, by the name of its main file, is checked; an image is listed by it; or run for at most so many steps.
 pub data Request : Type 0 where
   CheckSpec : List ℕ → Request
-  ShowImage : Command → Target → Request
+  ListImage : Target → Request
+  RunImage : Target → (steps : ℕ) → Request
 
 -- the name of the specification's main file
 abbrev pub spec_of : Request → List ℕ
 spec_of (CheckSpec spec) = spec
-spec_of (ShowImage command t) = t.spec
+spec_of (ListImage t) = t.spec
+spec_of (RunImage t steps) = t.spec
 
 -- What is asked for, where its command is there. So far `pcode` and `gen` aren't.
 abbrev pub answerable : Asked → Option Request
 answerable (Checks spec) = Some (CheckSpec spec)
-answerable (Lists t) = Some (ShowImage ListImage t)
+answerable (Lists t) = Some (ListImage t)
 answerable (Prints t) = None
-answerable (Runs t steps) = Some (ShowImage (RunImage steps) t)
+answerable (Runs t steps) = Some (RunImage t steps)
 answerable (Generates size) = None
 
 -- What the words of a command line, the program's name first, ask for of the commands that are there.

@@ -1,10 +1,14 @@
 -- view: the later stages as values.
 use Rattle.sl_ast.specs.Views.{items_of}
 use Rattle.sl_description.specs.Views.{description}
+use Rattle.sl_lister.specs.Listing as listing
+use Rattle.sl_lister.specs.Listing.{image_from}
 use Rattle.sl_tool.specs.TokensView.{tokens_view}
 use Rattle.sl_tool.specs.Values as values
 use Rattle.sl_tool.specs.declared.tree.Tree.{Tree}
 use Rattle.sl_tool.specs.declared.compiled.Compiled.{Compiled}
+use Rattle.sl_tool.specs.declared.loaded.Image.{Image}
+use Rattle.sl_tool.specs.declared.loaded.Loaded.{Loaded}
 use Rattle.sl_tool.specs.declared.tables.Tables.{Tables}
 use Rattle.sl_tool.specs.declared.checked.Checked.{Checked}
 use Rattle.sl_tool.specs.declared.input.Input.{Input}
@@ -14,6 +18,12 @@ tree_view t = values.tree (tokens_view t.tokens) (items_of t.spec)
 
 abbrev pub compiled_view : Compiled → values.Compiled
 compiled_view c = values.compiled (values.tree (tokens_view c.tokens) (items_of c.specification.bound.spec)) c.specification.bound.tables
+
+abbrev pub image_view : Image → listing.Image
+image_view i = image_from i.bytes.items i.base i.start
+
+abbrev pub loaded_view : Loaded → values.Loaded
+loaded_view l = values.loaded (compiled_view l.compiled) (image_view l.image)
 
 abbrev pub tables_view : Tables → values.Tables
 tables_view b = values.tables (tree_view b.tree) (description b.compiled.description)

@@ -9,6 +9,10 @@ use Rattle.sl_compile.specs.Outcomes as outcome
 use Rattle.sl_compile.specs.Refusals.{at_tokens}
 use Rattle.sl_compile.specs.declared.error.Flaw.{Flaw}
 use Rattle.sl_compile.specs.declared.error.Flaw.TheVariants as flaw
+use Rattle.sl_context_words.specs.Words.{Bad, starting_context}
+use Rattle.sl_context_words.specs.declared.words.Cause as context
+use Rattle.sl_context_words.specs.declared.words.Cause.TheVariants as word
+use Rattle.sl_decoding.specs.Actions.{address_bytes}
 use Rattle.sl_description.specs.Compiles.{AreSound}
 use Rattle.sl_description.specs.Description.{Description}
 use Rattle.sl_description.specs.Fields.{Matches}
@@ -18,6 +22,7 @@ use Rattle.sl_grammar.specs.Faults.{Reason, no_spelling, too_deep, left_out}
 use Rattle.sl_lex.specs.Faults.{Fault}
 use Rattle.sl_lex.specs.Faults.Fault.{NoLexeme, OpenQuote, TooWide}
 use Rattle.sl_lex.specs.Reading.{ReadsAs, HasBadPlace}
+use Rattle.sl_lister.specs.Listing.{Image, image_from}
 use Rattle.sl_outside.specs.Folder.{Folder, Holds, Lacks, HoldsTooLong, size_limit}
 use Rattle.sl_parse.specs.Parsing.{TellsFault}
 use Rattle.sl_preproc.specs.Expanded.{Text, expanded}
@@ -37,11 +42,11 @@ use Rattle.sl_symbols.specs.Symbols.{symbols_of}
 use Rattle.sl_tool.specs.Places.{place_of_byte, place_of_some, place_of_token}
 use Rattle.sl_tool.specs.Problems.{refusal, refusal_at, refusal_of_field}
 use Rattle.sl_tool.specs.Stage.{Stage, Then}
-use Rattle.sl_tool.specs.Values.{Source, Tokens, Tree, Compiled, Tables, Input, source}
+use Rattle.sl_tool.specs.Values.{Source, Tokens, Tree, Compiled, Loaded, Tables, Input, source}
 use Rattle.sl_tool.specs.declared.place.Place.{Place}
 use Rattle.sl_tool.specs.declared.problem.Conflict.{Conflict}
 use Rattle.sl_tool.specs.declared.problem.Problem.{Problem}
-use Rattle.sl_tool.specs.declared.problem.Problem.TheVariants.{NoFile, TooLong, IncludeDepth, UndefinedName, ReplaceDepth, BadDirective, Unbalanced, BadByte, OpenString, WideInteger, Syntax, Nesting, NotSupported, Rule, SizeClash, SizeUnfixed, InteriorEllipsis, TokensDiffer, Impossible, TooManyCubes, WindowTooLong, NotYet, Ambiguous, BadHex, NoContextField}
+use Rattle.sl_tool.specs.declared.problem.Problem.TheVariants.{NoFile, TooLong, IncludeDepth, UndefinedName, ReplaceDepth, BadDirective, Unbalanced, BadByte, OpenString, WideInteger, Syntax, Nesting, NotSupported, Rule, SizeClash, SizeUnfixed, InteriorEllipsis, TokensDiffer, Impossible, TooManyCubes, WindowTooLong, NotYet, Ambiguous, BadHex, NoContextField, ValueOutOfRange}
 use Rattle.sl_tool.specs.declared.refusal.Refusal.{Refusal}
 
 -- ---- 1: the name of the main file to its expanded text
@@ -125,42 +130,7 @@ abbrev pub Compiles : Stage Refusal Tree Compiled
 Compiles t (Ok c) = (c.tree ≡ t) × outcome.Compiles t.items (Ok c.tables)
 Compiles t (Err x) = (why : outcome.Refusal) × outcome.Compiles t.items (Err why) × (x ≡ refusal_told t.tokens (at_tokens (firsts t.items) why))
 
--- ---- 4, of listings and runs: the tree to what it describes
-
--- The tree is this description, which keeps the rules, or it is none.
-abbrev pub Tabulates : Stage Refusal Tree Tables
-Tabulates t (Ok b) = (b.tree ≡ t) × AreSound t.items (firsts t.items) b.description
-Tabulates t (Err x) = ((d : Description) → AreSound t.items (firsts t.items) d → ⊥) × (x ≡ refusal t.tokens.source.name 0 NotYet)
-
--- ---- 5, of listings and runs: a description without a conflict
-
-abbrev pub apart_of : Difference → Apart
-apart_of difference.Same = apart.Same
-apart_of (difference.Two only_first only_second) = apart.Two only_first only_second
-
--- a conflict in the one table of such a description
-abbrev pub root_conflict : Place → Report → Conflict
-root_conflict other told = record { table = codes "instruction"; other = other; both = told.both; apart = apart_of told.apart }
-
--- The refusal names the first two constructors in conflict, and tells their report.
-pub record IsAmbiguous (b : Tables) (x : Refusal) : Type 0 where
-  pub first : ℕ
-  pub second : ℕ
-  pub told : Report
-  pub conflict : IsFirstConflict (Matches b.description) b.description.constructors first second
-  pub report : IsReport (Matches b.description) conflict.here.first conflict.here.second told
-  pub is : x ≡ refusal_at (place_of_token b.tree.tokens conflict.here.first.first)
-      (Ambiguous (root_conflict (place_of_token b.tree.tokens conflict.here.second.first) told))
-
--- No two constructors are in conflict, or the first two that are.
-abbrev pub Settles : Stage Refusal Tables Tables
-Settles b (Ok c) = (c ≡ b) × HasNoConflict (Matches b.description) b.description.constructors
-Settles b (Err x) = IsAmbiguous b x
-
-abbrev pub Accepts : Stage Refusal Tree Tables
-Accepts = Then Tabulates Settles
-
--- ---- 6: the image beside it
+-- ---- 5: the image beside it
 
 -- The file of this name has these bytes, which aren't too many for a file; or there is no such file.
 abbrev pub Fetches : Option Folder → Stage Refusal (List ℕ) (List ℕ)
@@ -188,7 +158,73 @@ abbrev pub Fits : ℕ → Target → Stage Refusal (List ℕ) (List ℕ)
 Fits addresses t image (Ok same) = (same ≡ image) × HasRoom addresses t.base (length image)
 Fits addresses t image (Err x) = (HasRoom addresses t.base (length image) → ⊥) × (x ≡ refusal t.image 0 TooLong)
 
--- The values that the words give to context fields, in their order. So far no specification has a context, so that the first
+-- What the bytes of a file are as an image for so many addresses.
+abbrev pub Prepares : ℕ → Target → Stage Refusal (List ℕ) (List ℕ)
+Prepares addresses t = Then (Decodes t) (Fits addresses t)
+
+-- The image of the file of this name.
+abbrev pub Images : Option Folder → ℕ → Target → Stage Refusal (List ℕ) (List ℕ)
+Images told addresses t = Then (Fetches told) (Prepares addresses t)
+
+abbrev pub problem_of_word : context.Cause → Problem
+problem_of_word word.NoField = NoContextField
+problem_of_word word.OutOfRange = ValueOutOfRange
+
+-- the image with the context that words give it, or the first word that is refused
+abbrev pub started : List ℕ → ℕ → Result ℕ Bad → Result Image Refusal
+started bytes base (Ok start) = Ok (image_from bytes base start)
+started bytes base (Err bad) = Err (refusal_of_field bad.field (problem_of_word bad.cause))
+
+abbrev pub Starts : spec.Tables → Target → Stage Refusal (List ℕ) Image
+Starts tables t bytes r = r ≡ started bytes t.base (starting_context tables t.context)
+
+-- The image that the target tells, for the default space of the tables.
+abbrev pub Readies : Option Folder → Target → spec.Tables → Result Image Refusal → Type 0
+Readies told t tables = Then (Images told (256 ^ address_bytes tables) t) (Starts tables t) t.image
+
+-- The image of the file beside the tables, from the base on, with the context that the words give.
+abbrev pub Loads : Option Folder → Target → Stage Refusal Compiled Loaded
+Loads told t c (Ok l) = (l.compiled ≡ c) × Readies told t c.tables (Ok l.image)
+Loads told t c (Err x) = Readies told t c.tables (Err x)
+
+-- ---- 4, of runs: the tree to what it describes
+
+-- The tree is this description, which keeps the rules, or it is none.
+abbrev pub Tabulates : Stage Refusal Tree Tables
+Tabulates t (Ok b) = (b.tree ≡ t) × AreSound t.items (firsts t.items) b.description
+Tabulates t (Err x) = ((d : Description) → AreSound t.items (firsts t.items) d → ⊥) × (x ≡ refusal t.tokens.source.name 0 NotYet)
+
+-- ---- 5, of runs: a description without a conflict
+
+abbrev pub apart_of : Difference → Apart
+apart_of difference.Same = apart.Same
+apart_of (difference.Two only_first only_second) = apart.Two only_first only_second
+
+-- a conflict in the one table of such a description
+abbrev pub root_conflict : Place → Report → Conflict
+root_conflict other told = record { table = codes "instruction"; other = other; both = told.both; apart = apart_of told.apart }
+
+-- The refusal names the first two constructors in conflict, and tells their report.
+pub record IsAmbiguous (b : Tables) (x : Refusal) : Type 0 where
+  pub first : ℕ
+  pub second : ℕ
+  pub told : Report
+  pub conflict : IsFirstConflict (Matches b.description) b.description.constructors first second
+  pub report : IsReport (Matches b.description) conflict.here.first conflict.here.second told
+  pub is : x ≡ refusal_at (place_of_token b.tree.tokens conflict.here.first.first)
+      (Ambiguous (root_conflict (place_of_token b.tree.tokens conflict.here.second.first) told))
+
+-- No two constructors are in conflict, or the first two that are.
+abbrev pub Settles : Stage Refusal Tables Tables
+Settles b (Ok c) = (c ≡ b) × HasNoConflict (Matches b.description) b.description.constructors
+Settles b (Err x) = IsAmbiguous b x
+
+abbrev pub Accepts : Stage Refusal Tree Tables
+Accepts = Then Tabulates Settles
+
+-- ---- 6, of runs: the image beside it
+
+-- The values that the words give to context fields, in their order. So far no description has a context, so that the first
 -- word names no field of it.
 abbrev pub with_context : List Field → List ℕ → Result (List ℕ) Refusal
 with_context [] image = Ok image
@@ -197,17 +233,13 @@ with_context (f ∷ fs) image = Err (refusal_of_field f.name NoContextField)
 abbrev pub SetsContext : Target → Stage Refusal (List ℕ) (List ℕ)
 SetsContext t image r = r ≡ with_context t.context image
 
--- What the bytes of the file are as an image for so many addresses.
-abbrev pub Prepares : ℕ → Target → Stage Refusal (List ℕ) (List ℕ)
-Prepares addresses t = Then (Decodes t) (Then (Fits addresses t) (SetsContext t))
-
-abbrev pub Images : Option Folder → ℕ → Target → Result (List ℕ) Refusal → Type 0
-Images told addresses t = Then (Fetches told) (Prepares addresses t) t.image
-
 abbrev pub addresses_of : Tables → ℕ
 addresses_of b = 256 ^ b.description.address_bytes
 
+abbrev pub RunImages : Option Folder → ℕ → Target → Result (List ℕ) Refusal → Type 0
+RunImages told addresses t = Then (Images told addresses t) (SetsContext t) t.image
+
 -- The image of the file beside the tables, from the base on.
-abbrev pub Loads : Option Folder → Target → Stage Refusal Tables Input
-Loads told t b (Ok i) = (i.tables ≡ b) × (i.base ≡ t.base) × Images told (addresses_of b) t (Ok i.image)
-Loads told t b (Err x) = Images told (addresses_of b) t (Err x)
+abbrev pub Inputs : Option Folder → Target → Stage Refusal Tables Input
+Inputs told t b (Ok i) = (i.tables ≡ b) × (i.base ≡ t.base) × RunImages told (addresses_of b) t (Ok i.image)
+Inputs told t b (Err x) = RunImages told (addresses_of b) t (Err x)

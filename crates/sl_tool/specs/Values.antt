@@ -3,6 +3,7 @@ use Rattle.std.specs.Prelude.{ℕ, List}
 use Rattle.sl_ast.specs.Trees.{Item}
 use Rattle.sl_description.specs.Description.{Description}
 use Rattle.sl_lex.specs.Reading.{Token}
+use Rattle.sl_lister.specs.Listing.{Image}
 use Rattle.sl_preproc.specs.Expanded.{Text}
 use Rattle.sl_spec.specs.declared.tables.Tables as spec
 use Rattle.sl_tool.specs.declared.status.Ending.{Ending}
@@ -25,11 +26,17 @@ pub record Compiled : Type 0 where
   pub tree : Tree
   pub tables : spec.Tables
 
+-- a sound specification with an image to be listed by it
+pub record Loaded : Type 0 where
+  pub compiled : Compiled
+  pub image : Image
+
+-- a tree with what it describes, of the form that is run today
 pub record Tables : Type 0 where
   pub tree : Tree
   pub description : Description
 
--- an image beside what it is read by, and the address of its first byte
+-- an image beside what it is run by, and the address of its first byte
 pub record Input : Type 0 where
   pub tables : Tables
   pub base : ℕ
@@ -53,6 +60,9 @@ tree k items = record { tokens = k; items = items }
 
 abbrev pub compiled : Tree → spec.Tables → Compiled
 compiled t b = record { tree = t; tables = b }
+
+abbrev pub loaded : Compiled → Image → Loaded
+loaded c i = record { compiled = c; image = i }
 
 abbrev pub tables : Tree → Description → Tables
 tables t d = record { tree = t; description = d }

@@ -8,8 +8,9 @@ ghost use Rattle.sl_tool.specs.Requests.{request as request_view};
 
 use crate::check::check;
 use crate::halt::Halt;
+use crate::list::list;
 use crate::request::Request;
-use crate::shown::shown;
+use crate::running::run;
 use crate::source::Source;
 use crate::status::Ending;
 use crate::tree::Tree;
@@ -35,6 +36,7 @@ pub fn answered<F: Files, K: Sink>(
     let tree = Tree::read(alloc, &source)?;
     match request {
         Request::Check(_) => check(alloc, tree, out),
-        Request::Show(command, target) => shown(alloc, *command, target, tree, files, out),
+        Request::List(target) => list(alloc, target, tree, files, out),
+        Request::Run(target, steps) => run(alloc, target, *steps, tree, files, out),
     }
 }

@@ -107,13 +107,16 @@ fn refused(alloc: Global, tokens: &Tokens<'_, '_>, error: CompileError<'_>) -> H
 }
 
 impl<'s, 'r> Compiled<'s, 'r> {
+    ghost use Rattle.std.specs.Prelude.{IfOk};
+    ghost use Rattle.sl_tool.specs.Inputs.{IsCompiled};
     ghost use Rattle.sl_tool.specs.Outcomes.{Gives};
     ghost use Rattle.sl_tool.specs.Stages.{Compiles};
     ghost use Rattle.sl_tool.specs.StageViews.{compiled_view, tree_view};
 
     /// The tables that stand for the tree, where it keeps all rules and they are sound.
     pub fn read(alloc: Global, tree: Tree<'s, 'r>) -> Result<Self, Halt>
-        ensures { Gives (Compiles (tree_view tree.entry)) compiled_view result }
+        ensures gives { Gives (Compiles (tree_view tree.entry)) compiled_view result }
+        ensures ready { IfOk result IsCompiled }
     {
         let tokens = tree.tokens;
         match compile(alloc, tree.spec) {

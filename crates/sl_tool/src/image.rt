@@ -1,9 +1,9 @@
-//! The bytes of a file as an image: decoded, fitted into the memory, and with the context's values.
+//! The bytes of a file as an image: decoded, and fitted into the memory.
 
 ghost use Rattle.std.specs.Prelude.{◌≡◌, ◌↔◌, ◌≤◌, ◌^◌, IfOk, IsTrue, length};
 ghost use Rattle.sl_request.specs.Views.{target as target_view};
 ghost use Rattle.sl_tool.specs.Outcomes.{Gives};
-ghost use Rattle.sl_tool.specs.Stages.{Decodes, Fits, HasRoom, Prepares, SetsContext};
+ghost use Rattle.sl_tool.specs.Stages.{Decodes, Fits, HasRoom, Prepares};
 
 use crate::halt::Halt;
 use crate::problem::Problem;
@@ -55,20 +55,6 @@ fn fitted(
     Ok(image)
 }
 
-/// The image, where no word sets a context field: so far no specification has a context.
-fn with_context(alloc: Global, target: &Target<'_>, image: Vec<u8>) -> Result<Vec<u8>, Halt>
-    ensures gives { Gives (SetsContext (target_view target.now) image.items) (λ same. same.items) result }
-    ensures same { IfOk result (λ same. same.items ≡ image.items) }
-{
-    match target.context.first() {
-        Some(word) => {
-            let refusal = Refusal::of_field(alloc, word.field, Problem::NoContextField)?;
-            Err(Halt::Refused(refusal))
-        }
-        None => Ok(image),
-    }
-}
-
 /// The image that the bytes of the target's file are.
 pub fn prepared(
     alloc: Global,
@@ -82,6 +68,5 @@ pub fn prepared(
 {
     let image = decoded(alloc, target, bytes)?;
     let image = fitted(alloc, target, address_bytes, image)?;
-    let image = with_context(alloc, target, image)?;
     Ok(image)
 }

@@ -4,7 +4,7 @@
 ghost use Rattle.std.specs.Prelude.{◌≡◌, ◌++◌, ◌≤◌, OnOk, length};
 ghost use Rattle.std.specs.Fmt.{decimal};
 ghost use Rattle.hex.specs.Hex.{encode_lower};
-ghost use Rattle.sl_tool.specs.Lines.{address_text, listed_line, point_text, place_text};
+ghost use Rattle.sl_tool.specs.Lines.{address_text, point_text, place_text};
 
 use crate::place::Place;
 use itoa::Buffer;
@@ -60,25 +60,4 @@ pub fn push_place(out: &mut Vec<u8>, place: &Place) -> Result<(), AllocError>
     out.extend_from_slice(place.file.as_bytes())?;
     out.extend_from_slice(b":")?;
     out.extend_from_slice(buffer.format(place.line).as_bytes())
-}
-
-/// Appends a line of a listing: an address, the bytes that are there, and what they are.
-pub fn push_listed(
-    out: &mut Vec<u8>,
-    address_bytes: usize,
-    address: u64,
-    shown: &[u8],
-    text: &[u8],
-) -> Result<(), AllocError>
-    requires address_bytes { address_bytes ≤ 8 }
-    requires shown { length shown.now ≤ MOST_BYTES }
-    ensures { OnOk result (out.new.items
-        ≡ out.old.items ++ listed_line address_bytes address shown.now text.now) }
-{
-    push_address(out, address_bytes, address)?;
-    out.extend_from_slice(b": ")?;
-    push_hex(out, shown)?;
-    out.extend_from_slice(b" ")?;
-    out.extend_from_slice(text)?;
-    out.extend_from_slice(b"\n")
 }

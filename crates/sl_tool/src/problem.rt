@@ -66,7 +66,7 @@ pub enum Problem {
     TooManyCubes(u32),
     /// How many bytes there are up to the last one that a pattern looks at, which is too many.
     WindowTooLong(u32),
-    /// A specification of another form than the one that is listed today.
+    /// A specification of another form than the one that is run today.
     NotYet,
     /// Two constructors of a table that isn't settled.
     Ambiguous(Conflict),
@@ -74,6 +74,8 @@ pub enum Problem {
     BadHex,
     /// No field of the context has this name.
     NoContextField,
+    /// The field of the context can't have the value that is given.
+    ValueOutOfRange,
 }
 
 /// Appends the words of the form.
@@ -138,5 +140,6 @@ pub fn push_words(out: &mut Vec<u8>, problem: &Problem) -> Result<(), AllocError
         Problem::Ambiguous(conflict) => push_conflict(out, conflict),
         Problem::BadHex => out.extend_from_slice(b"bad hex"),
         Problem::NoContextField => out.extend_from_slice(b"no such context field"),
+        Problem::ValueOutOfRange => out.extend_from_slice(b"value out of range"),
     }
 }

@@ -8,22 +8,15 @@ ghost use Rattle.sl_tool.specs.Requests.{request};
 use sl_request::{Request as Asked, Target};
 use std::alloc::{AllocError, Global};
 
-/// What is done with an image.
-#[derive(Clone, Copy, Debug)]
-pub enum Command {
-    /// It is listed.
-    List,
-    /// It is run, for at most so many steps.
-    Run(u64),
-}
-
 /// What is asked for.
 #[derive(Debug, Drop)]
 pub enum Request<'a> {
     /// Whether the specification with this main file is sound.
     Check(&'a str),
-    /// What an image is by a specification.
-    Show(Command, Target<'a>),
+    /// The listing of an image by a specification.
+    List(Target<'a>),
+    /// The run of an image, for at most so many steps.
+    Run(Target<'a>, u64),
 }
 
 impl<'a> Request<'a> {
@@ -33,7 +26,8 @@ impl<'a> Request<'a> {
     {
         match self {
             Request::Check(name) => *name,
-            Request::Show(_, target) => target.spec,
+            Request::List(target) => target.spec,
+            Request::Run(target, _) => target.spec,
         }
     }
 }
@@ -44,8 +38,8 @@ fn answerable(asked: Asked<'_>) -> Option<Request<'_>>
 {
     match asked {
         Asked::Check(name) => Some(Request::Check(name)),
-        Asked::List(target) => Some(Request::Show(Command::List, target)),
-        Asked::Run(target, steps) => Some(Request::Show(Command::Run(steps), target)),
+        Asked::List(target) => Some(Request::List(target)),
+        Asked::Run(target, steps) => Some(Request::Run(target, steps)),
         Asked::Pcode(_) | Asked::Gen(_) => None,
     }
 }

@@ -1,7 +1,7 @@
 //! Constraints on fields of small tokens and of the context.
 
-use sl_constraints::*;
 use sl_blocks::Relation;
+use sl_constraints::*;
 use sl_cube::Cube;
 use sl_spec::{Field, Named, Token};
 use sl_word::Endian;

@@ -1,6 +1,6 @@
-use sl_list::{Decoder, ListBuffers, Listing, list_all};
 use sl_contexts::Commit;
 use sl_decoding::Fault;
+use sl_list::{Decoder, ListBuffers, Listing, list_all};
 use sl_outside::MemSink;
 use sl_spec::TableId;
 use sl_word::AddressSize;

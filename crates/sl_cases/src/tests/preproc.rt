@@ -1,7 +1,7 @@
 //! Worked rows, as tables.
 
-use sl_preproc::{Place, PreError, expand};
 use sl_outside::MemFiles;
+use sl_preproc::{Place, PreError, expand};
 use std::alloc::Global;
 use std::test::Fail;
 

@@ -1,7 +1,7 @@
 //! Rows for the calls over sets of single bytes.
 
-use sl_settle::*;
 use sl_cube::Point;
+use sl_settle::*;
 use std::alloc::{AllocError, Global};
 use std::test::Fail;
 

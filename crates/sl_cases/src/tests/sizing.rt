@@ -1,9 +1,9 @@
 //! Sizes of a few constructors.
 
-use sl_sizing::*;
 use sl_equations::assigned;
 use sl_section::{Export, Section, Step, Storage, Symbol, Term};
 use sl_sizes::SizeError;
+use sl_sizing::*;
 use sl_word::{AddressSize, Size, SpaceId};
 use std::alloc::{AllocError, Global};
 use std::test::Fail;

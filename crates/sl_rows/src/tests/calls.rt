@@ -27,12 +27,27 @@ pub fn call(
     Ok((status, out))
 }
 
-/// Lists the image `i` by the specification `s`.
-pub fn list(alloc: Global, spec: &[u8], image: &[u8]) -> Result<(Status, MemSink), Fail> {
+/// Calls a command on the specification `s` and the image `i`.
+fn shown(
+    alloc: Global,
+    command: &str,
+    spec: &[u8],
+    image: &[u8],
+) -> Result<(Status, MemSink), Fail> {
     let mut files = MemFiles::new(alloc);
     files.add("s", spec)?;
     files.add("i", image)?;
-    call(alloc, &mut files, &["list", "s", "i"])
+    call(alloc, &mut files, &[command, "s", "i"])
+}
+
+/// Lists the image `i` by the specification `s`.
+pub fn list(alloc: Global, spec: &[u8], image: &[u8]) -> Result<(Status, MemSink), Fail> {
+    shown(alloc, "list", spec, image)
+}
+
+/// Runs one instruction of the image `i` by the specification `s`.
+pub fn run(alloc: Global, spec: &[u8], image: &[u8]) -> Result<(Status, MemSink), Fail> {
+    shown(alloc, "run", spec, image)
 }
 
 /// The parts, one behind the other.

@@ -1,6 +1,6 @@
 //! Specifications of other forms than the one that is listed, and files that are not there.
 
-use super::calls::{call, joined, list};
+use super::calls::{call, joined, list, run};
 use sl_outside::MemFiles;
 use sl_tool::Status;
 use std::test::Fail;
@@ -509,11 +509,11 @@ static MISREAD: [(&str, [&str; 4], &str); 29] = [
 ];
 
 #[test]
-fn other_forms_are_not_listed_yet(rt: HostRuntime) -> Result<(), Fail> {
+fn other_forms_are_not_run_yet(rt: HostRuntime) -> Result<(), Fail> {
     let alloc = rt.alloc();
     for (about, parts) in &NOT_YET {
         let spec = joined(alloc, parts)?;
-        let (status, out) = list(alloc, spec.as_slice(), b"\x10")?;
+        let (status, out) = run(alloc, spec.as_slice(), b"\x10")?;
         assert_eq!(rt; out.bytes(), b"s:0: not yet\n".as_slice(), "{about}");
         assert_eq!(rt; status, Status::Refused, "{about}");
     }
@@ -542,7 +542,7 @@ static ABSENT: [(&str, &str, &str); 8] = [
         "i",
         "a folder/with a blank:0: no such file\n",
     ),
-    ("form", "none", "form:0: not yet\n"),
+    ("form", "none", "form:0: rule 32\n"),
     ("s", "none", "none:0: no such file\n"),
     ("s", "", ":0: no such file\n"),
     ("s", "s:0", "s:0:0: no such file\n"),

@@ -43,7 +43,7 @@ static TEXTS: [Text; 24] = [
             ("t", DEFINITIONS),
         ],
         status: Status::Refused,
-        text: "s:0: not yet\n",
+        text: "s:2: impossible pattern\n",
     },
     Text {
         files: &[("s", "define endian=big;\n18446744073709551616\n")],

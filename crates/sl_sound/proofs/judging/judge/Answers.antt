@@ -25,4 +25,4 @@ returns-clause-sets c = λ stand.
     let shapes = c.in_ok-shapes.shapes in
     are_sets c.args.t.now (all_placed c.args.constructors.now) stand shapes.sets.items shapes.hulls.items
     (c.in_ok-shapes.ensures.shaped stand.acyclic) (c.in_ok-shapes.ensures.sets ∙ sym (length-map c.args.constructors.now placed))
-    c.in_ok-checked.checked.tables.items c.in_ok-checked.ensures.tables
+    c.in_ok-checked.checked.tables.items c.in_ok-checked.ensures.tables c.in_ok-checked.ensures.settled

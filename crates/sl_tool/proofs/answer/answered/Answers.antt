@@ -3,14 +3,14 @@ use Rattle.std.proofs.lemmas.Result.{err_from_is_err_and}
 use Rattle.sl_outside.specs.Folder.{Folder}
 use Rattle.sl_preproc.specs.Asks.{AsksFor as AsksForText}
 use Rattle.sl_request.specs.Views.{target}
-use Rattle.sl_tool.specs.Answers.{Answers, AsksAfter, AsksFor, Counts, Displays, Follows, UsesFilesFor}
+use Rattle.sl_tool.specs.Answers.{Answers, AsksAfter, AsksFor, Counts, Follows, Lists, Runs, UsesFilesFor}
 use Rattle.sl_tool.specs.Outcomes.{FailsToRead, IsEarly}
 use Rattle.sl_tool.specs.Request.{spec_of}
-use Rattle.sl_tool.specs.Requests.{command, request}
+use Rattle.sl_tool.specs.Requests.{request}
 use Rattle.sl_tool.specs.SourceView.{source_view}
 use Rattle.sl_tool.specs.Stage.{Then}
 use Rattle.sl_tool.specs.Stage.Then.{stops, goes}
-use Rattle.sl_tool.specs.Stages.{Compiles, Expands, Parses, Reads, Tokenizes}
+use Rattle.sl_tool.specs.Stages.{Accepts, Compiles, Expands, Inputs, Loads, Parses, Reads, Tokenizes}
 use Rattle.sl_tool.specs.StageViews.{tree_view}
 use Rattle.sl_tool.specs.declared.request.Request.{Request}
 use Rattle.sl_tool.proofs.AnsweredLemmas.{asks_nothing, follows, gives_obtains, stop_first, stop_second, stop_sink, stop_writes, writes_map}
@@ -103,7 +103,34 @@ returns-in-Check-clause-files g c =
 pub returns-in-Check-clause-unwritten : goal.returns-in-Check-clause-unwritten
 returns-in-Check-clause-unwritten g c = λ f. absurd (c.check.ensures.unread f)
 
--- ---- an image is shown
+-- ---- an image is listed
+
+pub returns-in-List-clause-writes : goal.returns-in-List-clause-writes
+returns-in-List-clause-writes g c =
+    let told = g.F.Files.told c.args.files.now in
+    let r = request c.args.request.now in
+    let s = source_view c.in_ok-source.source in
+    let u = tree_view c.in_ok-tree.tree in
+    let read : Reads told (spec_of r) (Ok u) = goes (subst (λ (name : List ℕ). Expands told name (Ok s)) c.spec.ensures c.in_ok-source.ensures.gives) c.in_ok-tree.ensures in
+    let t = target c.in-List.target in
+    let same = c.in_ok-source.ensures.files.2.same_folder in
+    writes_map (Then Compiles (Then (Loads (g.F.Files.told c.read.new.files) t) Lists) u) (Answers told r) _ _ c.list.result
+    (λ x d. goes read (subst (λ (q : Request). Follows told (request q) u x) (sym c.in-List.is) (subst (λ (f : Option Folder). Then Compiles (Then (Loads f t) Lists) u x) same d))) c.list.ensures.writes
+
+pub returns-in-List-clause-files : goal.returns-in-List-clause-files
+returns-in-List-clause-files g c =
+    let told = g.F.Files.told c.args.files.now in
+    let r = request c.args.request.now in
+    let s = source_view c.in_ok-source.source in
+    let u = tree_view c.in_ok-tree.tree in
+    let w = c.in_ok-source.ensures.files in
+    let read : Reads told (spec_of r) (Ok u) = goes (subst (λ (name : List ℕ). Expands told name (Ok s)) c.spec.ensures c.in_ok-source.ensures.gives) c.in_ok-tree.ensures in
+    follows g.F.Files.told g.F.Files.faults g.F.Files.asked r _ _ _ u _ _ _ _ read
+    (w.0, subst (λ (name : List ℕ). AsksForText told name w.0) c.spec.ensures w.1, w.2) (λ n. n)
+    (subst (λ (q : Request). UsesFilesFor g.F.Files.told g.F.Files.faults g.F.Files.asked (AsksAfter (request q) u) c.read.new.files c.list.new.files
+    (IsEarly c.list.result) (FailsToRead c.list.result)) (sym c.in-List.is) c.list.ensures.files)
+
+-- ---- an image is run
 
 pub returns-clause-writes : goal.returns-clause-writes
 returns-clause-writes g c =
@@ -112,11 +139,10 @@ returns-clause-writes g c =
     let s = source_view c.in_ok-source.source in
     let u = tree_view c.in_ok-tree.tree in
     let read : Reads told (spec_of r) (Ok u) = goes (subst (λ (name : List ℕ). Expands told name (Ok s)) c.spec.ensures c.in_ok-source.ensures.gives) c.in_ok-tree.ensures in
-    let k = command c.in-Show.command in
-    let t = target c.in-Show.target in
+    let t = target c.in-Run.target in
     let same = c.in_ok-source.ensures.files.2.same_folder in
-    writes_map (Displays (g.F.Files.told c.read.new.files) k t u) (Answers told r) _ _ c.shown.result
-    (λ x d. goes read (subst (λ (q : Request). Follows told (request q) u x) (sym c.in-Show.is) (subst (λ (f : Option Folder). Displays f k t u x) same d))) c.shown.ensures.writes
+    writes_map (Then Accepts (Then (Inputs (g.F.Files.told c.read.new.files) t) (Runs c.in-Run.steps)) u) (Answers told r) _ _ c.run.result
+    (λ x d. goes read (subst (λ (q : Request). Follows told (request q) u x) (sym c.in-Run.is) (subst (λ (f : Option Folder). Then Accepts (Then (Inputs f t) (Runs c.in-Run.steps)) u x) same d))) c.run.ensures.writes
 
 pub returns-clause-files : goal.returns-clause-files
 returns-clause-files g c =
@@ -128,5 +154,5 @@ returns-clause-files g c =
     let read : Reads told (spec_of r) (Ok u) = goes (subst (λ (name : List ℕ). Expands told name (Ok s)) c.spec.ensures c.in_ok-source.ensures.gives) c.in_ok-tree.ensures in
     follows g.F.Files.told g.F.Files.faults g.F.Files.asked r _ _ _ u _ _ _ _ read
     (w.0, subst (λ (name : List ℕ). AsksForText told name w.0) c.spec.ensures w.1, w.2) (λ n. n)
-    (subst (λ (q : Request). UsesFilesFor g.F.Files.told g.F.Files.faults g.F.Files.asked (AsksAfter (request q) u) c.read.new.files c.shown.new.files
-    (IsEarly c.shown.result) (FailsToRead c.shown.result)) (sym c.in-Show.is) c.shown.ensures.files)
+    (subst (λ (q : Request). UsesFilesFor g.F.Files.told g.F.Files.faults g.F.Files.asked (AsksAfter (request q) u) c.read.new.files c.run.new.files
+    (IsEarly c.run.result) (FailsToRead c.run.result)) (sym c.in-Run.is) c.run.ensures.files)

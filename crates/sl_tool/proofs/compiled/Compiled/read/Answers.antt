@@ -7,9 +7,9 @@ use Rattle.sl_tool.specs.Values.{tree}
 use Rattle.sl_tool.proofs.CompiledLemmas.{halts}
 use Rattle.sl_tool.proofs.compiled.Compiled.read.Goals as goal
 
-pub returns-in-Ok : goal.returns-in-Ok
-returns-in-Ok c = (ap (λ (s : Spec). tree (tokens_view c.args.tree.tokens) (items_of s)) c.in-Ok.ensures.kept, c.in-Ok.ensures.compiles)
+pub returns-in-Ok-clause-gives : goal.returns-in-Ok-clause-gives
+returns-in-Ok-clause-gives c = (ap (λ (s : Spec). tree (tokens_view c.args.tree.tokens) (items_of s)) c.in-Ok.ensures.kept, c.in-Ok.ensures.compiles)
 
-pub returns : goal.returns
-returns c =
+pub returns-clause-gives : goal.returns-clause-gives
+returns-clause-gives c =
     halts (tokens_view c.args.tree.tokens) c.args.tree.spec compiled_view c.in-Err.error c.refused.result c.args.tree.indexes c.in-Err.ensures.refused c.refused.ensures

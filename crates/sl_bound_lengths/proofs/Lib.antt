@@ -1,0 +1,3 @@
+pub mod BoundLemmas
+pub mod FieldLemmas
+pub mod WalkLemmas

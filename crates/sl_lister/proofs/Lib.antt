@@ -1,0 +1,3 @@
+pub mod AcceptedLemmas
+pub mod AlignmentLemmas
+pub mod LawLemmas

@@ -1,0 +1,4 @@
+pub mod Disassemblies
+pub mod Laws
+pub mod Listing
+pub mod Writing
