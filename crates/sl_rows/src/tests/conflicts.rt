@@ -22,7 +22,7 @@ struct Conflict {
     text: &'static str,
 }
 
-static CONFLICTS: [Conflict; 9] = [
+static CONFLICTS: [Conflict; 8] = [
     // An overlap.
     Conflict {
         definitions: BYTE_TOKEN,
@@ -48,16 +48,6 @@ same
         text: "s:4: ambiguous in instruction with s:6
 both 34120000000000000000000000000000 0000000000000000
 same
-",
-    },
-    // A third constructor for just the overlap settles nothing.
-    Conflict {
-        definitions: BYTE_TOKEN,
-        constructors: ":x is a=1 {}\n:y is b=1 {}\n:z is a=1 & b=1 {}\n",
-        text: "s:4: ambiguous in instruction with s:5
-both 11000000000000000000000000000000 0000000000000000
-first 10000000000000000000000000000000 0000000000000000
-second 01000000000000000000000000000000 0000000000000000
 ",
     },
     // The least points of zeros, and of the sets without them, in each byte order.
@@ -89,23 +79,22 @@ first 10000000000000000000000000000000 0000000000000000
 second 01000000000000000000000000000000 0000000000000000
 ",
     },
-    // The first conflict by the first constructor, and then by the second.
+    // The least point at which none is the most specific decides, and then the first two constructors there.
     Conflict {
         definitions: BYTE_TOKEN,
         constructors: ":p is a=3 {}\n:q is a=1 {}\n:r is a=1 {}\n:u is b=2 {}\n",
-        text: "s:4: ambiguous in instruction with s:7
-both 32000000000000000000000000000000 0000000000000000
-first 30000000000000000000000000000000 0000000000000000
-second 02000000000000000000000000000000 0000000000000000
+        text: "s:5: ambiguous in instruction with s:6
+both 10000000000000000000000000000000 0000000000000000
+same
 ",
     },
     Conflict {
         definitions: BYTE_TOKEN,
         constructors: ":p is a=3 & b=9 {}\n:q is a=1 {}\n:r is x=3 {}\n:u is b=2 {}\n",
-        text: "s:5: ambiguous in instruction with s:6
-both 13000000000000000000000000000000 0000000000000000
+        text: "s:5: ambiguous in instruction with s:7
+both 12000000000000000000000000000000 0000000000000000
 first 10000000000000000000000000000000 0000000000000000
-second 03000000000000000000000000000000 0000000000000000
+second 02000000000000000000000000000000 0000000000000000
 ",
     },
 ];

@@ -47,13 +47,20 @@ struct Listing {
     text: &'static str,
 }
 
-static LISTINGS: [Listing; 19] = [
+static LISTINGS: [Listing; 20] = [
     // One matching byte.
     Listing {
         definitions: BYTE_TOKEN,
         constructors: ":add is a=1 {}\n",
         image: b"\x16",
         text: "0000: 16 add\n",
+    },
+    // A third constructor settles an overlap.
+    Listing {
+        definitions: BYTE_TOKEN,
+        constructors: ":x is a=1 {}\n:y is b=1 {}\n:z is a=1 & b=1 {}\n",
+        image: b"\x11\x12\x21",
+        text: "0000: 11 z\n0001: 12 x\n0002: 21 y\n",
     },
     // An empty image.
     Listing {
