@@ -62,20 +62,20 @@ module _ (g : Setting) (kinds : List Kind) (variables userops : ℕ) (exports ta
   chain_below [] h = tt
   chain_below (t ∷ ts) h = (h.0, chain_below ts h.1)
 
-  target_keeps : (a : Symbol) → Named a → q.is_target targets a ≡ true → TargetKeeps g kinds variables a
-  target_keeps (s.table i) h p = uses.target i p
-  target_keeps (s.value i) h p = h
-  target_keeps s.start h p = tt
-  target_keeps s.next h p = tt
-  target_keeps (s.integer v) h p = tt
-  target_keeps (s.register space offset n) h p = absurd (let no : ⊥ = cc in no)
-  target_keeps (s.bit_range space offset n low count) h p = absurd (let no : ⊥ = cc in no)
-  target_keeps (s.local x) h p = absurd (let no : ⊥ = cc in no)
-  target_keeps (s.attached i n) h p = absurd (let no : ⊥ = cc in no)
+  target_keeps : (a : Symbol) → Named a → q.symbol_passes exports a ≡ true → q.is_target targets a ≡ true → TargetKeeps g kinds variables a
+  target_keeps (s.table i) h e p = uses.target i e p
+  target_keeps (s.value i) h e p = h
+  target_keeps s.start h e p = tt
+  target_keeps s.next h e p = tt
+  target_keeps (s.integer v) h e p = tt
+  target_keeps (s.register space offset n) h e p = absurd (let no : ⊥ = cc in no)
+  target_keeps (s.bit_range space offset n low count) h e p = absurd (let no : ⊥ = cc in no)
+  target_keeps (s.local x) h e p = absurd (let no : ⊥ = cc in no)
+  target_keeps (s.attached i n) h e p = absurd (let no : ⊥ = cc in no)
 
-  direct_keeps : (to : Direct) → DirectNames Named (length g.sizes) userops to → q.direct_is_target targets to ≡ true → DirectKeeps g kinds variables to
-  direct_keeps (s.to_label l) h p = tt
-  direct_keeps (s.to_place a) h p = target_keeps a h p
+  direct_keeps : (to : Direct) → DirectNames Named (length g.sizes) userops to → q.direct_passes exports to ≡ true → q.direct_is_target targets to ≡ true → DirectKeeps g kinds variables to
+  direct_keeps (s.to_label l) h e p = tt
+  direct_keeps (s.to_place a) h e p = target_keeps a h e p
 
   bits_keep : (a : Symbol) → AreAssigned kinds (q.table_of a) → BitsKeep g kinds variables a
   bits_keep (s.table i) h = h.0
@@ -115,12 +115,12 @@ module _ (g : Setting) (kinds : List Kind) (variables userops : ℕ) (exports ta
   step_keeps (s.run_user op es) k bare = (omega (arith, k.names.0, few), terms_keep (chain es) k.names.1 (chain_below es k.below) k.used)
   step_keeps (s.build i) k bare = tt
   step_keeps (s.label l) k bare = tt
-  step_keeps (s.branch to) k bare = direct_keeps to k.names k.aimed
+  step_keeps (s.branch to) k bare = direct_keeps to k.names k.used k.aimed
   step_keeps (s.branch_if e to) k bare =
       let parts = both_true (q.term_passes exports e) (q.direct_passes exports to) k.used in
-      (term_keeps e k.names.0 k.below.0 parts.0, direct_keeps to k.names.1 k.aimed)
+      (term_keeps e k.names.0 k.below.0 parts.0, direct_keeps to k.names.1 parts.1 k.aimed)
   step_keeps (s.branch_to e) k bare = term_keeps e k.names k.below k.used
-  step_keeps (s.call a) k bare = target_keeps a k.names k.aimed
+  step_keeps (s.call a) k bare = target_keeps a k.names k.used k.aimed
   step_keeps (s.call_to e) k bare = term_keeps e k.names k.below k.used
   step_keeps (s.return e) k bare = term_keeps e k.names k.below k.used
   step_keeps (s.export what) k bare = export_keeps what k.names k.below k.used (bare what refl)

@@ -31,7 +31,7 @@ AreAssigned kinds (i ∷ is) = IsAssigned kinds i × AreAssigned kinds is
 -- What rules 38 and 39 say of tables: those that export, and those whose exports may be jumped to.
 pub record UsesTables (kinds : List Kind) (exports targets : ℕ → Bool) : Type 0 where
   pub exporting : (i : ℕ) → exports i ≡ true → IsExporting kinds i
-  pub target : (i : ℕ) → targets i ≡ true → IsTarget kinds i
+  pub target : (i : ℕ) → exports i ≡ true → targets i ≡ true → IsTarget kinds i
 
 -- What is known of a section's statements.
 pub record IsKept (g : Setting) (kinds : List Kind) (variables userops : ℕ)
