@@ -1,20 +1,26 @@
 -- The parts of a decoded tree are within the limits of rule 38, so that its list is a translation.
-use Rattle.std.proofs.Common.{ℕ, zero, suc, ◌≤◌, List, [], ◌∷◌, map, arith}
-use Rattle.std.specs.Prelude.{slice_get, unwrap_or}
-use Rattle.std.specs.List.{zip}
+use Rattle.std.proofs.Common.{◌≡◌, ℕ, zero, suc, ◌-◌, ◌<◌, ◌≤◌, ◌%◌, ◌^◌, Bool, true, false, cond, List, [], ◌∷◌, length, map, Some, None, refl, arith}
+use Rattle.std.specs.Prelude.{negsuc, nat_lt, pos, slice_get, slice_index, unwrap_or}
+use Rattle.std.proofs.lemmas.List.{length-map}
+use Rattle.std.specs.List.{position_or_len, zip}
+use Rattle.std.specs.Int.{int_wrap}
 use Rattle.sl_ast.specs.Trees.{Constructor, Section, statements, unimplemented}
 use Rattle.sl_ast.specs.Unfolding.{Placed}
 use Rattle.sl_decoding.specs.Trees.{Node, Trees, none, tree}
 use Rattle.sl_flat_sections.specs.FlatSections.{Flat, flat_section, flat_sections, row_section}
 use Rattle.sl_flat_sections.specs.Scopes.{Scopes, scopes_of}
-use Rattle.sl_instruction.specs.Instructions.{no_steps, specification_of}
+use Rattle.sl_instruction.specs.Instructions.{default_space, setting_of, no_steps, specification_of}
 use Rattle.sl_resolve.specs.Macros.{Body}
 use Rattle.sl_resolve.specs.declared.reach.Reach.{Reach}
 use Rattle.sl_section_parts.proofs.StepParts.{parts_take_tokens}
 use Rattle.sl_sound_sections.proofs.Sound.{sections_are_sound}
-use Rattle.sl_spec.specs.Tables.{Ctor, Operand}
+use Rattle.sl_spec.specs.Tables.{Ctor, Operand, Space}
 use Rattle.sl_spec.specs.declared.tables.Tables.{Tables}
-use Rattle.sl_translated.specs.Laws.{TextsAreTranslated}
+use Rattle.sl_translated.specs.Laws.{DecodesAreTranslated, SpacesFit, TextsAreTranslated}
+use Rattle.sl_code.specs.Fits.{NumberFits}
+use Rattle.sl_fitting.specs.Keeping.{IsSetting}
+use Rattle.sl_operators.specs.Operators.{wrapped}
+use Rattle.sl_translation.proofs.Shapes.{decodes_are_shaped}
 use Rattle.sl_translation.specs.Counted.{total}
 use Rattle.sl_translation.proofs.Decoded.{instructions_are_translated}
 use Rattle.sl_tree_limits.specs.Laws.{own_weight, weight_of}
@@ -59,3 +65,47 @@ texts_are_translated items t sizes g bytes f ops is same =
     let weight = limited.weight in
     let within = total_within _ (weight_of (scopes_of items).macros (specification_of items t sizes).constructors) f (flat_within t (scopes_of items) (specification_of items t sizes).constructors) in
     instructions_are_translated (specification_of items t sizes) _ g bytes f ops is.setting (sections_are_sound (specification_of items t sizes) g is.known) is.shaped is.gives is.implemented nodes (omega (arith, within, weight)) same
+
+-- ---- decodes
+
+narrow_at : (xs : List Space) → ((i : ℕ) (space : Space) → slice_get xs i ≡ Some space → space.size ≤ 8) → (k : ℕ) → slice_index (map (λ (x : Space). x.size) xs) k ≤ 8
+narrow_at [] h zero = omega arith
+narrow_at [] h (suc k) = omega arith
+narrow_at (x ∷ xs) h zero = h 0 x refl
+narrow_at (x ∷ xs) h (suc k) = narrow_at xs (λ i space e. h (suc i) space e) k
+
+fits_by : (m : ℕ) (d : Bool) → nat_lt m (2 ^ 63) ≡ d → NumberFits (cond d (pos m) (negsuc (2 ^ 64 - suc m)))
+fits_by m true is = tt
+fits_by m false is = grind (arith, is)
+
+wrapped_fits : (n : ℕ) → NumberFits (wrapped (pos n))
+unfolding int_wrap
+wrapped_fits n = fits_by (n % 2 ^ 64) (nat_lt (n % 2 ^ 64) (2 ^ 63)) refl
+
+default_by : (k n : ℕ) (b : Bool) → nat_lt k n ≡ b → 0 < n → unwrap_or (cond b (Some k) None) 0 < n
+default_by k n true is some = grind (arith, is)
+default_by k n false is some = some
+
+is_setting : (t : Tables) (address after : ℕ) → SpacesFit t → IsSetting (setting_of t address after)
+unfolding setting_of
+is_setting t address after fit =
+    let long = length-map t.spaces (λ (x : Space). x.size) in
+    let inside : default_space t < length t.spaces = default_by (position_or_len (λ (x : Space). x.default) t.spaces) (length t.spaces) _ refl fit.some in
+    let few = fit.few in
+    record {
+      machine = record { default = omega (arith, long, inside); few = omega (arith, long, few) };
+      narrow = narrow_at t.spaces fit.narrow (default_space t);
+      start = wrapped_fits address;
+      next = wrapped_fits after;
+    }
+
+pub decodes_are_translated : DecodesAreTranslated
+decodes_are_translated items t sizes choose bytes address context d ops chooses decodes is same =
+    texts_are_translated items t sizes (setting_of t address d.after) bytes d.tree ops (record {
+      setting = is_setting t address d.after is.spaces;
+      known = is.known;
+      limits = is.limits;
+      shaped = decodes_are_shaped t (specification_of items t sizes).constructors choose bytes address context d chooses decodes;
+      gives = is.gives;
+      implemented = is.implemented;
+    }) same
