@@ -1,5 +1,5 @@
 -- The parts of a decoded tree are within the limits of rule 38, so that its list is a translation.
-use Rattle.std.proofs.Common.{◌≡◌, ℕ, zero, suc, ◌-◌, ◌<◌, ◌≤◌, ◌%◌, ◌^◌, Bool, true, false, cond, List, [], ◌∷◌, length, map, Some, None, refl, arith}
+use Rattle.std.proofs.Common.{◌≡◌, ℕ, zero, suc, ◌-◌, ◌<◌, ◌≤◌, ◌%◌, ◌^◌, Bool, true, false, cond, List, [], ◌∷◌, length, map, Some, None, refl, subst, arith}
 use Rattle.std.specs.Prelude.{negsuc, nat_lt, pos, slice_get, slice_index, unwrap_or}
 use Rattle.std.proofs.lemmas.List.{length-map}
 use Rattle.std.specs.List.{position_or_len, zip}
@@ -16,7 +16,9 @@ use Rattle.sl_section_parts.proofs.StepParts.{parts_take_tokens}
 use Rattle.sl_sound_sections.proofs.Sound.{sections_are_sound}
 use Rattle.sl_spec.specs.Tables.{Ctor, Operand, Space}
 use Rattle.sl_spec.specs.declared.tables.Tables.{Tables}
-use Rattle.sl_translated.specs.Laws.{DecodesAreTranslated, SpacesFit, TextsAreTranslated}
+use Rattle.sl_translated.specs.Laws.{ChoicesAreOfTables, DecodesAreTranslated, SpacesFit, TextsAreTranslated}
+use Rattle.std.specs.List.{Contains}
+use Rattle.sl_constructors.proofs.NumberLemmas.{numbered}
 use Rattle.sl_code.specs.Fits.{NumberFits}
 use Rattle.sl_fitting.specs.Keeping.{IsSetting}
 use Rattle.sl_operators.specs.Operators.{wrapped}
@@ -109,3 +111,11 @@ decodes_are_translated items t sizes choose bytes address context d ops chooses 
       gives = is.gives;
       implemented = is.implemented;
     }) same
+
+-- ---- choices
+
+pub choices_are_of_tables : ChoicesAreOfTables
+choices_are_of_tables t cs choose l picks table p number chosen =
+    let b = picks table p number chosen in
+    let c = numbered t.constructors table number (subst (λ (x : List ℕ). Contains x number) (l.numbers table b.0 b.1) b.2) in
+    record { ctor = c.0; there = c.1; is_of = c.2 }

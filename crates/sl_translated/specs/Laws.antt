@@ -2,9 +2,13 @@
 -- decoded: rules 36 and 38 have them all.
 use Rattle.std.specs.Prelude.{◌≡◌, ℕ, ◌^◌, ◌<◌, ◌≤◌, false, List, [], ◌∷◌, length, map, Ok, Some}
 use Rattle.std.specs.Prelude.{slice_get}
-use Rattle.sl_ast.specs.Trees.{Item}
+use Rattle.std.specs.List.{Contains}
+use Rattle.sl_ast.specs.Trees.{Constructor, Item}
+use Rattle.sl_ast.specs.Unfolding.{Placed}
 use Rattle.sl_code.specs.Nodes.{node_code, top_of}
 use Rattle.sl_code.specs.Operations.{operation_of}
+use Rattle.sl_constructors.specs.Listed.{AreListed}
+use Rattle.sl_cube.specs.declared.Point.{Point}
 use Rattle.sl_decoding.specs.Decoding.{Decoded, decoded}
 use Rattle.sl_decoding.specs.Flat.{count}
 use Rattle.sl_decoding.specs.Laws.{Choice}
@@ -17,7 +21,7 @@ use Rattle.sl_instruction.specs.Instructions.{setting_of, specification_of}
 use Rattle.sl_meaning.specs.References.{Setting}
 use Rattle.sl_pcode.specs.declared.operation.Op.{Op}
 use Rattle.sl_sound_sections.specs.Laws.{IsKnown, uses_in}
-use Rattle.sl_spec.specs.Tables.{Space}
+use Rattle.sl_spec.specs.Tables.{Space, Table}
 use Rattle.sl_spec.specs.declared.tables.Tables.{Tables}
 use Rattle.sl_translation.specs.Shaped.{AreShaped, ChoosesOf, number_of}
 use Rattle.sl_translation.specs.Sound.{AllGiven}
@@ -75,3 +79,15 @@ DecodesAreTranslated = (items : List Item) (t : Tables) (sizes : List (List Size
     (instruction (specification_of items t sizes) bytes d.tree)
     → IsTranslation (setting_of t address d.after)
     (instruction (specification_of items t sizes) bytes d.tree) ops
+
+-- ---- choices
+
+-- What is chosen in a table is one of the numbers that the table has.
+abbrev pub PicksFrom : Tables → Choice → Type 0
+PicksFrom t choose = (table : ℕ) (p : Point) (number : ℕ) → choose table p ≡ Some number
+    → (b : Table) × (slice_get t.tables table ≡ Some b) × Contains b.constructors number
+
+-- So it is a constructor of the table, where each table has its constructors.
+abbrev pub ChoicesAreOfTables : Type 0
+ChoicesAreOfTables = (t : Tables) (cs : List (Placed Constructor)) (choose : Choice)
+    → AreListed t cs → PicksFrom t choose → ChoosesOf t choose

@@ -1,6 +1,6 @@
 //! Laws of the instructions of texts.
 
-ghost use Rattle.sl_translated.specs.Laws.{DecodesAreTranslated, TextsAreTranslated};
+ghost use Rattle.sl_translated.specs.Laws.{ChoicesAreOfTables, DecodesAreTranslated, TextsAreTranslated};
 
 /// An instruction of a text that keeps the limits of rules 36 and 38, and of whose sections it is
 /// known what they name: its operations are a well-formed list, which does what it does.
@@ -12,4 +12,9 @@ pub fn texts_are_translated()
 /// it, by the machine that the text describes.
 pub fn decodes_are_translated()
     ensures { DecodesAreTranslated }
+{}
+
+/// What is chosen among the numbers of a table is a constructor of the table.
+pub fn choices_are_of_tables()
+    ensures { ChoicesAreOfTables }
 {}
