@@ -1,0 +1,4 @@
+pub mod Kept
+pub mod Exported
+mod Rows
+pub mod Trees

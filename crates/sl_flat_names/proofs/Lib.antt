@@ -1,0 +1,2 @@
+pub mod StepNames
+pub mod TermNames

@@ -1,0 +1,4 @@
+//! Laws: what is named in flat sections.
+#![tactic(auto)]
+
+pub mod laws;

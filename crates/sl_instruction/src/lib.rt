@@ -1,0 +1,2 @@
+//! The instruction that a decoded tree stands for, as a definition.
+#![tactic(auto)]

@@ -1,0 +1,3 @@
+pub mod MacroWeights
+pub mod StepParts
+pub mod TermParts

@@ -1,0 +1,4 @@
+//! Laws: how many parts flat sections have.
+#![tactic(auto)]
+
+pub mod laws;

@@ -1,0 +1,4 @@
+//! Laws: tables are used as rules 38 and 39 say.
+#![tactic(auto)]
+
+pub mod laws;

@@ -1,0 +1,4 @@
+//! Laws: the instructions of a text are translated.
+#![tactic(auto)]
+
+pub mod laws;

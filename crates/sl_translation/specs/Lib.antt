@@ -1,0 +1,4 @@
+pub mod Counted
+pub mod Laws
+pub mod Shaped
+pub mod Sound

@@ -1,0 +1,4 @@
+//! Laws: the lists of operations of instructions are well formed, and short.
+#![tactic(auto)]
+
+pub mod laws;
