@@ -1,1 +1,3 @@
 mod InstructionTheorems
+pub mod LawLemmas
+pub mod TableLemmas

@@ -1,2 +1,3 @@
 pub mod Instructions
+pub mod Laws
 pub mod Operands

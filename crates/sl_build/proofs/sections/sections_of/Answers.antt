@@ -1,0 +1,29 @@
+use Rattle.std.proofs.Common.{◌≡◌, List, map, refl, ap, ◌∙◌}
+use Rattle.std.specs.Prelude.{slice_get}
+use Rattle.sl_build.proofs.StandLemmas.{all_flat}
+use Rattle.sl_flat_sections.specs.FlatSections.{sections_by}
+use Rattle.sl_flat_sections.specs.Views.{scopes_view}
+use Rattle.sl_instruction.specs.Instructions.{is_unimpl}
+use Rattle.sl_instruction.specs.Operands.{given_by}
+use Rattle.sl_resolve.specs.declared.reach.Reach.{Reach}
+use Rattle.sl_spec.specs.Unfolded.{all_placed}
+use Rattle.sl_spec.specs.declared.unfolded.Unfolded.{Unfolded}
+use Rattle.sl_build.proofs.sections.sections_of.Goals as goal
+
+pub returns : goal.returns
+returns c =
+    let t = c.args.t.now in
+    let text = c.args.text.now in
+    let s = scopes_view text.scopes in
+    let us = c.as_slice-constructors.result.now in
+    let same : us ≡ text.constructors.items = c.as_slice-constructors.ensures.value in record {
+      tables = refl;
+      sections = c.in_ok-sections.ensures ∙ ap (λ (rs : List Reach). sections_by t s.macros (all_placed us) rs) c.as_slice-reaches.ensures.value
+          ∙ ap (λ (xs : List Unfolded). sections_by t s.macros (all_placed xs) s.reaches) same ∙ all_flat t s (all_placed text.constructors.items);
+      sizes = refl;
+      gives = λ bytes n lengths. c.in_ok-slots.ensures bytes n lengths
+          ∙ ap (λ (xs : List Unfolded). given_by t bytes n (slice_get t.constructors n.ctor) (slice_get (all_placed xs) n.ctor) lengths) same;
+      marks = c.in_ok-marks.ensures ∙ ap (λ (xs : List Unfolded). map (λ u. is_unimpl u.1.section) (all_placed xs)) same;
+      spaces = c.in_ok-spaces.ensures;
+      default = c.in_ok-default.ensures;
+    }

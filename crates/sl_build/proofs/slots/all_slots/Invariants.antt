@@ -1,0 +1,6 @@
+use Rattle.sl_spec.specs.Unfolded.{all_placed}
+use Rattle.sl_build.proofs.MakingLemmas.{AreFirst}
+use Rattle.sl_build.proofs.slots.all_slots.Given as goal
+
+abbrev pub invariant-constructors : goal.invariant-constructors
+invariant-constructors l = AreFirst l.t (all_placed l.constructors) l.all.items l.index

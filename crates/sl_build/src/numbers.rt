@@ -1,0 +1,97 @@
+//! Numbers for which operands stand.
+
+ghost use Rattle.std.specs.Prelude.{◌≡◌, ◌%◌, ◌^◌, negsuc, pos, IfOk};
+ghost use Rattle.sl_emit.specs.Views.{number_of, reference_of};
+ghost use Rattle.sl_meaning.specs.Nodes.{nothing};
+ghost use Rattle.sl_meaning.specs.Nodes as meaning;
+ghost use Rattle.sl_meaning.specs.References as r;
+ghost use Rattle.sl_operators.specs.Operators.{wrapped};
+ghost use Rattle.sl_word.specs.Numbers as z;
+
+use sl_emit::{Number, Reference};
+use sl_operators::literal;
+use sl_word::Size;
+use std::alloc::AllocError;
+
+/// A number of 64 bits.
+pub(crate) fn number(v: i64) -> Number
+    ensures { number_of result ≡ v }
+{
+    if v < 0 {
+        Number::Below(v.unsigned_abs() - 1)
+    } else {
+        Number::Natural(v.unsigned_abs())
+    }
+}
+
+/// An address in 64-bit two's complement.
+pub(crate) fn address_number(address: u64) -> Number
+    ensures { number_of result ≡ wrapped (pos address) }
+{
+    number(literal(address))
+}
+
+pub(crate) fn plain(v: i64) -> Reference
+    ensures { reference_of result ≡ r.number v }
+{
+    Reference::Plain(number(v))
+}
+
+/// What stands where the rules want an export.
+pub(crate) fn nothing() -> Reference
+    ensures { reference_of result ≡ nothing }
+{
+    Reference::Plain(Number::Natural(0))
+}
+
+/// The number modulo 256^n.
+fn cut(v: u64, n: Size) -> u64
+    ensures { result ≡ v % 256 ^ n.bytes }
+{
+    match 256u64.checked_pow(u32::from(n.bytes)) {
+        Some(m) => v % m,
+        None => v,
+    }
+}
+
+/// -1 less the number, modulo 256^n. At more than 8 bytes it has no 64 bits, which is answered as
+/// want of memory.
+fn below(v: u64, n: Size) -> Result<u64, AllocError>
+    ensures { IfOk result (λ m. m ≡ z.residue n.bytes (negsuc v)) }
+{
+    match 256u64.checked_pow(u32::from(n.bytes)) {
+        Some(m) => Ok(m - 1 - v % m),
+        None if n.bytes == 8 => Ok(!v),
+        None => Err(AllocError),
+    }
+}
+
+/// A number cut to n bytes.
+fn cut_number(v: Number, n: Size) -> Result<Number, AllocError>
+    ensures { IfOk result (λ m. number_of m ≡ pos (z.residue n.bytes (number_of v))) }
+{
+    match v {
+        Number::Natural(v) => Ok(Number::Natural(cut(v, n))),
+        Number::Below(v) => {
+            let rest = below(v, n)?;
+            Ok(Number::Natural(rest))
+        }
+    }
+}
+
+/// What is exported as a constant of n bytes.
+pub(crate) fn cut_to(r: Reference, n: Size) -> Result<Reference, AllocError>
+    ensures { IfOk result (λ c. reference_of c ≡ meaning.cut_to n.bytes (reference_of r)) }
+{
+    match r {
+        Reference::Plain(v) => {
+            let v = cut_number(v, n)?;
+            Ok(Reference::Plain(v))
+        }
+        Reference::Storage(s) => Ok(Reference::Storage(s)),
+        Reference::Local(node, x, size) => Ok(Reference::Local(node, x, size)),
+        Reference::Memory(space, size, pointer, width) => {
+            Ok(Reference::Memory(space, size, pointer, width))
+        }
+    }
+}

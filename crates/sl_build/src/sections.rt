@@ -1,0 +1,118 @@
+//! What is known of the sections of a specification, made once.
+
+ghost use Rattle.std.specs.Prelude.{◌≡◌, map, position, IfOk};
+ghost use Rattle.sl_ast.specs.Views.{items_of};
+ghost use Rattle.sl_build.specs.Stands.{StandsFor};
+ghost use Rattle.sl_flat_sections.specs.FlatSections.{flat_sections};
+ghost use Rattle.sl_flat_sections.specs.Views.{scopes_view};
+ghost use Rattle.sl_instruction.specs.Instructions.{default_space, specification_of};
+ghost use Rattle.sl_sizing.specs.Sizings.{lists_of};
+ghost use Rattle.sl_spec.specs.Unfolded.{all_placed};
+ghost use Rattle.sl_word.specs.Sizes.{byte_counts};
+
+use crate::slots::{Slot, all_slots};
+use crate::unimplemented::marks;
+use crate::work::small;
+use sl_bind::Bound;
+use sl_flat_sections::{Text, flat_sections, text_of};
+use sl_section::Section;
+use sl_spec::{Space, Tables};
+use sl_word::{AddressSize, Size, SpaceId};
+use std::alloc::{AllocError, Global};
+
+/// The sections of a specification's constructors: flat, with their sizes, and with their operands.
+#[derive(Drop)]
+pub struct Sections<'b, 'a> {
+    pub(crate) tables: &'b Tables<'a>,
+    pub(crate) sizes: &'b [Vec<Size>],
+    pub(crate) sections: Vec<Section<'a>>,
+    pub(crate) slots: Vec<Vec<Slot>>,
+    /// Which constructors are `unimpl`.
+    pub(crate) marks: Vec<bool>,
+    pub(crate) spaces: Vec<AddressSize>,
+    pub(crate) default: SpaceId,
+}
+
+/// The size of a space's addresses.
+fn address_size(space: &Space) -> AddressSize
+    ensures { result.bytes ≡ space.now.size }
+{
+    AddressSize { bytes: space.size }
+}
+
+/// The sizes of the addresses of all spaces.
+fn address_sizes(alloc: Global, t: &Tables) -> Result<Vec<AddressSize>, AllocError>
+    ensures { IfOk result (λ v. byte_counts v.items ≡ map (λ z. z.size) t.now.spaces) }
+{
+    let mut sizes = Vec::new(alloc);
+    'spaces: for index in 0..t.spaces.len() {
+        sizes.push(address_size(t.spaces.member(index)))?;
+    }
+    Ok(sizes)
+}
+
+/// The number of the default space.
+fn default_index(t: &Tables) -> Option<usize>
+    ensures { result ≡ position (λ z. z.default) t.now.spaces }
+{
+    t.spaces.iter().position(|space| space.default)
+}
+
+/// The default space; the first one, where there is none.
+fn default_space(t: &Tables) -> Result<SpaceId, AllocError>
+    ensures { IfOk result (λ space. space.0 ≡ default_space t.now) }
+{
+    match default_index(t) {
+        Some(index) => {
+            let number = small(index)?;
+            Ok(SpaceId(number))
+        }
+        None => Ok(SpaceId(0)),
+    }
+}
+
+/// The sections of a text that has these tables and sizes.
+fn sections_of<'b, 's, 'a>(
+    alloc: Global,
+    t: &'b Tables<'a>,
+    sizes: &'b [Vec<Size>],
+    text: &Text<'s, 'a>,
+) -> Result<Sections<'b, 'a>, AllocError>
+    ensures { IfOk result (λ x. StandsFor x (record {
+      tables = t.now;
+      constructors = all_placed text.now.constructors.items;
+      sections = flat_sections t.now (scopes_view text.now.scopes)
+          (all_placed text.now.constructors.items);
+      sizes = lists_of sizes.now;
+    })) }
+{
+    let constructors = text.constructors.as_slice();
+    let scopes = &text.scopes;
+    let reaches = scopes.reaches.as_slice();
+    let sections = flat_sections(alloc, t, &scopes.macros, constructors, reaches)?;
+    let slots = all_slots(alloc, t, constructors)?;
+    let marks = marks(alloc, constructors)?;
+    let spaces = address_sizes(alloc, t)?;
+    let default = default_space(t)?;
+    Ok(Sections {
+        tables: t,
+        sizes,
+        sections,
+        slots,
+        marks,
+        spaces,
+        default,
+    })
+}
+
+impl<'b, 'a> Sections<'b, 'a> {
+    /// The sections of a specification. The only error is want of memory.
+    pub fn new(alloc: Global, bound: &'b Bound<'a>) -> Result<Self, AllocError>
+        ensures { IfOk result (λ x. StandsFor x (specification_of (items_of bound.now.spec)
+            bound.now.tables (lists_of bound.now.sizes.items))) }
+    {
+        let text = text_of(alloc, bound.spec.items.as_slice())?;
+        let sections = sections_of(alloc, &bound.tables, bound.sizes.as_slice(), &text)?;
+        Ok(sections)
+    }
+}
