@@ -1,6 +1,7 @@
 //! A table over the first byte, built and asked at each value of it.
 
 use sl_choose::*;
+use sl_cube::{Cube, Point};
 use sl_settle::CubeSet;
 use std::alloc::{AllocError, Global};
 use std::test::Fail;

@@ -1,6 +1,6 @@
 //! Rows for the calls over sets of single bytes.
 
-use sl_cube::Point;
+use sl_cube::{Cube, Point};
 use sl_settle::*;
 use std::alloc::{AllocError, Global};
 use std::test::Fail;

@@ -4,6 +4,7 @@ ghost use Rattle.std.specs.Prelude.{◌≡◌, ◌<◌, ◌≤◌, All};
 ghost use Rattle.sl_sizes.specs.Solutions.{IsAbout};
 
 use sl_sizes::*;
+use sl_word::Size;
 use std::alloc::{AllocError, Global};
 use std::process::Abort;
 use std::test::Fail;
