@@ -1,0 +1,4 @@
+pub mod Puts
+pub mod Levels
+pub mod Inners
+pub mod Backs
