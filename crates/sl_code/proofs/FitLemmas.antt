@@ -18,24 +18,24 @@ use Rattle.sl_sizes.specs.Solutions.{Meets}
 use Rattle.sl_sizes.specs.declared.Equation.{Equation}
 
 -- a size of a section isn't changed
-size_bytes : (n : ℕ) → IsSize n → (size_at n).bytes ≡ n
+pub size_bytes : (n : ℕ) → IsSize n → (size_at n).bytes ≡ n
 unfolding size_at
 size_bytes n is = ap (λ m. min m 16) (max-eq_left is.0) ∙ min-eq_left is.1
 
-meets_front : (size : ℕ → ℕ) (a b : List Equation) → Meets size (a ++ b) → Meets size a
+pub meets_front : (size : ℕ → ℕ) (a b : List Equation) → Meets size (a ++ b) → Meets size a
 meets_front size [] b h = tt
 meets_front size (e ∷ a) b h = (h.0, meets_front size a b h.1)
 
-meets_back : (size : ℕ → ℕ) (a b : List Equation) → Meets size (a ++ b) → Meets size b
+pub meets_back : (size : ℕ → ℕ) (a b : List Equation) → Meets size (a ++ b) → Meets size b
 meets_back size [] b h = h
 meets_back size (e ∷ a) b h = meets_back size a b h.1
 
-both_true : (a b : Bool) → (a && b) ≡ true → (a ≡ true) × (b ≡ true)
+pub both_true : (a b : Bool) → (a && b) ≡ true → (a ≡ true) × (b ≡ true)
 both_true true true e = (refl, refl)
 both_true true false e = absurd (let no : ⊥ = cc in no)
 both_true false b e = absurd (let no : ⊥ = cc in no)
 
-at_most : (a b : ℕ) → nat_le a b ≡ true → a ≤ b
+pub at_most : (a b : ℕ) → nat_le a b ≡ true → a ≤ b
 at_most a b e = grind (arith, nat_tests)
 
 -- no fewer bytes
@@ -44,7 +44,7 @@ unfolding size_at
 span_least m le = grind arith
 
 -- as many bytes as bits take
-span_bytes : (count k : ℕ) → count ≤ 8 * k → IsSize k → (count ≤ 8 * (size_at (bit_bytes count)).bytes) × ((size_at (bit_bytes count)).bytes ≤ k)
+pub span_bytes : (count k : ℕ) → count ≤ 8 * k → IsSize k → (count ≤ 8 * (size_at (bit_bytes count)).bytes) × ((size_at (bit_bytes count)).bytes ≤ k)
 unfolding size_at
 span_bytes count k le is = bound ((count + 7) / 8) (omega arith) (omega arith)
   where
@@ -68,7 +68,7 @@ module _ (Local : (node x n : ℕ) → Type 0) (g : Setting) (f : Frame) (operan
   number_fits (memory space k p w) n h = absurd h
 
   -- a name that is read, or assigned, at the size of a variable
-  symbol_fits : (a : Symbol) (x : ℕ) → SymbolKept Local g f operand a → Meets size (q.symbol_equations operand a x) → SymbolFits Local g f a (size x)
+  pub symbol_fits : (a : Symbol) (x : ℕ) → SymbolKept Local g f operand a → Meets size (q.symbol_equations operand a x) → SymbolFits Local g f a (size x)
   symbol_fits (s.register space offset n) x kept meets = tt
   symbol_fits (s.bit_range space offset n low count) x kept meets =
       let e : (size_at n).bytes ≡ n = size_bytes n kept.0 in

@@ -61,7 +61,7 @@ after_choice true x y go = refl
 after_choice false x y go = refl
 
 -- a relative number leads where it is to lead
-target : (base p t : ℕ) → base + p < 2147483648 → base + t < 2147483648 → place_at (base + p) (relative p t) ≡ base + t
+pub target : (base p t : ℕ) → base + p < 2147483648 → base + t < 2147483648 → place_at (base + p) (relative p t) ≡ base + t
 target base p t hp ht =
     elim (cases_lt t p) [
       | inl less ↦
@@ -82,7 +82,7 @@ target base p t hp ht =
     near d n e lt = omega (arith, e)
 
 -- no label changes the number of operations
-step_same : (top : ℕ) (g : Setting) (f : Frame) (lists : List (List Operation)) (label_place : Label → ℕ) (p : ℕ) (a : Step) → length (step_code top g f label_place lists p a) ≡ step_length top g f lists a
+pub step_same : (top : ℕ) (g : Setting) (f : Frame) (lists : List (List Operation)) (label_place : Label → ℕ) (p : ℕ) (a : Step) → length (step_code top g f label_place lists p a) ≡ step_length top g f lists a
 step_same top g f lists label_place p (s.declare x n) = refl
 step_same top g f lists label_place p (s.set a e) = refl
 step_same top g f lists label_place p (s.set_bits a low count e) = refl

@@ -1,5 +1,6 @@
 -- meaning: what an instruction does, by its tree of nodes (SLEIGH manual, "The Semantic Section").
-use Rattle.std.specs.Prelude.{ℕ, zero, suc, pos, List, [], ◌∷◌, slice_index}
+use Rattle.std.specs.Prelude.{ℕ, zero, suc, ℤ, pos, nat_lt, if◌then◌else◌, List, [], ◌∷◌}
+use Rattle.std.specs.Prelude.{slice_index}
 use Rattle.sl_equations.specs.Equations.{size_at}
 use Rattle.sl_meaning.specs.References.{Reference, Setting, State, memory, number}
 use Rattle.sl_meaning.specs.Statements.{Next, Outcome, ends, leaves, section_runs, stops}
@@ -40,9 +41,12 @@ jump_limit = 65536
 
 -- ---- what is exported
 
--- a number cut to n bytes
+-- a number as one of n bytes; of 8 bytes and more it is what it was, since it has 64 bits
+abbrev pub cut_number : (n : ℕ) → ℤ → ℤ
+cut_number n v = if nat_lt n 8 then pos (residue n v) else v
+
 abbrev pub cut_to : (n : ℕ) → Reference → Reference
-cut_to n (number v) = number (pos (residue n v))
+cut_to n (number v) = number (cut_number n v)
 cut_to n r = r
 
 -- a number of no meaning, where the rules want an export
