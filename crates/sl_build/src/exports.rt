@@ -75,7 +75,7 @@ fn export_reference(alloc: Global, site: &Site<'_>, what: &Export) -> Result<Ref
         Export::Name(a, _) => meant(alloc, site, *a),
         Export::Constant(n, t, _) => {
             let r = term_reference(alloc, site, t)?;
-            cut_to(r, *n)
+            Ok(cut_to(r, *n))
         }
         Export::Memory(space, n, t, _) => memory(alloc, site, *space, *n, t),
     }

@@ -1,6 +1,6 @@
 //! Numbers for which operands stand.
 
-ghost use Rattle.std.specs.Prelude.{◌≡◌, ◌%◌, ◌^◌, negsuc, pos, IfOk};
+ghost use Rattle.std.specs.Prelude.{◌≡◌, ◌<◌, ◌%◌, ◌^◌, negsuc, pos};
 ghost use Rattle.sl_emit.specs.Views.{number_of, reference_of};
 ghost use Rattle.sl_meaning.specs.Nodes.{nothing};
 ghost use Rattle.sl_meaning.specs.Nodes as meaning;
@@ -11,7 +11,6 @@ ghost use Rattle.sl_word.specs.Numbers as z;
 use sl_emit::{Number, Reference};
 use sl_operators::literal;
 use sl_word::Size;
-use std::alloc::AllocError;
 
 /// A number of 64 bits.
 pub(crate) fn number(v: i64) -> Number
@@ -54,44 +53,39 @@ fn cut(v: u64, n: Size) -> u64
     }
 }
 
-/// -1 less the number, modulo 256^n. At more than 8 bytes it has no 64 bits, which is answered as
-/// want of memory.
-fn below(v: u64, n: Size) -> Result<u64, AllocError>
-    ensures { IfOk result (λ m. m ≡ z.residue n.bytes (negsuc v)) }
+/// -1 less the number, modulo 256^n; 0 where n is 8 or more.
+fn below(v: u64, n: Size) -> u64
+    ensures { n.bytes < 8 → result ≡ z.residue n.bytes (negsuc v) }
 {
     match 256u64.checked_pow(u32::from(n.bytes)) {
-        Some(m) => Ok(m - 1 - v % m),
-        None if n.bytes == 8 => Ok(!v),
-        None => Err(AllocError),
+        Some(m) => m - 1 - v % m,
+        None => 0,
     }
 }
 
-/// A number cut to n bytes.
-fn cut_number(v: Number, n: Size) -> Result<Number, AllocError>
-    ensures { IfOk result (λ m. number_of m ≡ pos (z.residue n.bytes (number_of v))) }
+/// A number as one of n bytes; of 8 bytes and more it is what it was.
+fn cut_number(v: Number, n: Size) -> Number
+    ensures { number_of result ≡ meaning.cut_number n.bytes (number_of v) }
 {
+    if n.bytes >= 8 {
+        return v;
+    }
     match v {
-        Number::Natural(v) => Ok(Number::Natural(cut(v, n))),
-        Number::Below(v) => {
-            let rest = below(v, n)?;
-            Ok(Number::Natural(rest))
-        }
+        Number::Natural(v) => Number::Natural(cut(v, n)),
+        Number::Below(v) => Number::Natural(below(v, n)),
     }
 }
 
 /// What is exported as a constant of n bytes.
-pub(crate) fn cut_to(r: Reference, n: Size) -> Result<Reference, AllocError>
-    ensures { IfOk result (λ c. reference_of c ≡ meaning.cut_to n.bytes (reference_of r)) }
+pub(crate) fn cut_to(r: Reference, n: Size) -> Reference
+    ensures { reference_of result ≡ meaning.cut_to n.bytes (reference_of r) }
 {
     match r {
-        Reference::Plain(v) => {
-            let v = cut_number(v, n)?;
-            Ok(Reference::Plain(v))
-        }
-        Reference::Storage(s) => Ok(Reference::Storage(s)),
-        Reference::Local(node, x, size) => Ok(Reference::Local(node, x, size)),
+        Reference::Plain(v) => Reference::Plain(cut_number(v, n)),
+        Reference::Storage(s) => Reference::Storage(s),
+        Reference::Local(node, x, size) => Reference::Local(node, x, size),
         Reference::Memory(space, size, pointer, width) => {
-            Ok(Reference::Memory(space, size, pointer, width))
+            Reference::Memory(space, size, pointer, width)
         }
     }
 }
