@@ -2,6 +2,7 @@
 
 mod calls;
 mod conflicts;
+mod contexts;
 mod faults;
 mod limits;
 mod listings;
