@@ -3,7 +3,9 @@
 ghost use Rattle.std.specs.Prelude.{◌≡◌, IfErr, IfOk, Ok};
 ghost use Rattle.sl_ast.specs.Views.{items_of};
 ghost use Rattle.sl_compile.specs.Outcomes.{Binds, Compiles, all_constructors};
+ghost use Rattle.sl_bind.specs.Binding.{Binds as BindsTo};
 ghost use Rattle.sl_compile.specs.Refusals.{Refuses, unbound};
+ghost use Rattle.sl_sizing.specs.Sizings.{lists_of};
 ghost use Rattle.sl_sound.specs.Soundness.{AreSetsOf, IsSound};
 
 use crate::error::{CompileError, Flaw};
@@ -85,6 +87,8 @@ fn judged<'a>(alloc: Global, bound: Bound<'a>) -> Result<Compiled<'a>, CompileEr
 /// that isn't settled.
 pub fn compile<'a>(alloc: Global, spec: Spec<'a>) -> Result<Compiled<'a>, CompileError<'a>>
     ensures kept { IfOk result (λ compiled. compiled.bound.spec ≡ spec.entry) }
+    ensures bound { IfOk result (λ compiled. BindsTo (items_of spec.entry)
+        (Ok (compiled.bound.tables, lists_of compiled.bound.sizes.items))) }
     ensures compiles { IfOk result (λ compiled.
         Compiles (items_of spec.entry) (Ok compiled.bound.tables)) }
     ensures sets { IfOk result (λ compiled. AreSetsOf compiled.bound.tables

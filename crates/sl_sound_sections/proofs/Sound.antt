@@ -169,7 +169,7 @@ module _ (n : ℕ) (f g : ℕ → ℕ) (same : (v : ℕ) → v < n → f v ≡ g
 
 -- ---- what is exported
 
-at_export : (n : ℕ) (ss : List Step) (what : Export) → first_export ss ≡ Some what → StepsBelow n ss
+pub at_export : (n : ℕ) (ss : List Step) (what : Export) → first_export ss ≡ Some what → StepsBelow n ss
     → (q.exported_variable ss ≡ Some (q.export_variable what)) × (q.export_variable what < n)
 at_export n [] what e h = absurd (let no : ⊥ = cc in no)
 at_export n (s.declare x k ∷ ss) what e h = at_export n ss what e h.1

@@ -73,7 +73,7 @@ any_append p (x ∷ xs) ys (inl h) = by (or_either (p x) (list_any p xs) h) (λ 
 any_append p (x ∷ xs) ys (inr h) = or_second (p x) (list_any p (xs ++ ys)) (any_append p xs ys (inr h))
 
 -- what a member gives passes
-any_gathered : {X Y : Type 0} (p : Y → Bool) (f : X → List Y) (xs : List X) → list_any (λ x. list_any p (f x)) xs ≡ true → list_any p (gathered f xs) ≡ true
+pub any_gathered : {X Y : Type 0} (p : Y → Bool) (f : X → List Y) (xs : List X) → list_any (λ x. list_any p (f x)) xs ≡ true → list_any p (gathered f xs) ≡ true
 unfolding gathered
 any_gathered p f [] h = absurd (let no : ⊥ = cc in no)
 any_gathered p f (x ∷ xs) h = by (or_either (list_any p (f x)) (list_any (λ x. list_any p (f x)) xs) h) (any_gathered p f xs)
@@ -82,7 +82,7 @@ any_gathered p f (x ∷ xs) h = by (or_either (list_any p (f x)) (list_any (λ x
     by (inl k) rest = any_append p (f x) (gathered f xs) (inl k)
     by (inr k) rest = any_append p (f x) (gathered f xs) (inr (rest k))
 
-any_at : {X : Type 0} (p : X → Bool) (xs : List X) (k : ℕ) (x : X) → slice_get xs k ≡ Some x → p x ≡ true → list_any p xs ≡ true
+pub any_at : {X : Type 0} (p : X → Bool) (xs : List X) (k : ℕ) (x : X) → slice_get xs k ≡ Some x → p x ≡ true → list_any p xs ≡ true
 any_at p [] k x is h = absurd (let no : ⊥ = cc in no)
 any_at p (y ∷ xs) zero x is h = let same : y ≡ x = cc in or_first (p y) (list_any p xs) (ap p same ∙ h)
 any_at p (y ∷ xs) (suc k) x is h = or_second (p y) (list_any p xs) (any_at p xs k x is h)
@@ -92,7 +92,7 @@ found_cons : (p : Row → Bool) (x : Row) (rs : List Row) (k : ℕ) (r : Row) �
 found_cons p x rs zero r same rest is = let here : x ≡ r = cc in ap p (sym here) ∙ same
 found_cons p x rs (suc j) r same rest is = rest j is
 
-found_none : (p : Row → Bool) (rs : List Row) (k : ℕ) (r : Row) → first_place p rs ≡ None → slice_get rs k ≡ Some r → p r ≡ false
+pub found_none : (p : Row → Bool) (rs : List Row) (k : ℕ) (r : Row) → first_place p rs ≡ None → slice_get rs k ≡ Some r → p r ≡ false
 found_none p [] k r h is = absurd (let no : ⊥ = cc in no)
 found_none p (x ∷ rs) k r h is = by (p x) refl h (λ rest j is'. found_none p rs j r rest is')
   where

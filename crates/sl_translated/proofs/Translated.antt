@@ -88,7 +88,7 @@ default_by : (k n : ℕ) (b : Bool) → nat_lt k n ≡ b → 0 < n → unwrap_or
 default_by k n true is some = grind (arith, is)
 default_by k n false is some = some
 
-is_setting : (t : Tables) (address after : ℕ) → SpacesFit t → IsSetting (setting_of t address after)
+pub is_setting : (t : Tables) (address after : ℕ) → SpacesFit t → IsSetting (setting_of t address after)
 unfolding setting_of
 is_setting t address after fit =
     let long = length-map t.spaces (λ (x : Space). x.size) in

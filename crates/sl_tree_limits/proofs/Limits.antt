@@ -229,7 +229,7 @@ module _ (t : Tables) (cs : List (Placed Constructor)) (macros : List Body) (kee
   weights_covered : Covers t (weight_of macros cs) weight_value
   weights_covered = covers t cs (weight_of macros cs) (λ r. section_weight macros (macro_weights macros) r.1.1.section) weight_value keep.written keep.in_table (λ number c w e. ap (own_weight macros) e) weights_meet
 
-  row_light : (k : ℕ) (r : Row) → slice_get rs k ≡ Some r → row_weight macros weight_value r ≤ 65536
+  pub row_light : (k : ℕ) (r : Row) → slice_get rs k ≡ Some r → row_weight macros weight_value r ≤ 65536
   unfolding first_heavy
   row_light k r e =
       let test : is_heavy macros gs r ≡ false = none_passes (is_heavy macros gs) rs k r keep.light e in

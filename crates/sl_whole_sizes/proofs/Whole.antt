@@ -1,6 +1,6 @@
 -- Sizes that are found in the order in which constructors are shaped are those of the whole.
-use Rattle.std.proofs.Common.{◌≡◌, ℕ, zero, suc, ◌+◌, ◌<◌, ◌≤◌, ◌==◌, ◌||◌, ◌&&◌, Bool, true, false, cond, List, [], ◌∷◌, ◌++◌, length, map, get_or, Option, Some, None, refl, sym, ap, ◌∙◌, subst, arith}
-use Rattle.std.specs.Prelude.{⊤, fold, if◌then◌else◌, nat_lt, option_to_list, replicate, set, slice_get}
+use Rattle.std.proofs.Common.{◌≡◌, ℕ, zero, suc, ◌+◌, ◌<◌, ◌≤◌, ◌==◌, ◌||◌, ◌&&◌, ◌⊎◌, inl, inr, Bool, true, false, cond, List, [], ◌∷◌, ◌++◌, length, map, get_or, Option, Some, None, refl, sym, ap, ◌∙◌, subst, arith}
+use Rattle.std.specs.Prelude.{⊤, fold, if◌then◌else◌, nat_lt, option_and_then, option_map, option_to_list, replicate, set, slice_get}
 use Rattle.std.specs.List.{Contains, filter, flat_map, list_any, range_with_len, zip}
 use Rattle.std.proofs.lemmas.List.{length-map, length-replicate, length-set}
 use Rattle.std.proofs.lemmas.List.Elements.{Contains-append_left, Contains-append_right}
@@ -11,6 +11,8 @@ use Rattle.sl_ast.specs.Unfolding.{Placed}
 use Rattle.sl_constructors.specs.Listed.{AreListed}
 use Rattle.sl_constructors.proofs.MemberLemmas.{in_filter, in_gathered, in_map, of_gathered}
 use Rattle.sl_constructors.proofs.NumberLemmas.{in_numbers, numbered}
+use Rattle.sl_equations.specs.Known.{size_in}
+use Rattle.sl_equations.specs.Uses.{exported_size, exported_variable}
 use Rattle.sl_exports.specs.Exports.{if_so}
 use Rattle.sl_flat_sections.specs.FlatSections.{Flat}
 use Rattle.sl_heights.specs.Heights.{above, by_height}
@@ -20,14 +22,16 @@ use Rattle.sl_order.specs.Orders.{IsShapingOrder, appearing, graph, has, met, na
 use Rattle.sl_rules.specs.Gathered.{gathered}
 use Rattle.sl_section_sizes.specs.Ordering.{address_of, below, constructors, in_order, numbers, numbers_of, put_all, table_meant, with_section}
 use Rattle.sl_section_sizes.specs.SectionSizes.{unknown}
+use Rattle.sl_section.specs.Views.{bytes_of}
 use Rattle.sl_sizing.specs.Constructors.{Constructor}
 use Rattle.sl_sizing.specs.Laws.{AllFit, AreOrdered, FitsAll, NoneIsBelow, NoneIsOf, TablesAreBelow}
+use Rattle.sl_sizing.specs.Sizings.{AreSized, after, with_export}
 use Rattle.sl_sizing.proofs.LastLemmas.{of_the_whole}
 use Rattle.sl_spec.specs.Tables.{Ctor, Operand, Table}
 use Rattle.sl_spec.specs.declared.constructors.Means.{Means}
 use Rattle.sl_spec.specs.declared.constructors.Means.TheVariants as means
 use Rattle.sl_spec.specs.declared.tables.Tables.{Tables}
-use Rattle.sl_whole_sizes.specs.Laws.{SectionsFitTheWhole}
+use Rattle.sl_whole_sizes.specs.Laws.{IsExported, SectionsFitTheWhole}
 use Rattle.sl_word.specs.declared.word.Size.{Size}
 
 -- ---- lists
@@ -81,7 +85,10 @@ stands (x ∷ xs) (suc k) lt = let r = stands xs k (omega arith) in record { ite
 -- it is the constructor of this number, with its section
 record Came (xs : List Ctor) (ys : List Flat) (k : ℕ) (c : Constructor) : Type 0 where
   pub ctor : Ctor
+  pub flat : Flat
   pub there : slice_get xs k ≡ Some ctor
+  pub section : slice_get ys k ≡ Some flat
+  pub steps : c.steps ≡ flat.steps
   pub table : c.table ≡ ctor.table
   pub operands : c.operands ≡ map (λ (o : Operand). table_meant o.means) ctor.operands
 
@@ -90,10 +97,10 @@ came [] ys k c e = absurd (let no : ⊥ = cc in no)
 came (x ∷ xs) [] k c e = absurd (let no : ⊥ = cc in no)
 came (x ∷ xs) (y ∷ ys) zero c e =
     let s : with_section x y ≡ c = cc in
-    record { ctor = x; there = refl; table = ap (λ (z : Constructor). z.table) (sym s); operands = ap (λ (z : Constructor). z.operands) (sym s) }
+    record { ctor = x; flat = y; there = refl; section = refl; steps = ap (λ (z : Constructor). z.steps) (sym s); table = ap (λ (z : Constructor). z.table) (sym s); operands = ap (λ (z : Constructor). z.operands) (sym s) }
 came (x ∷ xs) (y ∷ ys) (suc k) c e =
     let r = came xs ys k c e in
-    record { ctor = r.ctor; there = r.there; table = r.table; operands = r.operands }
+    record { ctor = r.ctor; flat = r.flat; there = r.there; section = r.section; steps = r.steps; table = r.table; operands = r.operands }
 
 zipped : (xs : List Ctor) (ys : List Flat) (k : ℕ) (x : Ctor) (y : Flat) → slice_get xs k ≡ Some x → slice_get ys k ≡ Some y
     → slice_get (map (λ (r : Ctor × Flat). with_section r.0 r.1) (zip xs ys)) k ≡ Some (with_section x y)
@@ -385,9 +392,85 @@ module _ (t : Tables) (texts : List (Placed ast.Constructor)) (sections : List F
         look_by i is x.item found x.is (subst (λ (z : Option Constructor). AllFit (address_of t) last (option_to_list z ++ in_order cs is) found) x.is fit) number d c at
         (λ more fits inner. look is more fits (λ j y. inside j (further j i is y)) number inner c at)
 
+-- ---- where the sizes that tables export come from
+
+-- One of the constructors is the table's, and exports.
+record Exporter (table : ℕ) (cs : List Constructor) : Type 0 where
+  pub its : Constructor
+  pub there : Contains cs its
+  pub owner : its.table ≡ table
+  pub variable : ℕ
+  pub exports : exported_variable its.steps ≡ Some variable
+
+one_behind : (table : ℕ) (c : Constructor) (cs : List Constructor) → Exporter table cs → Exporter table (c ∷ cs)
+one_behind table c cs e = record { its = e.its; there = further e.its c cs e.there; owner = e.owner; variable = e.variable; exports = e.exports }
+
+variable_there : (sizes : List Size) (o : Option ℕ) (n : ℕ) → option_and_then (λ x. option_map bytes_of (slice_get sizes x)) o ≡ Some n → (x : ℕ) × (o ≡ Some x)
+variable_there sizes None n is = absurd (let no : ⊥ = cc in no)
+variable_there sizes (Some x) n is = (x, refl)
+
+module _ (table n : ℕ) (now : List (Option ℕ)) (c : Constructor) (more : List Constructor) (sizes : List Size) where
+  here_by : (size : Option ℕ) (b : Bool) → exported_size sizes c.steps ≡ size → (table == c.table) ≡ b → size_in (with_export now c.table size) table ≡ Some n
+      → (size_in now table ≡ Some n) ⊎ Exporter table (c ∷ more)
+  here_by None b exports is there = inl there
+  here_by (Some m) false exports is there =
+      let other : table ≡ c.table → ⊥ = (λ y. let no : ⊥ = grind (arith, y, is) in no) in
+      inl (sym (ap (option_and_then (λ k. k)) (get_set_other now c.table table (Some m) other)) ∙ there)
+  here_by (Some m) true exports is there =
+      let x = variable_there sizes (exported_variable c.steps) m exports in
+      inr (record { its = c; there = first_of c more; owner = sym (same table c.table is); variable = x.0; exports = x.1 })
+
+  of_one : (address : Option ℕ → ℕ) → size_in (after address now c sizes) table ≡ Some n → (size_in now table ≡ Some n) ⊎ Exporter table (c ∷ more)
+  of_one address there = here_by (exported_size sizes c.steps) (table == c.table) refl refl there
+
+module _ (address : Option ℕ → ℕ) (last : List (Option ℕ)) (table n : ℕ) (is : size_in last table ≡ Some n) where
+  comes_by : (now : List (Option ℕ)) (c : Constructor) (more : List Constructor) (sizes : List Size) → (size_in (after address now c sizes) table ≡ Some n) ⊎ Exporter table more
+      → (size_in now table ≡ Some n) ⊎ Exporter table (c ∷ more)
+  comes_by now c more sizes (inl there) = of_one table n now c more sizes address there
+  comes_by now c more sizes (inr e) = inr (one_behind table c more e)
+
+  -- a size that a table exports in the end was there, or a constructor exports it
+  comes : (now : List (Option ℕ)) (more : List Constructor) (sizes : List (List Size)) → AreSized address now more sizes last → (size_in now table ≡ Some n) ⊎ Exporter table more
+  comes now [] [] sized = inl (ap (λ (xs : List (Option ℕ)). size_in xs table) sized ∙ is)
+  comes now [] (s ∷ ss) sized = absurd sized
+  comes now (c ∷ more) [] sized = absurd sized
+  comes now (c ∷ more) (s ∷ ss) sized = comes_by now c more s (comes (after address now c s) more ss sized.1)
+
+none_known : (count table : ℕ) → size_in (replicate count None) table ≡ None
+none_known zero table = refl
+none_known (suc count) zero = refl
+none_known (suc count) (suc table) = none_known count table
+
+its_number : (o : Option Constructor) (c : Constructor) → Contains (option_to_list o) c → o ≡ Some c
+its_number None c h = absurd (let no : ⊥ = omega (arith, h.1) in no)
+its_number (Some x) c (zero, inside, here) = ap Some here
+its_number (Some x) c (suc k, inside, here) = absurd (let no : ⊥ = omega (arith, inside) in no)
+
+module _ (t : Tables) (sections : List Flat) where
+  exported_by : (table : ℕ) (is : List ℕ) → Exporter table (in_order (constructors t sections) is) → IsExported t sections table
+  exported_by table is e =
+      let i = of_gathered (λ i. option_to_list (slice_get (constructors t sections) i)) is e.its e.there in
+      let r = came t.constructors sections i.0 e.its (its_number (slice_get (constructors t sections) i.0) e.its i.2) in
+      record {
+        number = i.0;
+        c = r.ctor;
+        f = r.flat;
+        there = r.there;
+        section = r.section;
+        owner = sym r.table ∙ e.owner;
+        variable = e.variable;
+        exports = ap exported_variable (sym r.steps) ∙ e.exports;
+      }
+
+  table_is_exported : (table n : ℕ) (is : List ℕ) → (size_in (unknown t) table ≡ Some n) ⊎ Exporter table (in_order (constructors t sections) is) → IsExported t sections table
+  table_is_exported table n is (inl there) = absurd (let e : None ≡ Some n = sym (none_known (length t.tables) table) ∙ there in let no : ⊥ = cc in no)
+  table_is_exported table n is (inr e) = exported_by table is e
+
 pub fit_the_whole : SectionsFitTheWhole
 fit_the_whole t texts sections sizes l are = record {
   last = are.exports;
+  exported = λ table n is. table_is_exported t sections table n (numbers t (length (constructors t sections)) are.tables)
+      (comes (address_of t) are.exports table n is (unknown t) (in_order (constructors t sections) (numbers t (length (constructors t sections)) are.tables)) are.found are.are_sized);
   each = λ number c f at also.
       let there = zipped t.constructors sections number c f at also in
       let inside = slice_get_within (constructors t sections) number (with_section c f) there in

@@ -1,0 +1,4 @@
+//! The laws that what an accepted text defines lies where it can, and that a space is default.
+#![tactic(auto)]
+
+pub mod laws;

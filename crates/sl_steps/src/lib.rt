@@ -1,0 +1,4 @@
+//! What instructions do to a machine, one after another.
+#![tactic(auto)]
+
+pub mod laws;
