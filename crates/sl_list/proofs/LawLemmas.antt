@@ -22,12 +22,12 @@ mod_below n m some = mod-lt n some
 -- ---- whatever is shown
 
 -- something can be shown at each position
-record IsShown (shows : Shows) (at : ℕ) (cs : List Commit) : Type 0 where
-  text : List ℕ
-  count : ℕ
-  made : List Commit
-  shows_it : shows at cs text count made
-  some : 1 ≤ count
+pub record IsShown (shows : Shows) (at : ℕ) (cs : List Commit) : Type 0 where
+  pub text : List ℕ
+  pub count : ℕ
+  pub made : List Commit
+  pub shows_it : shows at cs text count made
+  pub some : 1 ≤ count
 
 -- two that are shown are one
 record AreOne (text other : List ℕ) (n m : ℕ) (ds es : List Commit) : Type 0 where
@@ -65,7 +65,7 @@ module _ (shows : Shows) (end : ℕ) (one : IsFunction shows) where
       let other = from_shown at cs text b n ds within s y in
       ap (λ (l : List ℕ). text ++ l) (lists_one (at + n) (cs ++ ds) rest other.rest more other.goes_on) ∙ sym other.whole_is
 
-has_listing : (shows : Shows) (end : ℕ) → ((at : ℕ) (cs : List Commit) → at < end → IsShown shows at cs) → (left at : ℕ) (cs : List Commit) → end ≤ at + left → (text : List ℕ) × Lists shows end at cs text
+pub has_listing : (shows : Shows) (end : ℕ) → ((at : ℕ) (cs : List Commit) → at < end → IsShown shows at cs) → (left at : ℕ) (cs : List Commit) → end ≤ at + left → (text : List ℕ) × Lists shows end at cs text
 has_listing shows end all zero at cs h = ([], ended (omega arith))
 has_listing shows end all (suc left) at cs h =
     elim (below_or_not at end) [
@@ -76,7 +76,7 @@ has_listing shows end all (suc left) at cs h =
           (s.text ++ more.0, shown within s.shows_it more.1)
     ]
 
-completed : (shows : Shows) (end : ℕ) → ((at : ℕ) (cs : List Commit) → at < end → IsShown shows at cs) → (at : ℕ) (cs : List Commit) (text : List ℕ) → Begins shows end at cs text
+pub completed : (shows : Shows) (end : ℕ) → ((at : ℕ) (cs : List Commit) → at < end → IsShown shows at cs) → (at : ℕ) (cs : List Commit) (text : List ℕ) → Begins shows end at cs text
     → (rest : List ℕ) × Lists shows end at cs (text ++ rest)
 completed shows end all at cs text (stopped) = has_listing shows end all end at cs (omega arith)
 completed shows end all at cs text (begun {at = a} {n = n} {cs = b} {ds = ds} {text = t} {rest = r} within s more) =
@@ -147,7 +147,7 @@ module _ (s : Subject) where
         let x = some_context s.start cs (s.base + at) in
         by_result x.0 (told_at s at x.0) aligned x.1 x.2 refl (g.lengths _ _ _)
 
-    is_shown : IsShown (Listed s) at cs
+    pub is_shown : IsShown (Listed s) at cs
     is_shown = elim (zero_or_not ((s.base + at) % s.alignment)) [
       | inl aligned ↦ aligned_shown aligned
       | inr beyond ↦ record {

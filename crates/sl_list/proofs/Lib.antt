@@ -1,3 +1,4 @@
+pub mod KeptLemmas
 pub mod LawLemmas
 pub mod ListLemmas
 pub mod ShowLemmas

@@ -1,4 +1,5 @@
 pub mod Instructions
+pub mod Kept
 pub mod Laws
 pub mod Lines
 pub mod Listings

@@ -78,7 +78,7 @@ impl<B: Drop> ListBuffers<B> {
 
 /// The length of an instruction. One without bytes, or with more than a line shows, is answered as
 /// want of memory: rules 35 and 37 let none be so.
-fn count_of(length: u32) -> Result<usize, AllocError>
+pub fn count_of(length: u32) -> Result<usize, AllocError>
     ensures same { IfOk result (λ n. n ≡ length) }
     ensures some { IfOk result (λ n. 1 ≤ n) }
     ensures most { IfOk result (λ n. n ≤ MOST_BYTES) }
@@ -91,7 +91,7 @@ fn count_of(length: u32) -> Result<usize, AllocError>
 }
 
 /// The mark of an instruction that doesn't decode.
-fn mark_of(fault: Fault) -> &'static [u8]
+pub fn mark_of(fault: Fault) -> &'static [u8]
     ensures { result.now ≡ mark_of fault }
 {
     match fault {
@@ -102,7 +102,7 @@ fn mark_of(fault: Fault) -> &'static [u8]
 }
 
 /// The bytes from this place of the image on, which zeros follow.
-fn window_at(image: &[u8], at: usize) -> [u8; WINDOW]
+pub fn window_at(image: &[u8], at: usize) -> [u8; WINDOW]
     requires { at ≤ length image.now }
     ensures { result ≡ bytes_at image.now at window }
 {
@@ -114,7 +114,7 @@ fn window_at(image: &[u8], at: usize) -> [u8; WINDOW]
 }
 
 /// Puts a line in the place of what the buffer holds.
-fn put_line(
+pub fn put_line(
     line: &mut Vec<u8>,
     size: AddressSize,
     address: u64,

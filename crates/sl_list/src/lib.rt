@@ -8,7 +8,9 @@ mod listings;
 mod specified;
 mod writing;
 
-pub use instructions::{Decoder, ListBuffers, Listing, WINDOW};
-pub use lines::push_listed;
+pub use instructions::{
+    Decoder, ListBuffers, Listing, WINDOW, count_of, mark_of, put_line, window_at,
+};
+pub use lines::{MOST_BYTES, push_listed};
 pub use listings::{ListError, Lister, list_all};
 pub use specified::Specified;

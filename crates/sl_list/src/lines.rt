@@ -8,7 +8,7 @@ use sl_word::AddressSize;
 use std::alloc::AllocError;
 
 /// The most bytes that a line shows.
-pub(crate) const MOST_BYTES: usize = 255;
+pub const MOST_BYTES: usize = 255;
 
 /// Appends the bytes in hexadecimal, two digits each.
 fn push_hex(out: &mut Vec<u8>, bytes: &[u8]) -> Result<(), AllocError>

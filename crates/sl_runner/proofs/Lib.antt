@@ -1,0 +1,9 @@
+pub mod ChangeLemmas
+mod CountedLemmas
+mod KeptLemmas
+pub mod LawLemmas
+mod OpeningLemmas
+mod RunLemmas
+mod StepsLemmas
+mod TextLemmas
+mod ToldLemmas

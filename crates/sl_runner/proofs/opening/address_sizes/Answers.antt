@@ -1,0 +1,30 @@
+use Rattle.std.proofs.Common.{◌<◌, ℕ, length, map, ap, ◌∙◌, arith}
+use Rattle.std.proofs.lemmas.List.{take_all}
+use Rattle.sl_spec.specs.Tables.{Space}
+use Rattle.sl_tables.proofs.PositionLemmas.{at_slice}
+use Rattle.sl_tables.proofs.RowLemmas.{made_more}
+use Rattle.sl_word.specs.Sizes.{byte_counts}
+use Rattle.sl_word.specs.declared.word.AddressSize.{AddressSize}
+use Rattle.sl_runner.proofs.opening.address_sizes.Goals as goal
+
+abbrev size : Space → ℕ
+size s = s.size
+
+abbrev bytes : AddressSize → ℕ
+bytes a = a.bytes
+
+pub spaces-preserved : goal.spaces-preserved
+spaces-preserved c =
+    let spaces = c.args.tables.now.spaces in
+    let i = c.spaces.number in
+    let s = c.member.result.now in
+    let below : i < length spaces = omega (arith, c.spaces-test.true, c.len-number-end.ensures) in
+    ap byte_counts c.in_ok-push.ensures.items
+    ∙ made_more bytes size spaces c.spaces.sizes.items c.size_of.result s i below
+    (at_slice spaces i s c.member.ensures) c.size_of.ensures c.spaces.invariant
+
+pub returns : goal.returns
+returns c =
+    let spaces = c.args.tables.now.spaces in
+    c.spaces.invariant ∙ ap (map size)
+    (take_all c.spaces.number spaces (omega (arith, c.spaces-test.false, c.len-number-end.ensures)))

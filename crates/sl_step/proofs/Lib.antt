@@ -1,0 +1,6 @@
+pub mod AddressLemmas
+pub mod AfterLemmas
+pub mod ByteLemmas
+pub mod ReadLemmas
+pub mod StepLemmas
+pub mod WindowLemmas

@@ -1,0 +1,4 @@
+pub mod Machines
+pub mod Outcomes
+pub mod Stages
+pub mod Stands

@@ -1,0 +1,36 @@
+-- meaning: which specification a stepper runs.
+use Rattle.std.specs.Prelude.{◌≡◌, Ok, position, Some}
+use Rattle.sl_ast.specs.Views.{items_of}
+use Rattle.sl_bind.specs.Binding.{Binds}
+use Rattle.sl_bound_translations.specs.Laws.{IsShort}
+use Rattle.sl_build.specs.Stands as sections
+use Rattle.sl_choices.specs.Choosers.{chosen}
+use Rattle.sl_compile.specs.Outcomes.{Compiles}
+use Rattle.sl_decoding.specs.Actions.{address_bytes}
+use Rattle.sl_decoding.specs.Laws.{Choice}
+use Rattle.sl_instruction.specs.Instructions.{Specification, specification_of}
+use Rattle.sl_lister.specs.Disassemblies as disassembly
+use Rattle.sl_sizing.specs.Sizings.{lists_of}
+use Rattle.sl_step.specs.declared.stepper.Stepper.{Stepper}
+
+-- the specification that was compiled
+abbrev pub specification_in : Stepper → Specification
+specification_in x = specification_of (items_of x.compiled.now.bound.spec)
+    x.compiled.now.bound.tables (lists_of x.compiled.now.bound.sizes.items)
+
+-- which constructor is chosen
+abbrev pub choice_in : Stepper → Choice
+choice_in x = chosen x.disassembly.disassembler.choosers
+
+-- It decodes and builds the instructions of a specification that is accepted, and chooses the most
+-- specific constructors.
+pub record StandsFor (x : Stepper) : Type 0 where
+  pub short : IsShort (items_of x.compiled.now.bound.spec)
+  pub binds : Binds (items_of x.compiled.now.bound.spec)
+      (Ok ((specification_in x).tables, (specification_in x).sizes))
+  pub compiles : Compiles (items_of x.compiled.now.bound.spec) (Ok (specification_in x).tables)
+  pub decodes : disassembly.StandsFor x.disassembly (specification_in x).tables
+      (specification_in x).constructors
+  pub builds : sections.StandsFor x.sections (specification_in x)
+  pub space : position (λ z. z.default) (specification_in x).tables.spaces ≡ Some x.space.0
+  pub size : x.size.bytes ≡ address_bytes (specification_in x).tables
