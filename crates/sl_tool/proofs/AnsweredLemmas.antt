@@ -1,5 +1,5 @@
 -- Stages that stop, what was written by then, and the names that were asked for.
-use Rattle.std.proofs.Common.{◌≡◌, ℕ, ◌+◌, ◌≤◌, List, [], ◌∷◌, ◌++◌, Option, Some, None, Result, Ok, Err, refl, sym, ap, subst, ◌∙◌, length, take, min, inl, inr, append-nil, append_assoc, arith}
+use Rattle.std.proofs.Common.{ℕ, ◌+◌, ◌^◌, ◌<◌, ◌≤◌, List, [], ◌++◌, Option, Some, None, Result, Ok, Err, refl, sym, ap, subst, ◌∙◌, length, take, min, inl, inr, append-nil, append_assoc, arith}
 use Rattle.std.proofs.KnownBytes.{Appends-nil}
 use Rattle.std.proofs.Math.Seq.{take-append-add}
 use Rattle.std.proofs.lemmas.List.{take-append-le, take_min}
@@ -7,22 +7,20 @@ use Rattle.sl_outside.specs.Causes.{Rose}
 use Rattle.sl_outside.specs.Folder.{Folder}
 use Rattle.sl_outside.specs.Uses.{Names, Asks, AsksFront, UsesFiles, UsesSink}
 use Rattle.sl_preproc.specs.Asks.{AsksFor as AsksForText}
-use Rattle.sl_request.specs.Requests.{Target}
-use Rattle.sl_sets.proofs.Surely.{Surely, surely, surely_map, surely_then}
-use Rattle.sl_tool.specs.Answers.{AsksAfter, AsksFor, AsksForImage, Due, UsesFilesFor}
-use Rattle.sl_tool.specs.Answers.AsksFor.{unread, read}
-use Rattle.sl_tool.specs.Answers.AsksForImage.{refused, accepted}
-use Rattle.sl_tool.specs.Outcomes.{FailsToRead, FailsToWrite, Gives, IsEarly, IsReadFault, Obtains, StopsEarly, Streams, Writes, WritesFront}
-use Rattle.sl_tool.specs.Request.{CheckSpec, ListImage, Request, RunImage, spec_of}
-use Rattle.sl_tool.specs.Stage.{HasSomeResult, Stage, Then}
+use Rattle.sl_settle.proofs.Surely.{Surely, surely, surely_map}
+use Rattle.sl_tool.specs.Answers.{AsksFrom, Due, Shows, UsesFilesFor, asked_after}
+use Rattle.sl_tool.specs.Answers.AsksFrom.{sound, unsound}
+use Rattle.sl_tool.specs.Outcomes.{FailsToRead, FailsToWrite, Gives, Grew, IsEarly, IsReadFault, Obtains, RanNone, StopsEarly, Streams, Writes, WritesFront}
+use Rattle.sl_tool.specs.Request.{Request, spec_of}
+use Rattle.sl_tool.specs.Stage.{Stage, Then}
 use Rattle.sl_tool.specs.Stage.Then.{stops, goes}
-use Rattle.sl_tool.specs.Stages.{Accepts, Compiles, Reads}
-use Rattle.sl_tool.specs.Values.{Shown, Tree, shown}
+use Rattle.sl_tool.specs.Stages.{Specifies}
+use Rattle.sl_tool.specs.Values.{Compiled, Shown, shown}
 use Rattle.sl_tool.specs.declared.halt.Halt.{Halt}
 use Rattle.sl_tool.specs.declared.halt.Halt.TheVariants.{Refused, ReadFault, WriteFault, NoMemory}
 use Rattle.sl_tool.specs.declared.refusal.Refusal.{Refusal}
 use Rattle.sl_tool.specs.declared.status.Ending.{Ending}
-use Rattle.sl_tool.proofs.StageLemmas.{accepts_some, compiles_some, reads_some}
+use Rattle.sl_tool.proofs.StageLemmas.{specifies_some}
 
 pub gives_obtains : {T B : Type 0} (S : Result B Refusal → Type 0) (view : T → B) (h : Halt) → Gives S view (Err h) → Obtains S view (Err h)
 gives_obtains S view (Refused x) g = g
@@ -46,37 +44,50 @@ gives_goes S R a b later ReadFault s g = g
 gives_goes S R a b later WriteFault s g = g
 gives_goes S R a b later NoMemory s g = g
 
--- ---- what was written
+-- ---- what was written, and how many operations ran
+
+-- a count stays where no operation ran
+pub grew_none : (c ran : ℕ) → c < 2 ^ 64 → RanNone ran → Grew c c ran
+grew_none c ran small none = omega (arith, small, none)
 
 -- a stage that stops, before anything was written
-pub stop_writes : {T B : Type 0} (S : Result B Refusal → Type 0) (view : T → B) (R : Result Shown Refusal → Type 0) (a : Option (List ℕ)) (h : Halt)
-    → ((e : Refusal) → S (Err e) → R (Err e)) → Obtains S view (Err h) → Writes R a a (Err h)
-stop_writes S view R a (Refused x) f g = (f x g, Appends-nil a)
-stop_writes S view R a ReadFault f g = Appends-nil a
-stop_writes S view R a WriteFault f g = absurd g
-stop_writes S view R a NoMemory f g = inl (Appends-nil a)
+pub stop_writes : {T B : Type 0} (S : Result B Refusal → Type 0) (view : T → B) (R : Result Shown Refusal → Type 0) (a : Option (List ℕ)) (G : ℕ → Type 0) (h : Halt)
+    → ((e : Refusal) → S (Err e) → R (Err e)) → G 0 → Obtains S view (Err h) → Writes R a a G (Err h)
+stop_writes S view R a G (Refused x) f n g = (f x g, Appends-nil a, n)
+stop_writes S view R a G ReadFault f n g = (Appends-nil a, n)
+stop_writes S view R a G WriteFault f n g = absurd g
+stop_writes S view R a G NoMemory f n g = inl (Appends-nil a)
 
 front_map : (S R : Result Shown Refusal → Type 0) (a b : Option (List ℕ)) → ((r : Result Shown Refusal) → S r → R r) → WritesFront S a b → WritesFront R a b
 front_map S R a b f w = (w.0, w.1, f w.0 w.2, w.3)
 
 -- what was written of one stage was written of a row of stages that comes to the same
-pub writes_map : (S R : Result Shown Refusal → Type 0) (a b : Option (List ℕ)) (x : Result Ending Halt) → ((r : Result Shown Refusal) → S r → R r) → Writes S a b x → Writes R a b x
-writes_map S R a b (Ok e) f g = (g.0, f (Ok (shown e g.0)) g.1, g.2)
-writes_map S R a b (Err (Refused x)) f g = (f (Err x) g.0, g.1)
-writes_map S R a b (Err ReadFault) f g = g
-writes_map S R a b (Err WriteFault) f g = front_map S R a b f g
-writes_map S R a b (Err NoMemory) f (inl w) = inl w
-writes_map S R a b (Err NoMemory) f (inr w) = inr (front_map S R a b f w)
+pub writes_map : (S R : Result Shown Refusal → Type 0) (a b : Option (List ℕ)) (G : ℕ → Type 0) (x : Result Ending Halt)
+    → ((r : Result Shown Refusal) → S r → R r) → Writes S a b G x → Writes R a b G x
+writes_map S R a b G (Ok e) f g = (g.0, g.1, f (Ok (shown e g.0 g.1)) g.2, g.3, g.4)
+writes_map S R a b G (Err (Refused x)) f g = (f (Err x) g.0, g.1, g.2)
+writes_map S R a b G (Err ReadFault) f g = g
+writes_map S R a b G (Err WriteFault) f g = front_map S R a b f g
+writes_map S R a b G (Err NoMemory) f (inl w) = inl w
+writes_map S R a b G (Err NoMemory) f (inr w) = inr (front_map S R a b f w)
 
 -- a command that writes what is due
-pub show_writes : (S : Result Shown Refusal → Type 0) (due : Due) (a b : Option (List ℕ)) (x : Result Ending Halt)
-    → ((e : Ending) (text : List ℕ) → due e text → S (Ok (shown e text))) → Streams due a b x → Writes S a b x
-show_writes S due a b (Ok s) f g = (g.0, f s g.0 g.1, g.2)
-show_writes S due a b (Err (Refused x)) f g = absurd g
-show_writes S due a b (Err ReadFault) f g = absurd g
-show_writes S due a b (Err WriteFault) f g = (Ok (shown g.0 g.1), g.2, f g.0 g.1 g.3, g.4)
-show_writes S due a b (Err NoMemory) f (inl w) = inl w
-show_writes S due a b (Err NoMemory) f (inr g) = inr (Ok (shown g.0 g.1), g.2, f g.0 g.1 g.3, g.4)
+pub show_writes : {A : Type 0} (due : A → Due) (l : A) (a b : Option (List ℕ)) (G : ℕ → Type 0) (x : Result Ending Halt)
+    → Streams (due l) a b G x → Writes (Shows due l) a b G x
+show_writes due l a b G (Ok e) g = g
+show_writes due l a b G (Err (Refused x)) g = absurd g
+show_writes due l a b G (Err ReadFault) g = absurd g
+show_writes due l a b G (Err WriteFault) g = (Ok g.0, g.1, g.2, g.3)
+show_writes due l a b G (Err NoMemory) (inl w) = inl w
+show_writes due l a b G (Err NoMemory) (inr g) = inr (Ok g.0, g.1, g.2, g.3)
+
+-- what is written without a runner leaves the count of each as it was
+pub streams_alike : (due : Due) (a b : Option (List ℕ)) (c : ℕ) (x : Result Ending Halt) → c < 2 ^ 64 → Streams due a b RanNone x → Streams due a b (Grew c c) x
+streams_alike due a b c (Ok e) small g = (g.0, g.1, g.2, g.3, grew_none c g.1 small g.4)
+streams_alike due a b c (Err (Refused x)) small g = g
+streams_alike due a b c (Err ReadFault) small g = g
+streams_alike due a b c (Err WriteFault) small g = g
+streams_alike due a b c (Err NoMemory) small g = g
 
 -- a stage that stops doesn't use the sink
 pub stop_sink : {T B K : Type 0} (S : Result B Refusal → Type 0) (view : T → B) (faults calls : K → ℕ) (out : K) (h : Halt) → Obtains S view (Err h)
@@ -87,12 +98,12 @@ stop_sink S view faults calls out WriteFault g = absurd g
 stop_sink S view faults calls out NoMemory g = record { never_falls = omega arith; failed = λ f. absurd f; goes_on = omega arith }
 
 -- what writes reads nothing
-pub never_reads : (due : Due) (a b : Option (List ℕ)) (x : Result Ending Halt) → Streams due a b x → FailsToRead x → ⊥
-never_reads due a b (Ok s) g f = f
-never_reads due a b (Err (Refused x)) g f = f
-never_reads due a b (Err ReadFault) g f = g
-never_reads due a b (Err WriteFault) g f = f
-never_reads due a b (Err NoMemory) g f = f
+pub never_reads : (due : Due) (a b : Option (List ℕ)) (G : ℕ → Type 0) (x : Result Ending Halt) → Streams due a b G x → FailsToRead x → ⊥
+never_reads due a b G (Ok s) g f = f
+never_reads due a b G (Err (Refused x)) g f = f
+never_reads due a b G (Err ReadFault) g f = g
+never_reads due a b G (Err WriteFault) g f = f
+never_reads due a b G (Err NoMemory) g f = f
 
 -- a stage that stops and reads nothing
 pub stop_unread : {T B : Type 0} (S : Result B Refusal → Type 0) (view : T → B) (h : Halt) → Gives S view (Err h) → FailsToRead {T = Ending} (Err h) → ⊥
@@ -101,8 +112,8 @@ stop_unread S view ReadFault g f = g
 stop_unread S view WriteFault g f = f
 stop_unread S view NoMemory g f = f
 
-pub show_unwritten : {P : Type 0} (due : Due) (a b : Option (List ℕ)) (x : Result Ending Halt) → Streams due a b x → FailsToRead x → P
-show_unwritten due a b x g f = absurd (never_reads due a b x g f)
+pub show_unwritten : {P : Type 0} (due : Due) (a b : Option (List ℕ)) (G : ℕ → Type 0) (x : Result Ending Halt) → Streams due a b G x → FailsToRead x → P
+show_unwritten due a b G x g f = absurd (never_reads due a b G x g f)
 
 -- ---- names
 
@@ -146,33 +157,18 @@ front_after a b c names more all w = (
 rose_more : (a b c : ℕ) → a ≤ b → Rose b c → Rose a c
 rose_more a b c h k = omega (arith, h, k)
 
--- the image is asked for, or it isn't
-image_some : {B : Type 0} (S : Stage Refusal Tree B) (t : Target) (u : Tree) → HasSomeResult S u → Surely ((names : List (List ℕ)) × AsksForImage S t u names)
-image_some {B = B} S t u some = surely_map by some
-  where
-    by : (q : Result B Refusal) × S u q → (names : List (List ℕ)) × AsksForImage S t u names
-    by (Err x, j) = ([], refused j)
-    by (Ok b, j) = (t.image ∷ [], accepted j)
-
-after_some : (r : Request) (u : Tree) → Surely ((names : List (List ℕ)) × AsksAfter r u names)
-after_some (CheckSpec spec) u = surely (let p : (names : List (List ℕ)) × (names ≡ []) = ([], refl) in p)
-after_some (ListImage t) u = image_some Compiles t u (compiles_some u)
-after_some (RunImage t steps) u = image_some Accepts t u (accepts_some u)
-
 abbrev pub FrontDue : (List (List ℕ) → Type 0) → Names → Names → Type 0
 FrontDue due a b = (names : List (List ℕ)) × due names × AsksFront a b names
 
--- what was asked for by now is the front of what is due, whatever becomes of the text
+-- what was asked for by now is the front of what is due, whatever becomes of the specification
 front_by : (told : Option Folder) (r : Request) (names : List (List ℕ)) (a b : Names) → AsksForText told (spec_of r) names → AsksFront a b names
-    → (q : Result Tree Refusal) × Reads told (spec_of r) q → Surely (FrontDue (AsksFor told r) a b)
-front_by told r names a b text front (Err x, j) = surely (let p : FrontDue (AsksFor told r) a b = (names, unread text j, front) in p)
-front_by told r names a b text front (Ok u, j) =
-    surely_map (λ (m : (more : List (List ℕ)) × AsksAfter r u more).
-    let p : FrontDue (AsksFor told r) a b = (names ++ m.0, read names m.0 text j m.1, front_more a b names m.0 front) in p) (after_some r u)
+    → (q : Result Compiled Refusal) × Specifies told (spec_of r) q → FrontDue (AsksFrom told r) a b
+front_by told r names a b text front (Err x, j) = (names, unsound text j, front)
+front_by told r names a b text front (Ok u, j) = (names ++ asked_after r, sound names text j, front_more a b names (asked_after r) front)
 
 pub front_due : (told : Option Folder) (r : Request) (names : List (List ℕ)) (a b : Names) → AsksForText told (spec_of r) names → AsksFront a b names
-    → Surely (FrontDue (AsksFor told r) a b)
-front_due told r names a b text front = surely_then (reads_some told (spec_of r)) (front_by told r names a b text front)
+    → Surely (FrontDue (AsksFrom told r) a b)
+front_due told r names a b text front = surely_map (front_by told r names a b text front) (specifies_some told (spec_of r))
 
 module _ {F : Type 0} (told : F → Option Folder) (faults : F → ℕ) (asked : F → Names) where
   abbrev Uses : F → F → List (List ℕ) → Type 0 → Type 0 → Type 0
@@ -181,62 +177,26 @@ module _ {F : Type 0} (told : F → Option Folder) (faults : F → ℕ) (asked :
   abbrev UsesFor : (List (List ℕ) → Type 0) → F → F → Type 0 → Type 0 → Type 0
   UsesFor = UsesFilesFor told faults asked
 
-  -- a part that asks for nothing
-  idle : (due : List (List ℕ) → Type 0) (old : F) (early fails : Type 0) → Surely ((names : List (List ℕ)) × due names) → ((early → ⊥) → due []) → (fails → ⊥)
-      → UsesFor due old old early fails
-  idle due old early fails some none never = record {
+  -- a command that reads nothing asks for nothing
+  pub idle : (old : F) (early fails : Type 0) → (fails → ⊥) → Uses old old [] early fails
+  idle old early fails never = record {
     same_folder = refl;
     never_falls = omega arith;
     failed = λ f. absurd (never f);
-    asks_front = surely_map (λ (n : (names : List (List ℕ)) × due names).
-        let p : FrontDue due (asked old) (asked old) = (n.0, n.1, (0, Asks-nil (asked old))) in p) some;
-    asks_all = λ n. ([], none n, Asks-nil (asked old));
+    asks_front = (0, Asks-nil (asked old));
+    asks_all = λ n. Asks-nil (asked old);
   }
 
-  -- a command that reads nothing
-  pub asks_nothing : (old : F) (x : Result Ending Halt) → (FailsToRead x → ⊥) → UsesFor (λ names. names ≡ []) old old (IsEarly x) (FailsToRead x)
-  asks_nothing old x never =
-      idle (λ names. names ≡ []) old (IsEarly x) (FailsToRead x) (surely (let p : (names : List (List ℕ)) × (names ≡ []) = ([], refl) in p)) (λ n. refl) never
-
-  -- ---- the image
-
-  module _ {C : Type 0} (R : Stage Refusal Tree C) (t : Target) (u : Tree) (some : HasSomeResult R u) where
-    -- a stage that reads nothing stopped
-    pub stop_pure : {T B : Type 0} (S : Result B Refusal → Type 0) (view : T → B) (old : F) (h : Halt)
-        → ((e : Refusal) → S (Err e) → R u (Err e)) → Gives S view (Err h)
-        → UsesFor (AsksForImage R t u) old old (IsEarly {T = Ending} (Err h)) (FailsToRead {T = Ending} (Err h))
-    stop_pure S view old (Refused x) f g = idle (AsksForImage R t u) old _ _ (image_some R t u some) (λ n. refused (f x g)) (λ e. e)
-    stop_pure S view old ReadFault f g = absurd g
-    stop_pure S view old WriteFault f g = absurd g
-    stop_pure S view old NoMemory f g = idle (AsksForImage R t u) old _ _ (image_some R t u some) (λ n. absurd (n tt)) (λ e. e)
-
-    -- the image was asked for
-    pub imaged : (old new : F) (b : C) (early fails : Type 0) → R u (Ok b) → Uses old new (t.image ∷ []) early fails → UsesFor (AsksForImage R t u) old new early fails
-    imaged old new b early fails j v = record {
-      same_folder = v.same_folder;
-      never_falls = v.never_falls;
-      failed = v.failed;
-      asks_front = surely (let p : FrontDue (AsksForImage R t u) (asked old) (asked new) = (t.image ∷ [], accepted j, v.asks_front) in p);
-      asks_all = λ n. (t.image ∷ [], accepted j, v.asks_all n);
-    }
-
-    -- the image could not be had, or was refused
-    pub stop_image : (old new : F) (b : C) (h : Halt) → R u (Ok b) → Uses old new (t.image ∷ []) (StopsEarly h) (IsReadFault h)
-        → UsesFor (AsksForImage R t u) old new (StopsEarly h) (IsReadFault h)
-    stop_image old new b h j v = imaged old new b (StopsEarly h) (IsReadFault h) j v
-
-    -- all files were read
-    pub read_all : (old new : F) (b : C) (early fails : Type 0) (due : Due) (x y : Option (List ℕ)) (q : Result Ending Halt) → R u (Ok b)
-        → Uses old new (t.image ∷ []) early fails → (early → ⊥) → Streams due x y q → UsesFor (AsksForImage R t u) old new (IsEarly q) (FailsToRead q)
-    read_all old new b early fails due x y q j v also s =
-        let w = imaged old new b early fails j v in
-        record {
-          same_folder = w.same_folder;
-          never_falls = w.never_falls;
-          failed = λ h. absurd (never_reads due x y q s h);
-          asks_front = w.asks_front;
-          asks_all = λ n. w.asks_all also;
-        }
+  -- files were read, and a command that writes reads nothing more
+  pub read_all : (old new : F) (names : List (List ℕ)) (early fails : Type 0) (due : Due) (x y : Option (List ℕ)) (G : ℕ → Type 0) (q : Result Ending Halt)
+      → Uses old new names early fails → (early → ⊥) → Streams due x y G q → Uses old new names (IsEarly q) (FailsToRead q)
+  read_all old new names early fails due x y G q v also s = record {
+    same_folder = v.same_folder;
+    never_falls = v.never_falls;
+    failed = λ h. absurd (never_reads due x y G q s h);
+    asks_front = v.asks_front;
+    asks_all = λ n. v.asks_all also;
+  }
 
   -- ---- the text, and what is asked for after it
 
@@ -245,17 +205,17 @@ module _ {F : Type 0} (told : F → Option Folder) (faults : F → ℕ) (asked :
     abbrev AsksText : F → F → Type 0 → Type 0 → Type 0
     AsksText old new early fails = (names : List (List ℕ)) × AsksForText (told old) (spec_of r) names × Uses old new names early fails
 
-    refuses : (old new : F) (early fails f : Type 0) (x : Refusal) → Reads (told old) (spec_of r) (Err x) → AsksText old new early fails → (early → ⊥) → (f → ⊥)
-        → UsesFor (AsksFor (told old) r) old new ⊥ f
+    refuses : (old new : F) (early fails f : Type 0) (x : Refusal) → Specifies (told old) (spec_of r) (Err x) → AsksText old new early fails → (early → ⊥) → (f → ⊥)
+        → UsesFor (AsksFrom (told old) r) old new ⊥ f
     refuses old new early fails f x j w never no_fault = record {
       same_folder = w.2.same_folder;
       never_falls = w.2.never_falls;
       failed = λ h. absurd (no_fault h);
-      asks_front = surely (let p : FrontDue (AsksFor (told old) r) (asked old) (asked new) = (w.0, unread w.1 j, w.2.asks_front) in p);
-      asks_all = λ n. (w.0, unread w.1 j, w.2.asks_all never);
+      asks_front = surely (let p : FrontDue (AsksFrom (told old) r) (asked old) (asked new) = (w.0, unsound w.1 j, w.2.asks_front) in p);
+      asks_all = λ n. (w.0, unsound w.1 j, w.2.asks_all never);
     }
 
-    stops_early : (old new : F) (early fails f : Type 0) → AsksText old new early fails → (f → Rose (faults old) (faults new)) → UsesFor (AsksFor (told old) r) old new (Unit {0}) f
+    stops_early : (old new : F) (early fails f : Type 0) → AsksText old new early fails → (f → Rose (faults old) (faults new)) → UsesFor (AsksFrom (told old) r) old new (Unit {0}) f
     stops_early old new early fails f w failed = record {
       same_folder = w.2.same_folder;
       never_falls = w.2.never_falls;
@@ -266,9 +226,9 @@ module _ {F : Type 0} (told : F → Option Folder) (faults : F → ℕ) (asked :
 
     -- the text could not be had, or was refused
     pub stop_first : {T B : Type 0} (S : Result B Refusal → Type 0) (view : T → B) (old new : F) (h : Halt)
-        → ((e : Refusal) → S (Err e) → Reads (told old) (spec_of r) (Err e)) → Obtains S view (Err h)
+        → ((e : Refusal) → S (Err e) → Specifies (told old) (spec_of r) (Err e)) → Obtains S view (Err h)
         → AsksText old new (IsEarly {T = T} (Err h)) (FailsToRead {T = T} (Err h))
-        → UsesFor (AsksFor (told old) r) old new (IsEarly {T = Ending} (Err h)) (FailsToRead {T = Ending} (Err h))
+        → UsesFor (AsksFrom (told old) r) old new (IsEarly {T = Ending} (Err h)) (FailsToRead {T = Ending} (Err h))
     stop_first S view old new (Refused x) f g w = refuses old new _ _ _ x (f x g) w (λ e. e) (λ e. e)
     stop_first S view old new ReadFault f g w = stops_early old new _ _ _ w (λ e. w.2.failed e)
     stop_first S view old new WriteFault f g w = absurd g
@@ -276,26 +236,24 @@ module _ {F : Type 0} (told : F → Option Folder) (faults : F → ℕ) (asked :
 
     -- the text was read and spells no tree
     pub stop_second : {T B : Type 0} (S : Result B Refusal → Type 0) (view : T → B) (old new : F) (early fails : Type 0) (h : Halt)
-        → ((e : Refusal) → S (Err e) → Reads (told old) (spec_of r) (Err e)) → Gives S view (Err h) → AsksText old new early fails → (early → ⊥)
-        → UsesFor (AsksFor (told old) r) old new (IsEarly {T = Ending} (Err h)) (FailsToRead {T = Ending} (Err h))
+        → ((e : Refusal) → S (Err e) → Specifies (told old) (spec_of r) (Err e)) → Gives S view (Err h) → AsksText old new early fails → (early → ⊥)
+        → UsesFor (AsksFrom (told old) r) old new (IsEarly {T = Ending} (Err h)) (FailsToRead {T = Ending} (Err h))
     stop_second S view old new early fails (Refused x) f g w never = refuses old new early fails _ x (f x g) w never (λ e. e)
     stop_second S view old new early fails ReadFault f g w never = absurd g
     stop_second S view old new early fails WriteFault f g w never = absurd g
     stop_second S view old new early fails NoMemory f g w never = stops_early old new early fails _ w (λ e. absurd e)
 
-    -- the tree is there, and what follows asks for its own names
-    pub follows : (old mid new : F) (u : Tree) (early fails e f : Type 0) → Reads (told old) (spec_of r) (Ok u) → AsksText old mid early fails → (early → ⊥)
-        → UsesFor (AsksAfter r u) mid new e f → UsesFor (AsksFor (told old) r) old new e f
+    -- the specification is sound, and what follows asks for its own names
+    pub follows : (old mid new : F) (u : Compiled) (early fails e f : Type 0) → Specifies (told old) (spec_of r) (Ok u) → AsksText old mid early fails → (early → ⊥)
+        → Uses mid new (asked_after r) e f → UsesFor (AsksFrom (told old) r) old new e f
     follows old mid new u early fails e f j w never v =
         let all = w.2.asks_all never in
         record {
           same_folder = v.same_folder ∙ w.2.same_folder;
           never_falls = omega (arith, w.2.never_falls, v.never_falls);
           failed = λ h. rose_more _ _ _ w.2.never_falls (v.failed h);
-          asks_front = surely_map (λ (m : FrontDue (AsksAfter r u) (asked mid) (asked new)).
-              let p : FrontDue (AsksFor (told old) r) (asked old) (asked new) =
-              (w.0 ++ m.0, read w.0 m.0 w.1 j m.1, front_after (asked old) (asked mid) (asked new) w.0 m.0 all m.2) in p) v.asks_front;
+          asks_front = surely (let p : FrontDue (AsksFrom (told old) r) (asked old) (asked new) =
+              (w.0 ++ asked_after r, sound w.0 w.1 j, front_after (asked old) (asked mid) (asked new) w.0 (asked_after r) all v.asks_front) in p);
           asks_all = λ n.
-              let m = v.asks_all n in
-              (w.0 ++ m.0, read w.0 m.0 w.1 j m.1, Asks-trans (asked old) (asked mid) (asked new) w.0 m.0 all m.2);
+              (w.0 ++ asked_after r, sound w.0 w.1 j, Asks-trans (asked old) (asked mid) (asked new) w.0 (asked_after r) all (v.asks_all n));
         }

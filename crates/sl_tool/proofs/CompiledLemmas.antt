@@ -1,5 +1,5 @@
 -- Why a specification is refused, at places.
-use Rattle.std.proofs.Common.{◌≡◌, ℕ, List, Result, Ok, Err, ap, ◌∙◌}
+use Rattle.std.proofs.Common.{◌≡◌, ℕ, List, Err, ap, ◌∙◌}
 use Rattle.sl_ast.specs.Unfolding.{firsts}
 use Rattle.sl_ast.specs.Views.{indexes_of, items_of}
 use Rattle.sl_ast.specs.declared.items.Spec.{Spec}

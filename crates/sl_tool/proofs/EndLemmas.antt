@@ -2,20 +2,19 @@
 use Rattle.std.proofs.Common.{◌≡◌, ℕ, ◌⊎◌, inl, inr, List, [], ◌∷◌, Option, Some, None, Result, Ok, Err, refl, sym, ap, subst, ◌∙◌, take, arith}
 use Rattle.std.specs.Io.KnownBytes.{Appends}
 use Rattle.std.proofs.KnownBytes.{Appends-trans}
-use Rattle.sl_description.proofs.EachLemmas.{some_is}
 use Rattle.sl_outside.specs.Folder.{Folder}
-use Rattle.sl_outside.specs.Uses.{Names, Asks, AsksFront}
+use Rattle.sl_outside.specs.Uses.{Names, AsksFront}
 use Rattle.sl_preproc.specs.Asks.{AsksFor as AsksForText}
 use Rattle.sl_preproc.specs.Expanded.{asked_by}
 use Rattle.sl_preproc.proofs.MainLemmas.{asked_first}
-use Rattle.sl_sets.proofs.Surely.{Surely}
-use Rattle.sl_tool.specs.Answers.{Answers, AsksFor, UsesFilesFor, text_of, status_of}
+use Rattle.sl_settle.proofs.Surely.{Surely, surely}
+use Rattle.sl_tool.specs.Answers.{Answers, AsksFor, UsesFilesFor, ran_of, text_of, status_of}
 use Rattle.sl_tool.specs.Endings.{ended}
 use Rattle.sl_tool.specs.Ends.{Means, WritesWhole, WritesFirst, Ends, RunsFor}
 use Rattle.sl_tool.specs.Ends.Means.{answer}
 use Rattle.sl_tool.specs.Outcomes.{Writes, WritesFront}
-use Rattle.sl_tool.specs.Request.{Request, spec_of}
-use Rattle.sl_tool.specs.Values.{Shown, shown}
+use Rattle.sl_tool.specs.Request.{CheckSpec, Generate, Request, ShowImage}
+use Rattle.sl_tool.specs.Values.{Shown}
 use Rattle.sl_tool.specs.Writing.{IsWritten}
 use Rattle.sl_tool.specs.declared.halt.Halt.{Halt}
 use Rattle.sl_tool.specs.declared.halt.Halt.TheVariants as halt
@@ -25,7 +24,7 @@ use Rattle.sl_tool.specs.declared.status.Ending.TheVariants as ending
 use Rattle.sl_tool.specs.declared.status.Status.{Status}
 use Rattle.sl_tool.specs.declared.status.Status.TheVariants.{Done, Refused, Usage, ReadFault, WriteFault, NoMemory, Stopped}
 use Rattle.sl_tool.proofs.AnsweredLemmas.{Asks-nil, front_due}
-use Rattle.sl_tool.proofs.StageLemmas.{none_is}
+use Rattle.sl_tool.proofs.Thens.{none_is, some_is}
 
 -- a status that says that the whole text was written
 abbrev pub IsWhole : Status → Type 0
@@ -44,45 +43,44 @@ ended_whole ending.Stopped = tt
 pub whole_not : (s q : Status) → IsWhole s → (IsWhole q → ⊥) → s ≡ q → ⊥
 whole_not s q h n e = n (subst IsWhole e h)
 
-ends_whole : (told : Option Folder) (r : Option Request) (a b : Option (List ℕ)) (s : Status) → IsWhole s → WritesWhole told r a b s → Ends told r a b s
-ends_whole told r a b Done h w = w
-ends_whole told r a b Refused h w = w
-ends_whole told r a b Usage h w = w
-ends_whole told r a b Stopped h w = w
-ends_whole told r a b ReadFault h w = absurd h
-ends_whole told r a b WriteFault h w = absurd h
-ends_whole told r a b NoMemory h w = absurd h
+ends_whole : (told : Option Folder) (r : Option Request) (a b : Option (List ℕ)) (G : ℕ → Type 0) (s : Status) → IsWhole s → WritesWhole told r a b G s → Ends told r a b G s
+ends_whole told r a b G Done h w = w
+ends_whole told r a b G Refused h w = w
+ends_whole told r a b G Usage h w = w
+ends_whole told r a b G Stopped h w = w
+ends_whole told r a b G ReadFault h w = absurd h
+ends_whole told r a b G WriteFault h w = absurd h
+ends_whole told r a b G NoMemory h w = absurd h
 
--- what was written of a text that is due
-pub ends_written : (told : Option Folder) (r : Option Request) (a b : Option (List ℕ)) (text : List ℕ) (s q : Status) → IsWhole s → Means told r s text → IsWritten a b text s q
-    → Ends told r a b q
-ends_written told r a b text s q h m (inl w) = subst (λ (z : Status). Ends told r a b z) (sym w.0) (ends_whole told r a b s h (text, m, w.1))
-ends_written told r a b text s q h m (inr w) = first w.0
+-- what was written of a text that is due, of which no operation is run
+pub ends_written : (told : Option Folder) (r : Option Request) (a b : Option (List ℕ)) (G : ℕ → Type 0) (text : List ℕ) (s q : Status) → IsWhole s → Means told r s text 0 → G 0
+    → IsWritten a b text s q → Ends told r a b G q
+ends_written told r a b G text s q h m n (inl w) = subst (λ (z : Status). Ends told r a b G z) (sym w.0) (ends_whole told r a b G s h (text, 0, m, w.1, n))
+ends_written told r a b G text s q h m n (inr w) = first w.0
   where
     front : WritesFirst told r a b
-    front = (s, text, w.1.0, m, w.1.1)
+    front = (s, text, 0, w.1.0, m, w.1.1)
 
-    first : (q ≡ WriteFault) ⊎ (q ≡ NoMemory) → Ends told r a b q
-    first (inl e) = subst (λ (z : Status). Ends told r a b z) (sym e) front
-    first (inr e) = subst (λ (z : Status). Ends told r a b z) (sym e) (inr front)
+    first : (q ≡ WriteFault) ⊎ (q ≡ NoMemory) → Ends told r a b G q
+    first (inl e) = subst (λ (z : Status). Ends told r a b G z) (sym e) front
+    first (inr e) = subst (λ (z : Status). Ends told r a b G z) (sym e) (inr front)
 
-pub ends_ended : (told : Option Folder) (r : Request) (a b : Option (List ℕ)) (e : Ending) → (text : List ℕ) × Answers told r (Ok (shown e text)) × Appends a b text
-    → Ends told (Some r) a b (ended e)
-ends_ended told r a b e w = ends_whole told (Some r) a b (ended e) (ended_whole e) (w.0, answer w.1, w.2)
+pub ends_ended : (told : Option Folder) (r : Request) (a b : Option (List ℕ)) (G : ℕ → Type 0) (e : Ending) → Writes (Answers told r) a b G (Ok e) → Ends told (Some r) a b G (ended e)
+ends_ended told r a b G e w = ends_whole told (Some r) a b G (ended e) (ended_whole e) (w.0, w.1, answer w.2, w.3, w.4)
 
 first_of_front : (told : Option Folder) (r : Request) (a b : Option (List ℕ)) → WritesFront (Answers told r) a b → WritesFirst told (Some r) a b
-first_of_front told r a b w = (status_of w.0, text_of w.0, w.1, answer w.2, w.3)
+first_of_front told r a b w = (status_of w.0, text_of w.0, ran_of w.0, w.1, answer w.2, w.3)
 
 -- what was written where the halt is this one
-pub writes_at : (S : Result Shown Refusal → Type 0) (a b : Option (List ℕ)) (h k : Halt) → h ≡ k → Writes S a b (Err h) → Writes S a b (Err k)
-writes_at S a b h k e w = subst (λ (z : Halt). Writes S a b (Err z)) e w
+pub writes_at : (S : Result Shown Refusal → Type 0) (a b : Option (List ℕ)) (G : ℕ → Type 0) (h k : Halt) → h ≡ k → Writes S a b G (Err h) → Writes S a b G (Err k)
+writes_at S a b G h k e w = subst (λ (z : Halt). Writes S a b G (Err z)) e w
 
-pub ends_fault : (told : Option Folder) (r : Request) (a b : Option (List ℕ)) → Writes (Answers told r) a b (Err halt.WriteFault) → Ends told (Some r) a b WriteFault
-ends_fault told r a b w = first_of_front told r a b w
+pub ends_fault : (told : Option Folder) (r : Request) (a b : Option (List ℕ)) (G : ℕ → Type 0) → Writes (Answers told r) a b G (Err halt.WriteFault) → Ends told (Some r) a b G WriteFault
+ends_fault told r a b G w = first_of_front told r a b w
 
-pub ends_memory : (told : Option Folder) (r : Request) (a b : Option (List ℕ)) → Writes (Answers told r) a b (Err halt.NoMemory) → Ends told (Some r) a b NoMemory
-ends_memory told r a b (inl w) = inl w
-ends_memory told r a b (inr w) = inr (first_of_front told r a b w)
+pub ends_memory : (told : Option Folder) (r : Request) (a b : Option (List ℕ)) (G : ℕ → Type 0) → Writes (Answers told r) a b G (Err halt.NoMemory) → Ends told (Some r) a b G NoMemory
+ends_memory told r a b G (inl w) = inl w
+ends_memory told r a b G (inr w) = inr (first_of_front told r a b w)
 
 pub written_after : (a b c : Option (List ℕ)) (text : List ℕ) (s q : Status) → Appends a b [] → IsWritten b c text s q → IsWritten a c text s q
 written_after a b c text s q h (inl w) = inl (w.0, Appends-trans a b c [] text h w.1)
@@ -120,9 +118,14 @@ some_names (Some folder) spec = (
 
 -- nothing was asked for, which is the front of what is due
 none_due : (told : Option Folder) (r : Request) (a : Names) → Surely ((due : List (List ℕ)) × AsksFor told r due × AsksFront a a due)
-none_due told r a =
-    let names = some_names told (spec_of r) in
-    front_due told r names.0 a a names.1 (0, Asks-nil a)
+none_due told (CheckSpec spec) a =
+    let names = some_names told spec in
+    front_due told (CheckSpec spec) names.0 a a names.1 (0, Asks-nil a)
+none_due told (ShowImage t what) a =
+    let names = some_names told t.spec in
+    front_due told (ShowImage t what) names.0 a a names.1 (0, Asks-nil a)
+none_due told (Generate size) a =
+    surely (let p : (due : List (List ℕ)) × AsksFor told (Generate size) due × AsksFront a a due = ([], refl, (0, Asks-nil a)) in p)
 
 module _ {F : Type 0} (told : F → Option Folder) (faults : F → ℕ) (asked : F → Names) where
   -- memory ran out before any file was read

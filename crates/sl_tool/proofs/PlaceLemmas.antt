@@ -5,7 +5,6 @@ use Rattle.std.specs.Coded.{le_prop}
 use Rattle.std.specs.List.{AllByRecursion}
 use Rattle.std.specs.Option.{option_map}
 use Rattle.std.proofs.Math.Logic.{∥∥₁_elim}
-use Rattle.std.proofs.lemmas.List.{length-map}
 use Rattle.std.proofs.lemmas.Option.{slice_get-map, slice_get_read}
 use Rattle.sl_lex.specs.Errors.{Tells}
 use Rattle.sl_lex.specs.Faults.{Fault, IsBadByte, IsFault}
@@ -18,18 +17,13 @@ use Rattle.sl_lex.specs.declared.mode.Mode.TheVariants.{Top}
 use Rattle.sl_preproc.specs.Expanded.{Text, line_index, or_no_place, place_at}
 use Rattle.sl_preproc.specs.Sound.{IsSound}
 use Rattle.sl_preproc.specs.declared.places.Place.{Place}
-use Rattle.sl_description.specs.Compiled.{AreSetsOf}
-use Rattle.sl_description.proofs.EachLemmas.{some_is}
-use Rattle.sl_description.specs.Views.{constructor, description}
-use Rattle.sl_description.specs.declared.description.Constructor as program
-use Rattle.sl_description.specs.declared.compiler.Compiled.{Compiled}
 use Rattle.sl_tool.specs.Halts.{bad_place}
 use Rattle.sl_tool.specs.Places.{from_or}
 use Rattle.sl_tool.specs.declared.place.Place as program_place
 use Rattle.sl_tool.specs.Stages.{problem_of_fault}
 use Rattle.sl_tool.specs.declared.problem.Problem.{Problem}
 use Rattle.sl_tool.specs.declared.problem.Problem.TheVariants as problem
-use Rattle.sl_tool.proofs.SetLemmas.{length-sets}
+use Rattle.sl_tool.proofs.Thens.{some_is}
 
 -- ---- places of lines
 
@@ -109,17 +103,6 @@ tells_place text (lex.BadByte k) at is h = tells_bad text (k, problem.BadByte) a
 tells_place text (lex.OpenString k) at is h = tells_bad text (k, problem.OpenString) at OpenQuote is h refl
 tells_place text (lex.WideInteger k) at is h = tells_bad text (k, problem.WideInteger) at TooWide is h refl
 tells_place text lex.NoMemory at is h = absurd (cc)
-
--- ---- constructors
-
-module _ (c : Compiled) (sets : AreSetsOf (description c.description) (description c.description).constructors c.sets.items) (i : ℕ) (within : i < length c.sets.items) where
-  pub constructor_within : i < length c.description.constructors.items
-  constructor_within =
-      let d = description c.description in
-      omega (arith, within, length-sets d d.constructors c.sets.items sets, length-map c.description.constructors.items constructor)
-
-  pub seen_constructor : (k : program.Constructor) → k ≡ get_or c.description.constructors.items i k → slice_get (description c.description).constructors i ≡ Some (constructor k)
-  seen_constructor k here = seen_at constructor c.description.constructors.items i k constructor_within here
 
 -- ---- places by their parts
 

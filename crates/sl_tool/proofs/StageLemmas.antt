@@ -1,7 +1,6 @@
 -- Each stage has one result, and it can't be that it has none.
 use Rattle.std.proofs.Common.{◌≡◌, ℕ, ◌+◌, ◌^◌, ◌<◌, ◌≤◌, ◌⊎◌, inl, inr, List, Option, Some, None, Result, Ok, Err, refl, sym, ap, subst, ◌∙◌, length, arith}
 use Rattle.std.proofs.lemmas.Bool.{cases_lt}
-use Rattle.std.specs.Prelude.{slice_get}
 use Rattle.sl_ast.specs.Spelling.{spell}
 use Rattle.sl_ast.specs.Trees.{Item}
 use Rattle.sl_ast.specs.Unfolding.{firsts}
@@ -11,10 +10,6 @@ use Rattle.sl_compile.specs.Refusals.{at_tokens}
 use Rattle.sl_compile.proofs.OutcomeLemmas.{compiles_one as outcome_one, some_compiles}
 use Rattle.sl_context_words.specs.Words.{starting_context}
 use Rattle.sl_decoding.specs.Actions.{address_bytes}
-use Rattle.sl_description.specs.Compiles.{AreSound}
-use Rattle.sl_description.specs.Description.{Constructor, Description}
-use Rattle.sl_description.specs.Fields.{Matches}
-use Rattle.sl_description.proofs.EachLemmas.{some_is}
 use Rattle.sl_grammar.specs.Faults.{Reason}
 use Rattle.sl_grammar.proofs.Faults.{one_fault, one_tree, tree_has_no_fault}
 use Rattle.sl_lex.specs.Faults.{Fault}
@@ -27,26 +22,18 @@ use Rattle.sl_outside.specs.Folder.{Folder, IsTooLong, size_limit}
 use Rattle.sl_parse.specs.Parsing.{TellsFault}
 use Rattle.sl_preproc.specs.Expanded.{expanded}
 use Rattle.sl_request.specs.Requests.{Target}
-use Rattle.sl_sets.specs.Reports.{IsReport}
-use Rattle.sl_sets.specs.Sets.{HasNoConflict, IsFirstConflict}
-use Rattle.sl_sets.specs.declared.conflicts.Report.{Report}
-use Rattle.sl_sets.proofs.SomeSets.{some_first_conflict, some_report}
-use Rattle.sl_sets.proofs.Surely.{Surely, surely, surely_either, surely_map, surely_then}
-use Rattle.sl_sets.proofs.UniqueSets.{first_is_one, report_is_one}
+use Rattle.sl_settle.proofs.Surely.{Surely, surely, surely_map}
 use Rattle.sl_spec.specs.declared.tables.Tables as spec
 use Rattle.sl_symbols.specs.Symbols.{symbols_of}
 use Rattle.sl_tool.specs.Places.{place_of_byte, place_of_token}
 use Rattle.sl_tool.specs.Problems.{refusal, refusal_at}
 use Rattle.sl_tool.specs.Stage.{HasOneResult, HasSomeResult}
-use Rattle.sl_tool.specs.Stages.{Accepts, Compiles, Expands, Tokenizes, Parses, Reads, Tabulates, Settles, Fetches, Decodes, Fits, SetsContext, Images, Inputs, Loads, Readies, RunImages, Starts, addresses_of, decoded, image_in, problem_of_fault, problem_of_reason, refusal_told, root_conflict, source_of, started, with_context}
-use Rattle.sl_tool.specs.Values.{Source, Tokens, Tree, Compiled, Loaded, Tables, Input, compiled, input, loaded, tables, tokens, tree}
-use Rattle.sl_tool.specs.declared.problem.Problem.TheVariants.{Ambiguous, NoFile, NotYet, TooLong}
+use Rattle.sl_tool.specs.Stages.{Compiles, Expands, Tokenizes, Parses, Reads, Fetches, Decodes, Fits, Images, Loads, Readies, Specifies, Starts, decoded, image_in, problem_of_fault, problem_of_reason, refusal_told, source_of, started}
+use Rattle.sl_tool.specs.Values.{Source, Tokens, Tree, Compiled, Loaded, compiled, loaded, tokens, tree}
+use Rattle.sl_tool.specs.declared.problem.Problem.TheVariants.{NoFile, TooLong}
 use Rattle.sl_tool.specs.declared.refusal.Refusal.{Refusal}
 use Rattle.sl_tool.proofs.SomeFault.{some_tree_or_fault}
-use Rattle.sl_tool.proofs.Thens.{err_is, not_both, ok_is, then_one, then_some}
-
-pub none_is : {A : Type 0} (x : A) → None ≡ Some x → ⊥
-none_is x e = absurd (cc)
+use Rattle.sl_tool.proofs.Thens.{err_is, none_is, not_both, ok_is, some_is, then_one, then_some}
 
 -- ---- values by their parts
 
@@ -58,13 +45,6 @@ tree_is t u e f = ap (λ (k : Tokens). tree k t.items) e ∙ ap (λ (xs : List I
 
 loaded_is : (i j : Loaded) → i.compiled ≡ j.compiled → i.image ≡ j.image → i ≡ j
 loaded_is i j e f = ap (λ (c : Compiled). loaded c i.image) e ∙ ap (λ (x : Image). loaded j.compiled x) f
-
-tables_is : (b c : Tables) → b.tree ≡ c.tree → b.description ≡ c.description → b ≡ c
-tables_is b c e f = ap (λ (t : Tree). tables t b.description) e ∙ ap (λ (d : Description). tables c.tree d) f
-
-input_is : (i j : Input) → i.tables ≡ j.tables → i.base ≡ j.base → i.image ≡ j.image → i ≡ j
-input_is i j e k f =
-    ap (λ (b : Tables). input b i.base i.image) e ∙ ap (λ (n : ℕ). input j.tables n i.image) k ∙ ap (λ (bs : List ℕ). input j.tables j.base bs) f
 
 -- ---- 1: expansions
 
@@ -230,89 +210,6 @@ loads_by told t c (Err x, h) = (Err x, h)
 pub loads_some : (told : Option Folder) (t : Target) (c : Compiled) → HasSomeResult (Loads told t) c
 loads_some told t c = surely_map (loads_by told t c) (readies_some told t c.tables)
 
--- ---- 4, of runs: descriptions
-
-tabulates_one : HasOneResult Tabulates
-tabulates_one t (Ok b) (Ok c) h g = ap Ok (tables_is b c (h.0 ∙ sym g.0) (some_is b.description c.description (sym h.1.form ∙ g.1.form)))
-tabulates_one t (Ok b) (Err x) h g = absurd (g.0 b.description h.1)
-tabulates_one t (Err x) (Ok b) h g = absurd (h.0 b.description g.1)
-tabulates_one t (Err x) (Err y) h g = ap Err (h.1 ∙ sym g.1)
-
-abbrev HasDescription : Tree → Type 0
-HasDescription t = (d : Description) × AreSound t.items (firsts t.items) d
-
-tabulates_by : (t : Tree) → HasDescription t ⊎ (HasDescription t → ⊥) → (r : Result Tables Refusal) × Tabulates t r
-tabulates_by t (inl d) = (Ok (tables t d.0), (refl, d.1))
-tabulates_by t (inr none) = (Err (refusal t.tokens.source.name 0 NotYet), (λ d h. none (d, h), refl))
-
-tabulates_some : (t : Tree) → HasSomeResult Tabulates t
-tabulates_some t = surely_map (tabulates_by t) (surely_either (HasDescription t))
-
--- ---- 5, of runs: conflicts
-
--- the refusal for a conflict between these two
-abbrev refusal_of : Tables → Constructor → Constructor → Report → Refusal
-refusal_of b x y told = refusal_at (place_of_token b.tree.tokens x.first) (Ambiguous (root_conflict (place_of_token b.tree.tokens y.first) told))
-
-settles_one : HasOneResult Settles
-settles_one b (Ok c) (Ok e) h g = ap Ok (h.0 ∙ sym g.0)
-settles_one b (Ok c) (Err x) h g = absurd (h.1 g.first g.second g.conflict.here)
-settles_one b (Err x) (Ok c) h g = absurd (g.1 h.first h.second h.conflict.here)
-settles_one b (Err x) (Err y) h g =
-    let d = b.description in
-    let same = first_is_one (Matches d) d.constructors h.first h.second g.first g.second h.conflict g.conflict in
-    let c = h.conflict.here in
-    let k = g.conflict.here in
-    let one_first : c.first ≡ k.first = some_is c.first k.first (sym c.first_is ∙ ap (λ (i : ℕ). slice_get d.constructors i) same.0 ∙ k.first_is) in
-    let one_second : c.second ≡ k.second = some_is c.second k.second (sym c.second_is ∙ ap (λ (i : ℕ). slice_get d.constructors i) same.1 ∙ k.second_is) in
-    let of_first : IsReport (Matches d) c.first k.second g.told = subst (λ (x : Constructor). IsReport (Matches d) x k.second g.told) (sym one_first) g.report in
-    let of_both : IsReport (Matches d) c.first c.second g.told = subst (λ (x : Constructor). IsReport (Matches d) c.first x g.told) (sym one_second) of_first in
-    let told : h.told ≡ g.told = report_is_one (Matches d) c.first c.second h.told g.told h.report of_both in
-    ap Err (h.is ∙ ap (λ (x : Constructor). refusal_of b x c.second h.told) one_first ∙ ap (λ (x : Constructor). refusal_of b k.first x h.told) one_second
-    ∙ ap (λ (r : Report). refusal_of b k.first k.second r) told ∙ sym g.is)
-
-settles_by : (b : Tables) → HasNoConflict (Matches b.description) b.description.constructors
-    ⊎ ((i j : ℕ) × IsFirstConflict (Matches b.description) b.description.constructors i j) → HasSomeResult Settles b
-settles_by b (inl clear) = surely (let p : (r : Result Tables Refusal) × Settles b r = (Ok b, (refl, clear)) in p)
-settles_by b (inr f) =
-    surely_map (λ (t : (told : Report) × IsReport (Matches b.description) f.2.here.first f.2.here.second told).
-    let p : (r : Result Tables Refusal) × Settles b r = (
-      Err (refusal_at (place_of_token b.tree.tokens f.2.here.first.first) (Ambiguous (root_conflict (place_of_token b.tree.tokens f.2.here.second.first) t.0))),
-      record { first = f.0; second = f.1; told = t.0; conflict = f.2; report = t.1; is = refl },
-    ) in p)
-    (some_report (Matches b.description) f.2.here.first f.2.here.second f.2.here.conflict)
-
-settles_some : (b : Tables) → HasSomeResult Settles b
-settles_some b = surely_then (some_first_conflict (Matches b.description) b.description.constructors) (settles_by b)
-
--- ---- 6, of runs: images
-
-context_one : (t : Target) → HasOneResult (SetsContext t)
-context_one t image r q h g = h ∙ sym g
-
-context_some : (t : Target) (image : List ℕ) → HasSomeResult (SetsContext t) image
-context_some t image = surely (let p : (r : Result (List ℕ) Refusal) × SetsContext t image r = (with_context t.context image, refl) in p)
-
-run_images_one : (folder : Folder) (addresses : ℕ) (t : Target) (r q : Result (List ℕ) Refusal) → RunImages (Some folder) addresses t r → RunImages (Some folder) addresses t q → r ≡ q
-run_images_one folder addresses t = then_one _ _ (images_one folder addresses t) (context_one t) t.image
-
-run_images_some : (told : Option Folder) (addresses : ℕ) (t : Target) → Surely ((r : Result (List ℕ) Refusal) × RunImages told addresses t r)
-run_images_some told addresses t = then_some _ _ t.image (images_some told addresses t) (λ image h. context_some t image)
-
-pub inputs_one : (folder : Folder) (t : Target) → HasOneResult (Inputs (Some folder) t)
-inputs_one folder t b (Ok i) (Ok j) h g =
-    ap Ok (input_is i j (h.0 ∙ sym g.0) (h.1 ∙ sym g.1) (ok_is Refusal i.image j.image (run_images_one folder (addresses_of b) t _ _ h.2 g.2)))
-inputs_one folder t b (Ok i) (Err x) h g = absurd (not_both x i.image (run_images_one folder (addresses_of b) t _ _ g h.2))
-inputs_one folder t b (Err x) (Ok i) h g = absurd (not_both x i.image (run_images_one folder (addresses_of b) t _ _ h g.2))
-inputs_one folder t b (Err x) (Err y) h g = ap Err (err_is (List ℕ) x y (run_images_one folder (addresses_of b) t _ _ h g))
-
-inputs_by : (told : Option Folder) (t : Target) (b : Tables) → (r : Result (List ℕ) Refusal) × RunImages told (addresses_of b) t r → (r : Result Input Refusal) × Inputs told t b r
-inputs_by told t b (Ok image, h) = (Ok (input b t.base image), (refl, refl, h))
-inputs_by told t b (Err x, h) = (Err x, h)
-
-pub inputs_some : (told : Option Folder) (t : Target) (b : Tables) → HasSomeResult (Inputs told t) b
-inputs_some told t b = surely_map (inputs_by told t b) (run_images_some told (addresses_of b) t)
-
 -- ---- several stages
 
 pub reads_one : (folder : Folder) → HasOneResult (Reads (Some folder))
@@ -323,8 +220,8 @@ reads_some told name =
     then_some _ _ name (expands_some told name) (λ s h.
     then_some _ _ s (tokenizes_some s) (λ k i. parses_some k))
 
-pub accepts_one : HasOneResult Accepts
-accepts_one = then_one _ _ tabulates_one settles_one
+pub specifies_one : (folder : Folder) → HasOneResult (Specifies (Some folder))
+specifies_one folder = then_one _ _ (reads_one folder) compiles_one
 
-pub accepts_some : (t : Tree) → HasSomeResult Accepts t
-accepts_some t = then_some _ _ t (tabulates_some t) (λ b h. settles_some b)
+pub specifies_some : (told : Option Folder) (name : List ℕ) → HasSomeResult (Specifies told) name
+specifies_some told name = then_some _ _ name (reads_some told name) (λ u h. compiles_some u)

@@ -1,69 +1,83 @@
 -- meaning: the answer to a request, and the files that it asks for.
-use Rattle.std.specs.Prelude.{◌≡◌, ℕ, ◌≤◌, List, [], ◌∷◌, ◌++◌, length, Option, Result, Ok, Err}
+use Rattle.std.specs.Prelude.{◌≡◌, ℕ, ◌≤◌, List, [], ◌∷◌, ◌++◌, codes, length, Option, None, Some, Result, Ok, Err, if◌then◌else◌}
+use Rattle.std.specs.Str.{bytes_eq}
 use Rattle.sl_compile.specs.Outcomes.{all_constructors}
+use Rattle.sl_generator.specs.Specification.{specification}
 use Rattle.sl_lister.specs.Listing.{IsListing}
 use Rattle.sl_outside.specs.Causes.{Rose}
 use Rattle.sl_outside.specs.Folder.{Folder}
 use Rattle.sl_outside.specs.Uses.{Names, Asks, AsksFront}
 use Rattle.sl_preproc.specs.Asks.{AsksFor as AsksForText}
-use Rattle.sl_request.specs.Requests.{Target}
-use Rattle.sl_spec.specs.declared.tables.Tables as spec
 use Rattle.sl_tool.specs.Endings.{ended}
+use Rattle.sl_tool.specs.Generated.{AreFigures}
 use Rattle.sl_tool.specs.Lines.{count_line}
 use Rattle.sl_tool.specs.Problems.{refusal_text}
-use Rattle.sl_tool.specs.Request.{Request, CheckSpec, ListImage, RunImage, spec_of}
-use Rattle.sl_tool.specs.Running.{IsRun}
+use Rattle.sl_tool.specs.Request.{Request, CheckSpec, ShowImage, Generate, Show, Listing, Operations, Run, spec_of}
+use Rattle.sl_tool.specs.Shows.{IsOperations, IsRun}
 use Rattle.sl_tool.specs.Stage.{Stage, Surely, Then}
-use Rattle.sl_tool.specs.Stages.{Accepts, Compiles, Inputs, Loads, Reads}
-use Rattle.sl_tool.specs.Values.{Compiled, Input, Loaded, Shown, Tree}
+use Rattle.sl_tool.specs.Stages.{Loads, Specifies}
+use Rattle.sl_tool.specs.Values.{Compiled, Loaded, Shown}
 use Rattle.sl_tool.specs.declared.refusal.Refusal.{Refusal}
-use Rattle.sl_tool.specs.declared.status.Ending.{Ending}
 use Rattle.sl_tool.specs.declared.status.Ending.TheVariants.{Done}
 use Rattle.sl_tool.specs.declared.status.Status.{Status}
 use Rattle.sl_tool.specs.declared.status.Status.TheVariants.{Refused}
 
 -- ---- what is due
 
--- what is due at the end of a request: an ending and a text
+-- what is due at the end of a request
 abbrev pub Due : Type 1
-Due = Ending → List ℕ → Type 0
+Due = Shown → Type 0
+
+-- This text is written, and no operation is run.
+pub record Tells (Is : List ℕ → Type 0) (s : Shown) : Type 0 where
+  pub ending : s.ending ≡ Done
+  pub text : Is s.text
+  pub ran : s.ran ≡ 0
 
 -- what is due of a sound specification: how many tables and constructors there are
-abbrev pub counts_of : spec.Tables → Due
-counts_of t ending text = (ending ≡ Done) × (text ≡ count_line (length t.tables) (length t.constructors))
+abbrev pub counts_of : Compiled → Due
+counts_of c = Tells (λ text. text ≡ count_line (length c.tables.tables) (length c.tables.constructors))
 
--- what is due of an image that is listed by a sound specification
-abbrev pub listing_of : Loaded → Due
-listing_of l ending text = (ending ≡ Done) × IsListing l.compiled.tables (all_constructors l.compiled.tree.items) l.image text
+-- what is due of an image
+abbrev pub shows_of : Show → Loaded → Due
+shows_of Listing l = Tells (IsListing l.compiled.tables (all_constructors l.compiled.tree.items) l.image)
+shows_of Operations l = Tells (IsOperations l)
+shows_of (Run steps) l = IsRun l steps
 
--- what is due of an image that is run
-abbrev pub run_of : ℕ → Input → Due
-run_of steps i = IsRun i.tables.description i.base i.image steps
+-- what is due of a specification that was generated
+abbrev pub figures_of : (size : ℕ) → Compiled → Due
+figures_of size c = AreFigures c size
 
--- The last stages show what is due, and refuse nothing.
-abbrev pub Counts : Stage Refusal Compiled Shown
-Counts c (Ok s) = counts_of c.tables s.ending s.text
-Counts c (Err x) = ⊥
-
-abbrev pub Lists : Stage Refusal Loaded Shown
-Lists l (Ok s) = listing_of l s.ending s.text
-Lists l (Err x) = ⊥
-
-abbrev pub Runs : ℕ → Stage Refusal Input Shown
-Runs steps i (Ok s) = run_of steps i s.ending s.text
-Runs steps i (Err x) = ⊥
+-- The last stage shows what is due, and refuses nothing.
+abbrev pub Shows : {A : Type 0} → (A → Due) → Stage Refusal A Shown
+Shows due a (Ok s) = due a s
+Shows due a (Err x) = ⊥
 
 -- ---- requests
 
--- What becomes of the tree, a line for each kind of request: an ending and a text, or a refusal.
-abbrev pub Follows : Option Folder → Request → Stage Refusal Tree Shown
-Follows told (CheckSpec spec) = Then Compiles Counts
-Follows told (ListImage t) = Then Compiles (Then (Loads told t) Lists)
-Follows told (RunImage t steps) = Then Accepts (Then (Inputs told t) (Runs steps))
+-- What becomes of a sound specification, a line for each kind of request: what is shown, or a refusal.
+abbrev pub Follows : Option Folder → Request → Stage Refusal Compiled Shown
+Follows told (CheckSpec spec) = Shows counts_of
+Follows told (ShowImage t what) = Then (Loads told t) (Shows (shows_of what))
+Follows told (Generate size) = Shows (figures_of size)
+
+-- the specification that is generated
+abbrev pub generated : Folder
+generated name = if bytes_eq (codes "gen") name then Some specification else None
+
+-- the files of a request: those outside, or the generated one
+abbrev pub folder_for : Option Folder → Request → Option Folder
+folder_for told (CheckSpec spec) = told
+folder_for told (ShowImage t what) = told
+folder_for told (Generate size) = Some generated
+
+-- What becomes of a request that has these files.
+abbrev pub AnswersFrom : Option Folder → Request → Result Shown Refusal → Type 0
+AnswersFrom told r = Then (Specifies told) (Follows told r) (spec_of r)
 
 -- What becomes of a request.
 abbrev pub Answers : Option Folder → Request → Result Shown Refusal → Type 0
-Answers told r = Then (Reads told) (Follows told r) (spec_of r)
+Answers told r = AnswersFrom (folder_for told r) r
 
 abbrev pub text_of : Result Shown Refusal → List ℕ
 text_of (Ok s) = s.text
@@ -73,24 +87,30 @@ abbrev pub status_of : Result Shown Refusal → Status
 status_of (Ok s) = ended s.ending
 status_of (Err x) = Refused
 
+-- how many operations of p-code ran whole
+abbrev pub ran_of : Result Shown Refusal → ℕ
+ran_of (Ok s) = s.ran
+ran_of (Err x) = 0
+
 -- ---- files
 
--- The names that are asked for to show an image: its own, where the tree isn't refused before.
-pub data AsksForImage {B : Type 0} (S : Stage Refusal Tree B) (t : Target) (tree : Tree) : List (List ℕ) → Type 0 where
-  refused : {x : Refusal} → S tree (Err x) → AsksForImage S t tree []
-  accepted : {b : B} → S tree (Ok b) → AsksForImage S t tree (t.image ∷ [])
+-- The names that a request asks for once the specification is there: that of the image.
+abbrev pub asked_after : Request → List (List ℕ)
+asked_after (CheckSpec spec) = []
+asked_after (ShowImage t what) = t.image ∷ []
+asked_after (Generate size) = []
 
--- The names that a request asks for once the tree is there.
-abbrev pub AsksAfter : Request → Tree → List (List ℕ) → Type 0
-AsksAfter (CheckSpec spec) tree names = names ≡ []
-AsksAfter (ListImage t) tree names = AsksForImage Compiles t tree names
-AsksAfter (RunImage t steps) tree names = AsksForImage Accepts t tree names
+-- The names that a request asks its files for: those of the specification's text, and where that is sound what it asks for
+-- then.
+pub data AsksFrom (told : Option Folder) (r : Request) : List (List ℕ) → Type 0 where
+  unsound : {names : List (List ℕ)} {x : Refusal} → AsksForText told (spec_of r) names → Specifies told (spec_of r) (Err x) → AsksFrom told r names
+  sound : (names : List (List ℕ)) {c : Compiled} → AsksForText told (spec_of r) names → Specifies told (spec_of r) (Ok c) → AsksFrom told r (names ++ asked_after r)
 
--- The names that a request asks for: those of the specification's text, and what it asks for once the tree is there.
-pub data AsksFor (told : Option Folder) (r : Request) : List (List ℕ) → Type 0 where
-  unread : {names : List (List ℕ)} {x : Refusal} → AsksForText told (spec_of r) names → Reads told (spec_of r) (Err x) → AsksFor told r names
-  read : (names more : List (List ℕ)) {tree : Tree} → AsksForText told (spec_of r) names → Reads told (spec_of r) (Ok tree) → AsksAfter r tree more
-      → AsksFor told r (names ++ more)
+-- The names that a request asks for. What is generated isn't asked for.
+abbrev pub AsksFor : Option Folder → Request → List (List ℕ) → Type 0
+AsksFor told (CheckSpec spec) = AsksFrom told (CheckSpec spec)
+AsksFor told (ShowImage t what) = AsksFrom told (ShowImage t what)
+AsksFor told (Generate size) = λ names. names ≡ []
 
 -- A call asks for the names that are due: for all of them, or, where it stops early, for the first of them. It fails only where
 -- the count of faults rose. The folder stays as it is.

@@ -3,35 +3,36 @@ use Rattle.std.specs.Prelude.{◌≡◌, ℕ, ◌⊎◌, List, [], take, Option,
 use Rattle.std.specs.Io.KnownBytes.{Appends}
 use Rattle.sl_outside.specs.Folder.{Folder}
 use Rattle.sl_outside.specs.Uses.{Names, UsesFiles}
-use Rattle.sl_tool.specs.Answers.{Answers, AsksFor, UsesFilesFor, status_of, text_of}
+use Rattle.sl_tool.specs.Answers.{Answers, AsksFor, UsesFilesFor, ran_of, status_of, text_of}
 use Rattle.sl_tool.specs.Request.{Request, usage_line}
 use Rattle.sl_tool.specs.Values.{Shown}
 use Rattle.sl_tool.specs.declared.refusal.Refusal.{Refusal}
 use Rattle.sl_tool.specs.declared.status.Status.{Status}
 use Rattle.sl_tool.specs.declared.status.Status.TheVariants.{Done, Refused, Usage, ReadFault, WriteFault, NoMemory, Stopped}
 
--- The status and the text that are due of a request, or of words that are none.
-pub data Means (told : Option Folder) : Option Request → Status → List ℕ → Type 0 where
-  usage : Means told None Usage usage_line
-  answer : {r : Request} {x : Result Shown Refusal} → Answers told r x → Means told (Some r) (status_of x) (text_of x)
+-- The status and the text that are due of a request, and how many operations run whole; or of words that are none.
+pub data Means (told : Option Folder) : Option Request → Status → List ℕ → (ran : ℕ) → Type 0 where
+  usage : Means told None Usage usage_line 0
+  answer : {r : Request} {x : Result Shown Refusal} → Answers told r x → Means told (Some r) (status_of x) (text_of x) (ran_of x)
 
--- The whole text that is due with this status was written.
-abbrev pub WritesWhole : Option Folder → Option Request → Option (List ℕ) → Option (List ℕ) → Status → Type 0
-WritesWhole told r old new status = (text : List ℕ) × Means told r status text × Appends old new text
+-- The whole text that is due with this status was written, and the count grew as it says.
+abbrev pub WritesWhole : Option Folder → Option Request → Option (List ℕ) → Option (List ℕ) → (Grown : ℕ → Type 0) → Status → Type 0
+WritesWhole told r old new Grown status = (text : List ℕ) × (ran : ℕ) × Means told r status text ran × Appends old new text × Grown ran
 
 -- The first bytes of a text that is due were written.
 abbrev pub WritesFirst : Option Folder → Option Request → Option (List ℕ) → Option (List ℕ) → Type 0
-WritesFirst told r old new = (status : Status) × (text : List ℕ) × (count : ℕ) × Means told r status text × Appends old new (take count text)
+WritesFirst told r old new =
+    (status : Status) × (text : List ℕ) × (ran : ℕ) × (count : ℕ) × Means told r status text ran × Appends old new (take count text)
 
--- What was written at each status.
-abbrev pub Ends : Option Folder → Option Request → Option (List ℕ) → Option (List ℕ) → Status → Type 0
-Ends told r old new Done = WritesWhole told r old new Done
-Ends told r old new Refused = WritesWhole told r old new Refused
-Ends told r old new Usage = WritesWhole told r old new Usage
-Ends told r old new ReadFault = IsSome r × Appends old new []
-Ends told r old new WriteFault = WritesFirst told r old new
-Ends told r old new NoMemory = Appends old new [] ⊎ WritesFirst told r old new
-Ends told r old new Stopped = WritesWhole told r old new Stopped
+-- What was written at each status, and how the count of operations grew.
+abbrev pub Ends : Option Folder → Option Request → Option (List ℕ) → Option (List ℕ) → (Grown : ℕ → Type 0) → Status → Type 0
+Ends told r old new Grown Done = WritesWhole told r old new Grown Done
+Ends told r old new Grown Refused = WritesWhole told r old new Grown Refused
+Ends told r old new Grown Usage = WritesWhole told r old new Grown Usage
+Ends told r old new Grown ReadFault = IsSome r × Appends old new [] × Grown 0
+Ends told r old new Grown WriteFault = WritesFirst told r old new
+Ends told r old new Grown NoMemory = Appends old new [] ⊎ WritesFirst told r old new
+Ends told r old new Grown Stopped = WritesWhole told r old new Grown Stopped
 
 -- The call stopped before its end.
 abbrev pub IsEarlyStatus : Status → Type 0

@@ -6,8 +6,9 @@ pub mod Values
 pub mod Places
 pub mod Stages
 pub mod Request
-pub mod RunLines
-pub mod Running
+pub mod Shows
+pub mod Generated
+pub mod Figures
 pub mod Answers
 pub mod Outcomes
 pub mod Ends
@@ -17,8 +18,5 @@ pub mod SourceView
 pub mod TokensView
 pub mod StageViews
 pub mod Halts
-pub mod Compiled
 pub mod Inputs
 pub mod Writing
-pub mod Told
-pub mod Opened

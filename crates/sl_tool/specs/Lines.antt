@@ -1,13 +1,9 @@
 -- meaning: lines of output.
-use Rattle.std.specs.Prelude.{ℕ, ◌-◌, List, ◌++◌, drop, codes}
+use Rattle.std.specs.Prelude.{ℕ, List, ◌++◌, codes}
 use Rattle.std.specs.Int.{w64, w128, to_be_bytes}
 use Rattle.std.specs.Fmt.{decimal}
 use Rattle.hex.specs.Hex.{encode_lower}
 use Rattle.sl_cube.specs.declared.Point.{Point}
-
--- an address of so many bytes, in hexadecimal
-abbrev pub address_text : ℕ → ℕ → List ℕ
-address_text bytes address = encode_lower (drop (8 - bytes) (to_be_bytes w64 address))
 
 -- the sixteen bytes of a point, and its context
 abbrev pub point_text : Point → List ℕ

@@ -9,7 +9,7 @@ use Rattle.sl_settle.specs.declared.report.Apart.TheVariants.{Same, Two}
 use Rattle.sl_tool.specs.Lines.{place_text, point_text}
 use Rattle.sl_tool.specs.declared.problem.Conflict.{Conflict}
 use Rattle.sl_tool.specs.declared.problem.Problem.{Problem}
-use Rattle.sl_tool.specs.declared.problem.Problem.TheVariants.{NoFile, TooLong, IncludeDepth, UndefinedName, ReplaceDepth, BadDirective, Unbalanced, BadByte, OpenString, WideInteger, Syntax, Nesting, NotSupported, Rule, SizeClash, SizeUnfixed, InteriorEllipsis, TokensDiffer, Impossible, TooManyCubes, WindowTooLong, NotYet, Ambiguous, BadHex, NoContextField, ValueOutOfRange}
+use Rattle.sl_tool.specs.declared.problem.Problem.TheVariants.{NoFile, TooLong, IncludeDepth, UndefinedName, ReplaceDepth, BadDirective, Unbalanced, BadByte, OpenString, WideInteger, Syntax, Nesting, NotSupported, Rule, SizeClash, SizeUnfixed, InteriorEllipsis, TokensDiffer, Impossible, TooManyCubes, WindowTooLong, Ambiguous, BadHex, NoContextField, ValueOutOfRange}
 use Rattle.sl_tool.specs.declared.place.Place.{Place}
 use Rattle.sl_tool.specs.declared.refusal.Refusal.{Refusal}
 use Rattle.sl_tool.specs.declared.refusal.Subject.{Subject}
@@ -58,7 +58,6 @@ words_of TokensDiffer = codes "tokens differ"
 words_of Impossible = codes "impossible pattern"
 words_of (TooManyCubes count) = codes "too many cubes " ++ decimal count
 words_of (WindowTooLong count) = codes "window too long " ++ decimal count
-words_of NotYet = codes "not yet"
 words_of (Ambiguous conflict) = conflict_words conflict
 words_of BadHex = codes "bad hex"
 words_of NoContextField = codes "no such context field"

@@ -1,31 +1,37 @@
--- meaning: the requests that are answered, and the usage line.
-use Rattle.std.specs.Prelude.{ℕ, List, Option, Some, None, codes}
-use Rattle.std.specs.Option.{option_and_then}
+-- meaning: the requests, and the usage line.
+use Rattle.std.specs.Prelude.{ℕ, List, Option, codes, option_map}
 use Rattle.sl_request.specs.Requests.{Asked, Checks, Lists, Prints, Runs, Generates, Target, asked_of}
 
--- A specification, by the name of its main file, is checked; an image is listed by it; or run for at most so many steps.
+-- What is shown of an image: its listing, the listing with the operations of each instruction, or its
+-- run for at most so many steps.
+pub data Show : Type 0 where
+  Listing : Show
+  Operations : Show
+  Run : (steps : ℕ) → Show
+
+-- A specification, by the name of its main file, is checked; an image is shown by it; or one is
+-- generated, and listed and run for so many instructions.
 pub data Request : Type 0 where
   CheckSpec : List ℕ → Request
-  ListImage : Target → Request
-  RunImage : Target → (steps : ℕ) → Request
+  ShowImage : Target → Show → Request
+  Generate : (size : ℕ) → Request
 
 -- the name of the specification's main file
 abbrev pub spec_of : Request → List ℕ
 spec_of (CheckSpec spec) = spec
-spec_of (ListImage t) = t.spec
-spec_of (RunImage t steps) = t.spec
+spec_of (ShowImage t what) = t.spec
+spec_of (Generate size) = codes "gen"
 
--- What is asked for, where its command is there. So far `pcode` and `gen` aren't.
-abbrev pub answerable : Asked → Option Request
-answerable (Checks spec) = Some (CheckSpec spec)
-answerable (Lists t) = Some (ListImage t)
-answerable (Prints t) = None
-answerable (Runs t steps) = Some (RunImage t steps)
-answerable (Generates size) = None
+abbrev pub request_for : Asked → Request
+request_for (Checks spec) = CheckSpec spec
+request_for (Lists t) = ShowImage t Listing
+request_for (Prints t) = ShowImage t Operations
+request_for (Runs t steps) = ShowImage t (Run steps)
+request_for (Generates size) = Generate size
 
--- What the words of a command line, the program's name first, ask for of the commands that are there.
+-- What the words of a command line, the program's name first, ask for.
 abbrev pub request_of : List (List ℕ) → Option Request
-request_of words = option_and_then answerable (asked_of words)
+request_of words = option_map request_for (asked_of words)
 
 abbrev pub usage_line : List ℕ
 usage_line = codes "usage: sleigh check SPEC | list SPEC IMAGE | pcode SPEC IMAGE | run SPEC IMAGE | gen NUMBER\n"

@@ -1,6 +1,5 @@
 -- view: the later stages as values.
 use Rattle.sl_ast.specs.Views.{items_of}
-use Rattle.sl_description.specs.Views.{description}
 use Rattle.sl_lister.specs.Listing as listing
 use Rattle.sl_lister.specs.Listing.{image_from}
 use Rattle.sl_tool.specs.TokensView.{tokens_view}
@@ -9,9 +8,6 @@ use Rattle.sl_tool.specs.declared.tree.Tree.{Tree}
 use Rattle.sl_tool.specs.declared.compiled.Compiled.{Compiled}
 use Rattle.sl_tool.specs.declared.loaded.Image.{Image}
 use Rattle.sl_tool.specs.declared.loaded.Loaded.{Loaded}
-use Rattle.sl_tool.specs.declared.tables.Tables.{Tables}
-use Rattle.sl_tool.specs.declared.checked.Checked.{Checked}
-use Rattle.sl_tool.specs.declared.input.Input.{Input}
 
 abbrev pub tree_view : Tree → values.Tree
 tree_view t = values.tree (tokens_view t.tokens) (items_of t.spec)
@@ -24,12 +20,3 @@ image_view i = image_from i.bytes.items i.base i.start
 
 abbrev pub loaded_view : Loaded → values.Loaded
 loaded_view l = values.loaded (compiled_view l.compiled) (image_view l.image)
-
-abbrev pub tables_view : Tables → values.Tables
-tables_view b = values.tables (tree_view b.tree) (description b.compiled.description)
-
-abbrev pub checked_view : Checked → values.Tables
-checked_view c = tables_view c.tables
-
-abbrev pub input_view : Input → values.Input
-input_view i = values.input (checked_view i.checked) i.base i.image.items

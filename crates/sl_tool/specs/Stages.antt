@@ -1,5 +1,5 @@
 -- meaning: the stages from the name of a specification to what a command works on.
-use Rattle.std.specs.Prelude.{codes, ◌≡◌, ℕ, ◌+◌, ◌^◌, ◌<◌, ◌≤◌, ◌⊎◌, List, [], ◌∷◌, length, Option, Some, None, Bool, if◌then◌else◌, Result, Ok, Err, ⊤}
+use Rattle.std.specs.Prelude.{◌≡◌, ℕ, ◌+◌, ◌^◌, ◌<◌, ◌≤◌, ◌⊎◌, List, length, Option, Some, None, Bool, if◌then◌else◌, Result, Ok, Err, ⊤}
 use Rattle.sl_ast.specs.Spelling.{spell}
 use Rattle.sl_ast.specs.Unfolding.{firsts}
 use Rattle.sl_ast.specs.Validity.{AreItems}
@@ -13,9 +13,6 @@ use Rattle.sl_context_words.specs.Words.{Bad, starting_context}
 use Rattle.sl_context_words.specs.declared.words.Cause as context
 use Rattle.sl_context_words.specs.declared.words.Cause.TheVariants as word
 use Rattle.sl_decoding.specs.Actions.{address_bytes}
-use Rattle.sl_description.specs.Compiles.{AreSound}
-use Rattle.sl_description.specs.Description.{Description}
-use Rattle.sl_description.specs.Fields.{Matches}
 use Rattle.sl_directive.specs.declared.fault.Cause.{Cause}
 use Rattle.sl_directive.specs.declared.fault.Cause.TheVariants as cause
 use Rattle.sl_grammar.specs.Faults.{Reason, no_spelling, too_deep, left_out}
@@ -29,24 +26,16 @@ use Rattle.sl_preproc.specs.Expanded.{Text, expanded}
 use Rattle.sl_preproc.specs.Expansion as preproc
 use Rattle.sl_preproc.specs.Sound.{IsSound}
 use Rattle.sl_request.specs.Images.{image_of}
-use Rattle.sl_request.specs.Requests.{Field, Target}
-use Rattle.sl_sets.specs.Reports.{IsReport}
-use Rattle.sl_sets.specs.Sets.{IsFirstConflict, HasNoConflict}
-use Rattle.sl_sets.specs.declared.conflicts.Apart.{Apart as Difference}
-use Rattle.sl_sets.specs.declared.conflicts.Apart.TheVariants as difference
-use Rattle.sl_sets.specs.declared.conflicts.Report.{Report}
-use Rattle.sl_settle.specs.declared.report.Apart.{Apart}
-use Rattle.sl_settle.specs.declared.report.Apart.TheVariants as apart
+use Rattle.sl_request.specs.Requests.{Target}
 use Rattle.sl_spec.specs.declared.tables.Tables as spec
 use Rattle.sl_symbols.specs.Symbols.{symbols_of}
 use Rattle.sl_tool.specs.Places.{place_of_byte, place_of_some, place_of_token}
 use Rattle.sl_tool.specs.Problems.{refusal, refusal_at, refusal_of_field}
 use Rattle.sl_tool.specs.Stage.{Stage, Then}
-use Rattle.sl_tool.specs.Values.{Source, Tokens, Tree, Compiled, Loaded, Tables, Input, source}
-use Rattle.sl_tool.specs.declared.place.Place.{Place}
+use Rattle.sl_tool.specs.Values.{Source, Tokens, Tree, Compiled, Loaded, source}
 use Rattle.sl_tool.specs.declared.problem.Conflict.{Conflict}
 use Rattle.sl_tool.specs.declared.problem.Problem.{Problem}
-use Rattle.sl_tool.specs.declared.problem.Problem.TheVariants.{NoFile, TooLong, IncludeDepth, UndefinedName, ReplaceDepth, BadDirective, Unbalanced, BadByte, OpenString, WideInteger, Syntax, Nesting, NotSupported, Rule, SizeClash, SizeUnfixed, InteriorEllipsis, TokensDiffer, Impossible, TooManyCubes, WindowTooLong, NotYet, Ambiguous, BadHex, NoContextField, ValueOutOfRange}
+use Rattle.sl_tool.specs.declared.problem.Problem.TheVariants.{NoFile, TooLong, IncludeDepth, UndefinedName, ReplaceDepth, BadDirective, Unbalanced, BadByte, OpenString, WideInteger, Syntax, Nesting, NotSupported, Rule, SizeClash, SizeUnfixed, InteriorEllipsis, TokensDiffer, Impossible, TooManyCubes, WindowTooLong, Ambiguous, BadHex, NoContextField, ValueOutOfRange}
 use Rattle.sl_tool.specs.declared.refusal.Refusal.{Refusal}
 
 -- ---- 1: the name of the main file to its expanded text
@@ -130,6 +119,12 @@ abbrev pub Compiles : Stage Refusal Tree Compiled
 Compiles t (Ok c) = (c.tree ≡ t) × outcome.Compiles t.items (Ok c.tables)
 Compiles t (Err x) = (why : outcome.Refusal) × outcome.Compiles t.items (Err why) × (x ≡ refusal_told t.tokens (at_tokens (firsts t.items) why))
 
+-- ---- the name of a specification to its tables
+
+-- The sound specification whose main file has this name.
+abbrev pub Specifies : Option Folder → Stage Refusal (List ℕ) Compiled
+Specifies told = Then (Reads told) Compiles
+
 -- ---- 5: the image beside it
 
 -- The file of this name has these bytes, which aren't too many for a file; or there is no such file.
@@ -186,60 +181,3 @@ Readies told t tables = Then (Images told (256 ^ address_bytes tables) t) (Start
 abbrev pub Loads : Option Folder → Target → Stage Refusal Compiled Loaded
 Loads told t c (Ok l) = (l.compiled ≡ c) × Readies told t c.tables (Ok l.image)
 Loads told t c (Err x) = Readies told t c.tables (Err x)
-
--- ---- 4, of runs: the tree to what it describes
-
--- The tree is this description, which keeps the rules, or it is none.
-abbrev pub Tabulates : Stage Refusal Tree Tables
-Tabulates t (Ok b) = (b.tree ≡ t) × AreSound t.items (firsts t.items) b.description
-Tabulates t (Err x) = ((d : Description) → AreSound t.items (firsts t.items) d → ⊥) × (x ≡ refusal t.tokens.source.name 0 NotYet)
-
--- ---- 5, of runs: a description without a conflict
-
-abbrev pub apart_of : Difference → Apart
-apart_of difference.Same = apart.Same
-apart_of (difference.Two only_first only_second) = apart.Two only_first only_second
-
--- a conflict in the one table of such a description
-abbrev pub root_conflict : Place → Report → Conflict
-root_conflict other told = record { table = codes "instruction"; other = other; both = told.both; apart = apart_of told.apart }
-
--- The refusal names the first two constructors in conflict, and tells their report.
-pub record IsAmbiguous (b : Tables) (x : Refusal) : Type 0 where
-  pub first : ℕ
-  pub second : ℕ
-  pub told : Report
-  pub conflict : IsFirstConflict (Matches b.description) b.description.constructors first second
-  pub report : IsReport (Matches b.description) conflict.here.first conflict.here.second told
-  pub is : x ≡ refusal_at (place_of_token b.tree.tokens conflict.here.first.first)
-      (Ambiguous (root_conflict (place_of_token b.tree.tokens conflict.here.second.first) told))
-
--- No two constructors are in conflict, or the first two that are.
-abbrev pub Settles : Stage Refusal Tables Tables
-Settles b (Ok c) = (c ≡ b) × HasNoConflict (Matches b.description) b.description.constructors
-Settles b (Err x) = IsAmbiguous b x
-
-abbrev pub Accepts : Stage Refusal Tree Tables
-Accepts = Then Tabulates Settles
-
--- ---- 6, of runs: the image beside it
-
--- The values that the words give to context fields, in their order. So far no description has a context, so that the first
--- word names no field of it.
-abbrev pub with_context : List Field → List ℕ → Result (List ℕ) Refusal
-with_context [] image = Ok image
-with_context (f ∷ fs) image = Err (refusal_of_field f.name NoContextField)
-
-abbrev pub SetsContext : Target → Stage Refusal (List ℕ) (List ℕ)
-SetsContext t image r = r ≡ with_context t.context image
-
-abbrev pub addresses_of : Tables → ℕ
-addresses_of b = 256 ^ b.description.address_bytes
-
-abbrev pub RunImages : Option Folder → ℕ → Target → Result (List ℕ) Refusal → Type 0
-RunImages told addresses t = Then (Images told addresses t) (SetsContext t) t.image
-
--- The image of the file beside the tables, from the base on.
-abbrev pub Inputs : Option Folder → Target → Stage Refusal Tables Input
-Inputs told t b (Ok i) = (i.tables ≡ b) × (i.base ≡ t.base) × RunImages told (addresses_of b) t (Ok i.image)
-Inputs told t b (Err x) = RunImages told (addresses_of b) t (Err x)

@@ -1,7 +1,6 @@
 -- meaning: what the stages make of a specification and an image, each with what it was made of.
 use Rattle.std.specs.Prelude.{ℕ, List}
 use Rattle.sl_ast.specs.Trees.{Item}
-use Rattle.sl_description.specs.Description.{Description}
 use Rattle.sl_lex.specs.Reading.{Token}
 use Rattle.sl_lister.specs.Listing.{Image}
 use Rattle.sl_preproc.specs.Expanded.{Text}
@@ -26,26 +25,16 @@ pub record Compiled : Type 0 where
   pub tree : Tree
   pub tables : spec.Tables
 
--- a sound specification with an image to be listed by it
+-- a sound specification with an image to be shown by it
 pub record Loaded : Type 0 where
   pub compiled : Compiled
   pub image : Image
 
--- a tree with what it describes, of the form that is run today
-pub record Tables : Type 0 where
-  pub tree : Tree
-  pub description : Description
-
--- an image beside what it is run by, and the address of its first byte
-pub record Input : Type 0 where
-  pub tables : Tables
-  pub base : ℕ
-  pub image : List ℕ
-
--- how a command ends, and what it writes
+-- how a command ends, what it writes, and how many operations of p-code ran whole
 pub record Shown : Type 0 where
   pub ending : Ending
   pub text : List ℕ
+  pub ran : ℕ
 
 -- ---- made of their parts
 
@@ -64,11 +53,5 @@ compiled t b = record { tree = t; tables = b }
 abbrev pub loaded : Compiled → Image → Loaded
 loaded c i = record { compiled = c; image = i }
 
-abbrev pub tables : Tree → Description → Tables
-tables t d = record { tree = t; description = d }
-
-abbrev pub input : Tables → ℕ → List ℕ → Input
-input b base image = record { tables = b; base = base; image = image }
-
-abbrev pub shown : Ending → List ℕ → Shown
-shown ending text = record { ending = ending; text = text }
+abbrev pub shown : Ending → List ℕ → (ran : ℕ) → Shown
+shown ending text ran = record { ending = ending; text = text; ran = ran }

@@ -2,41 +2,69 @@
 
 ghost use Rattle.std.specs.Prelude.{◌≡◌};
 ghost use Rattle.sl_outside.specs.Uses.{UsesSink};
-ghost use Rattle.sl_tool.specs.Answers.{Answers, AsksFor, UsesFilesFor};
-ghost use Rattle.sl_tool.specs.Outcomes.{FailsToRead, FailsToWrite, IsEarly, Writes};
+ghost use Rattle.sl_tool.specs.Answers.{Answers, AnswersFrom, AsksFor, AsksFrom, UsesFilesFor};
+ghost use Rattle.sl_tool.specs.Outcomes.{FailsToRead, FailsToWrite, Grew, IsEarly, Writes};
 ghost use Rattle.sl_tool.specs.Requests.{request as request_view};
 
 use crate::check::check;
+use crate::compiled::Compiled;
+use crate::figures::figures;
+use crate::generated::generated;
 use crate::halt::Halt;
-use crate::list::list;
 use crate::request::Request;
-use crate::running::run;
+use crate::show::show;
 use crate::source::Source;
 use crate::status::Ending;
 use crate::tree::Tree;
+use sl_emu::Runner;
 use sl_outside::{Files, Sink};
 use std::alloc::Global;
 
 /// Answers the request, and writes the answer. All files are read before the first byte is written.
-pub fn answered<F: Files, K: Sink>(
+pub fn answered<F: Files, K: Sink, R: Runner>(
     alloc: Global,
     request: &Request<'_>,
     files: &mut F,
     out: &mut K,
+    runner: &mut R,
 ) -> Result<Ending, Halt>
     ensures writes { Writes (Answers (F.told files.old) (request_view request.now))
-        (K.taken out.old) (K.taken out.new) result }
+        (K.taken out.old) (K.taken out.new) (Grew (R.count runner.old) (R.count runner.new)) result }
     ensures files { UsesFilesFor F.told F.faults F.asked
         (AsksFor (F.told files.old) (request_view request.now)) files.old files.new
         (IsEarly result) (FailsToRead result) }
     ensures sink { UsesSink K.faults K.calls out.old out.new (FailsToWrite result) }
     ensures unwritten { FailsToRead result → K.calls out.new ≡ K.calls out.old }
 {
+    match request {
+        Request::Generate(size) => generated(alloc, *size, out, runner),
+        Request::Check(_) => answered_from(alloc, request, files, out, runner),
+        Request::Show(_, _) => answered_from(alloc, request, files, out, runner),
+    }
+}
+
+/// Answers the request by these files, which are those of a specification that is generated, too.
+pub fn answered_from<F: Files, K: Sink, R: Runner>(
+    alloc: Global,
+    request: &Request<'_>,
+    files: &mut F,
+    out: &mut K,
+    runner: &mut R,
+) -> Result<Ending, Halt>
+    ensures writes { Writes (AnswersFrom (F.told files.old) (request_view request.now))
+        (K.taken out.old) (K.taken out.new) (Grew (R.count runner.old) (R.count runner.new)) result }
+    ensures files { UsesFilesFor F.told F.faults F.asked
+        (AsksFrom (F.told files.old) (request_view request.now)) files.old files.new
+        (IsEarly result) (FailsToRead result) }
+    ensures sink { UsesSink K.faults K.calls out.old out.new (FailsToWrite result) }
+    ensures unwritten { FailsToRead result → K.calls out.new ≡ K.calls out.old }
+{
     let source = Source::read(alloc, request.spec(), files)?;
     let tree = Tree::read(alloc, &source)?;
+    let compiled = Compiled::read(alloc, tree)?;
     match request {
-        Request::Check(_) => check(alloc, tree, out),
-        Request::List(target) => list(alloc, target, tree, files, out),
-        Request::Run(target, steps) => run(alloc, target, *steps, tree, files, out),
+        Request::Check(_) => check(alloc, &compiled, out),
+        Request::Show(target, what) => { show(alloc, target, *what, compiled, files, out, runner) }
+        Request::Generate(size) => figures(alloc, *size, &compiled, out, runner),
     }
 }

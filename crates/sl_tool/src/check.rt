@@ -1,41 +1,32 @@
-//! `check`: whether a specification is sound.
+//! `check`: how many tables and constructors a sound specification has.
 
 ghost use Rattle.std.specs.Prelude.{◌≡◌, IfOk, length};
 ghost use Rattle.sl_outside.specs.Uses.{UsesSink};
-ghost use Rattle.sl_tool.specs.Answers.{Counts, counts_of};
+ghost use Rattle.sl_tool.specs.Answers.{counts_of};
 ghost use Rattle.sl_tool.specs.Lines.{count_line};
-ghost use Rattle.sl_tool.specs.Outcomes.{FailsToRead, FailsToWrite, Streams, Writes};
-ghost use Rattle.sl_tool.specs.Stage.{Then};
-ghost use Rattle.sl_tool.specs.Stages.{Compiles};
-ghost use Rattle.sl_tool.specs.StageViews.{tree_view};
+ghost use Rattle.sl_tool.specs.Outcomes.{FailsToWrite, RanNone, Streams};
+ghost use Rattle.sl_tool.specs.StageViews.{compiled_view};
 
 use crate::compiled::Compiled;
 use crate::halt::Halt;
 use crate::lines::push_counted;
 use crate::status::Ending;
-use crate::tree::Tree;
 use crate::writing::write_all;
 use sl_outside::Sink;
 use sl_spec::Tables;
 use std::alloc::{AllocError, Global};
 
-/// Writes how many tables and constructors the specification has that the tree is, where it is sound.
-pub fn check<K: Sink>(alloc: Global, tree: Tree<'_, '_>, out: &mut K) -> Result<Ending, Halt>
-    ensures writes { Writes (Then Compiles Counts (tree_view tree.entry))
-        (K.taken out.old) (K.taken out.new) result }
-    ensures sink { UsesSink K.faults K.calls out.old out.new (FailsToWrite result) }
-    ensures unread { FailsToRead result → ⊥ }
-{
-    let compiled = Compiled::read(alloc, tree)?;
-    count(alloc, &compiled.specification.bound.tables, out)
-}
-
-/// Writes how many tables and constructors there are.
-fn count<K: Sink>(alloc: Global, t: &Tables<'_>, out: &mut K) -> Result<Ending, Halt>
-    ensures streams { Streams (counts_of t.now) (K.taken out.old) (K.taken out.new) result }
+/// Writes how many tables and constructors the specification has.
+pub fn check<K: Sink>(
+    alloc: Global,
+    compiled: &Compiled<'_, '_>,
+    out: &mut K,
+) -> Result<Ending, Halt>
+    ensures streams { Streams (counts_of (compiled_view compiled.now))
+        (K.taken out.old) (K.taken out.new) RanNone result }
     ensures sink { UsesSink K.faults K.calls out.old out.new (FailsToWrite result) }
 {
-    let line = count_line(alloc, t)?;
+    let line = count_line(alloc, &compiled.specification.bound.tables)?;
     write_all(out, line.as_slice())?;
     Ok(Ending::Done)
 }

@@ -29,7 +29,7 @@ fn decoded(alloc: Global, target: &Target<'_>, bytes: Vec<u8>) -> Result<Vec<u8>
 
 /// Whether `base` is an address of `address_bytes` bytes, and so are the addresses of `length` bytes
 /// from it on.
-fn has_room(address_bytes: u64, base: u64, length: usize) -> bool
+pub fn has_room(address_bytes: u64, base: u64, length: usize) -> bool
     requires { address_bytes ≤ 8 }
     ensures { IsTrue result ↔ HasRoom (256 ^ address_bytes) base length }
 {

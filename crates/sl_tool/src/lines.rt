@@ -4,7 +4,7 @@
 ghost use Rattle.std.specs.Prelude.{◌≡◌, ◌++◌, ◌≤◌, OnOk, length};
 ghost use Rattle.std.specs.Fmt.{decimal};
 ghost use Rattle.hex.specs.Hex.{encode_lower};
-ghost use Rattle.sl_tool.specs.Lines.{address_text, point_text, place_text};
+ghost use Rattle.sl_tool.specs.Lines.{point_text, place_text};
 
 use crate::place::Place;
 use itoa::Buffer;
@@ -23,15 +23,6 @@ pub fn push_hex(out: &mut Vec<u8>, bytes: &[u8]) -> Result<(), AllocError>
     let digits = &mut buffer[..2 * bytes.len()];
     hex::encode_to_slice(bytes, digits).unwrap();
     out.extend_from_slice(digits)
-}
-
-/// Appends the low bytes of an address in hexadecimal, the most significant first.
-pub fn push_address(out: &mut Vec<u8>, address_bytes: usize, address: u64) -> Result<(), AllocError>
-    requires { address_bytes ≤ 8 }
-    ensures { OnOk result (out.new.items ≡ out.old.items ++ address_text address_bytes address) }
-{
-    let bytes = address.to_be_bytes();
-    push_hex(out, &bytes[8 - address_bytes..])
 }
 
 /// Appends the sixteen bytes of a point and its context.

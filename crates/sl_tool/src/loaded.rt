@@ -1,4 +1,4 @@
-//! The fifth stage of `list`: the image beside the specification.
+//! The stage behind the sound specification: the image beside it.
 
 ghost use Rattle.std.specs.Prelude.{◌≡◌, ℕ, List, IfOk};
 ghost use Rattle.sl_lister.specs.Listing.{image_from};
@@ -29,7 +29,7 @@ pub struct Image {
     pub start: u64,
 }
 
-/// An image beside the specification that it is listed by.
+/// An image beside the specification that it is shown by.
 #[derive(Drop)]
 pub struct Loaded<'s, 'r> {
     pub compiled: Compiled<'s, 'r>,
@@ -64,7 +64,8 @@ impl Image {
     ghost use Rattle.std.specs.Prelude.{[], ◌∷◌, ◌+◌, ◌^◌, ◌≤◌, length};
     ghost use Rattle.sl_outside.specs.Uses.{UsesFiles};
     ghost use Rattle.sl_tool.specs.Outcomes.{FailsToRead, IsEarly, Obtains};
-    ghost use Rattle.sl_tool.specs.Stages.{Readies};
+    ghost use Rattle.sl_decoding.specs.Actions.{address_bytes};
+    ghost use Rattle.sl_tool.specs.Stages.{HasRoom, Readies};
     ghost use Rattle.sl_tool.specs.StageViews.{image_view};
 
     /// The image of the target's file, where it fits the default space of the tables and the words for
@@ -77,6 +78,8 @@ impl Image {
     ) -> Result<Self, Halt>
         ensures gives { Obtains (Readies (F.told files.old) (target_view target.now) tables.now)
             image_view result }
+        ensures room { IfOk result (λ i. HasRoom (256 ^ address_bytes tables.now) i.base
+            (length i.bytes.items)) }
         ensures fits { IfOk result (λ i. i.base + length i.bytes.items ≤ 2 ^ 64) }
         ensures files { UsesFiles F.told F.faults F.asked files.old files.new
             (target.now.image.now ∷ []) (IsEarly result) (FailsToRead result) }

@@ -66,8 +66,6 @@ pub enum Problem {
     TooManyCubes(u32),
     /// How many bytes there are up to the last one that a pattern looks at, which is too many.
     WindowTooLong(u32),
-    /// A specification of another form than the one that is run today.
-    NotYet,
     /// Two constructors of a table that isn't settled.
     Ambiguous(Conflict),
     /// An image is to be hexadecimal text, and spells no bytes.
@@ -136,7 +134,6 @@ pub fn push_words(out: &mut Vec<u8>, problem: &Problem) -> Result<(), AllocError
         Problem::Impossible => out.extend_from_slice(b"impossible pattern"),
         Problem::TooManyCubes(count) => push_counted(out, b"too many cubes ", u64::from(*count)),
         Problem::WindowTooLong(count) => push_counted(out, b"window too long ", u64::from(*count)),
-        Problem::NotYet => out.extend_from_slice(b"not yet"),
         Problem::Ambiguous(conflict) => push_conflict(out, conflict),
         Problem::BadHex => out.extend_from_slice(b"bad hex"),
         Problem::NoContextField => out.extend_from_slice(b"no such context field"),

@@ -1,22 +1,32 @@
-//! What the words of the command line ask for, of the commands that are there.
+//! What the words of the command line ask for.
 
-ghost use Rattle.std.specs.Prelude.{◌≡◌, IfOk, map, option_map, string_bytes};
+ghost use Rattle.std.specs.Prelude.{◌≡◌, IfOk, codes, map, option_map, string_bytes};
 ghost use Rattle.sl_request.specs.Views.{request as asked_view};
-ghost use Rattle.sl_tool.specs.Request.{answerable, request_of, spec_of};
+ghost use Rattle.sl_tool.specs.Request.{request_for, request_of, spec_of};
 ghost use Rattle.sl_tool.specs.Requests.{request};
 
 use sl_request::{Request as Asked, Target};
 use std::alloc::{AllocError, Global};
+
+/// What is shown of an image.
+#[derive(Clone, Copy, Debug, PartialEq, Eq)]
+pub enum Show {
+    Listing,
+    /// The listing with the operations of each instruction.
+    Operations,
+    /// The run for at most so many steps.
+    Run(u64),
+}
 
 /// What is asked for.
 #[derive(Debug, Drop)]
 pub enum Request<'a> {
     /// Whether the specification with this main file is sound.
     Check(&'a str),
-    /// The listing of an image by a specification.
-    List(Target<'a>),
-    /// The run of an image, for at most so many steps.
-    Run(Target<'a>, u64),
+    /// What is shown of an image by a specification.
+    Show(Target<'a>, Show),
+    /// A specification that is generated, with an image of so many instructions, is listed and run.
+    Generate(u64),
 }
 
 impl<'a> Request<'a> {
@@ -26,21 +36,22 @@ impl<'a> Request<'a> {
     {
         match self {
             Request::Check(name) => *name,
-            Request::List(target) => target.spec,
-            Request::Run(target, _) => target.spec,
+            Request::Show(target, _) => target.spec,
+            Request::Generate(_) => "gen",
         }
     }
 }
 
-/// What is asked for, where its command is there.
-fn answerable(asked: Asked<'_>) -> Option<Request<'_>>
-    ensures { option_map request result ≡ answerable (asked_view asked.entry) }
+/// What the words ask for, as it is answered.
+fn request_for(asked: Asked<'_>) -> Request<'_>
+    ensures { request result ≡ request_for (asked_view asked.entry) }
 {
     match asked {
-        Asked::Check(name) => Some(Request::Check(name)),
-        Asked::List(target) => Some(Request::List(target)),
-        Asked::Run(target, steps) => Some(Request::Run(target, steps)),
-        Asked::Pcode(_) | Asked::Gen(_) => None,
+        Asked::Check(name) => Request::Check(name),
+        Asked::List(target) => Request::Show(target, Show::Listing),
+        Asked::Pcode(target) => Request::Show(target, Show::Operations),
+        Asked::Run(target, steps) => Request::Show(target, Show::Run(steps)),
+        Asked::Gen(size) => Request::Generate(size),
     }
 }
 
@@ -49,7 +60,7 @@ pub fn request_of<'a>(alloc: Global, words: &'a [String]) -> Result<Option<Reque
     ensures { IfOk result (λ r. option_map request r ≡ request_of (map string_bytes words.entry.now)) }
 {
     match sl_words::request_of(alloc, words)? {
-        Some(asked) => Ok(answerable(asked)),
+        Some(asked) => Ok(Some(request_for(asked))),
         None => Ok(None),
     }
 }

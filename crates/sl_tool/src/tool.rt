@@ -3,6 +3,7 @@
 ghost use Rattle.std.specs.Prelude.{◌≡◌, ◌≢◌, map, string_bytes};
 ghost use Rattle.sl_outside.specs.Uses.{UsesSink};
 ghost use Rattle.sl_tool.specs.Ends.{Ends, RunsFor};
+ghost use Rattle.sl_tool.specs.Outcomes.{Grew};
 ghost use Rattle.sl_tool.specs.Problems.{refusal_text};
 ghost use Rattle.sl_tool.specs.Request.{request_of as request_meant};
 ghost use Rattle.sl_tool.specs.Writing.{IsWritten};
@@ -13,6 +14,7 @@ use crate::refusal::Refusal;
 use crate::request::request_of;
 use crate::status::{Status, ended};
 use crate::writing::write_all;
+use sl_emu::Runner;
 use sl_outside::{Files, Sink};
 use sl_request::USAGE;
 use std::alloc::Global;
@@ -22,16 +24,19 @@ use std::alloc::Global;
 ///
 /// At `Done`, `Refused`, `Usage` and `Stopped` the whole text was written: the listing or the run, the
 /// lines that say why the specification or the image is refused, the usage line, or the run up to its
-/// fault. At `ReadFault` nothing was written, and a fault of the files was counted in this call. At
+/// fault. The runner's count grew by the operations of p-code that ran, which are none but at `run` and
+/// `gen`. At `ReadFault` nothing was written, and a fault of the files was counted in this call. At
 /// `WriteFault` the first bytes of the text were written, or none, and a fault of the sink was counted in
 /// this call. At `NoMemory` nothing was written, or the first bytes of the text.
-pub fn run_tool<F: Files, K: Sink>(
+pub fn run_tool<F: Files, K: Sink, R: Runner>(
     alloc: Global,
     words: &[String],
     files: &mut F,
     out: &mut K,
+    runner: &mut R,
 ) -> Status
-    ensures ends { Ends (F.told files.old) (request_meant (map string_bytes words.now)) (K.taken out.old) (K.taken out.new) result }
+    ensures ends { Ends (F.told files.old) (request_meant (map string_bytes words.now))
+        (K.taken out.old) (K.taken out.new) (Grew (R.count runner.old) (R.count runner.new)) result }
     ensures files { RunsFor F.told F.faults F.asked (request_meant (map string_bytes words.now)) files.old files.new result }
     ensures sink { UsesSink K.faults K.calls out.old out.new (result ≡ Status.WriteFault) }
     ensures unwritten { result ≡ Status.ReadFault → K.calls out.new ≡ K.calls out.old }
@@ -42,7 +47,7 @@ pub fn run_tool<F: Files, K: Sink>(
     let Some(request) = asked else {
         return written(out, USAGE.as_bytes(), Status::Usage);
     };
-    match answered(alloc, &request, files, out) {
+    match answered(alloc, &request, files, out, runner) {
         Ok(ending) => ended(ending),
         Err(Halt::Refused(refusal)) => refused(alloc, &refusal, out),
         Err(Halt::ReadFault) => Status::ReadFault,

@@ -3,6 +3,7 @@
 ghost use Rattle.std.specs.Prelude.{◌≡◌};
 ghost use Rattle.sl_ast.specs.Unfolding.{firsts};
 ghost use Rattle.sl_ast.specs.Views.{indexes_of, items_of};
+ghost use Rattle.sl_bound_translations.specs.Laws.{IsShort};
 ghost use Rattle.sl_tool.specs.Halts.{first_fault};
 
 use crate::halt::Halt;
@@ -14,12 +15,14 @@ use sl_ast::items::Spec;
 use sl_parse::{ParseError, parse};
 use std::alloc::Global;
 
-/// The tree of a specification, beside its tokens. It keeps the index of each item's first token.
+/// The tree of a specification, beside its tokens. It keeps the index of each item's first token, and has no more
+/// tokens than a file has bytes.
 #[derive(Drop)]
 pub struct Tree<'s, 'r> {
     pub tokens: Tokens<'s, 'r>,
     pub spec: Spec<'s>,
     pub ghost indexes: { indexes_of spec ≡ firsts (items_of spec) },
+    pub ghost short: { IsShort (items_of spec) },
 }
 
 /// The token's index and the problem of an error of the parser, unless memory ran out.

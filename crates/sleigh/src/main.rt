@@ -1,6 +1,7 @@
-//! The program `sleigh`: the tool over the files of the machine and its standard output.
+//! The program `sleigh`: the tool over the files of the machine, its standard output, and the emulator.
 #![tactic(auto)]
 
+use sl_emu::KeepingEmu;
 use sl_outside::{DiskFiles, StdSink};
 use sl_tool::{Status, run_tool};
 use std::io::{self, ErrorKind};
@@ -25,5 +26,6 @@ fn called(rt: &HostRuntime, words: &[String]) -> Status {
     let alloc = rt.alloc();
     let mut files = DiskFiles::new(alloc, rt);
     let mut out = StdSink::new(rt);
-    run_tool(alloc, words, &mut files, &mut out)
+    let mut runner = KeepingEmu::new(alloc);
+    run_tool(alloc, words, &mut files, &mut out, &mut runner)
 }

@@ -1,5 +1,6 @@
 //! One call of the tool.
 
+use sl_emu::Emu;
 use sl_outside::{MemFiles, MemSink};
 use sl_tool::{Status, run_tool};
 use std::alloc::Global;
@@ -23,7 +24,8 @@ pub fn call(
 ) -> Result<(Status, MemSink), Fail> {
     let all = command(alloc, words)?;
     let mut out = MemSink::new(alloc);
-    let status = run_tool(alloc, all.as_slice(), files, &mut out);
+    let mut runner = Emu { count: 0 };
+    let status = run_tool(alloc, all.as_slice(), files, &mut out, &mut runner);
     Ok((status, out))
 }
 

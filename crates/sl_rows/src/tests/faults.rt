@@ -1,6 +1,7 @@
 //! Files that can't be read, and a sink that gives up.
 
 use super::calls::command;
+use sl_emu::Emu;
 use sl_outside::{MemFiles, MemSink};
 use sl_tool::{Status, run_tool};
 use std::alloc::{AllocError, Global};
@@ -44,7 +45,8 @@ fn nothing_is_written_at_a_read_fault(rt: HostRuntime) -> Result<(), Fail> {
         let mut files = folder(alloc)?;
         files.fail_on(*failing)?;
         let mut out = MemSink::new(alloc);
-        let status = run_tool(alloc, words.as_slice(), &mut files, &mut out);
+        let mut runner = Emu { count: 0 };
+        let status = run_tool(alloc, words.as_slice(), &mut files, &mut out, &mut runner);
         assert_eq!(rt; status, *ends, "{failing}");
         assert_eq!(rt; out.bytes(), text.as_bytes(), "{failing}");
     }
@@ -69,7 +71,8 @@ fn a_front_is_written_at_a_write_fault(rt: HostRuntime) -> Result<(), Fail> {
         let mut files = folder(alloc)?;
         let mut out = MemSink::new(alloc);
         out.room(*room);
-        let status = run_tool(alloc, words.as_slice(), &mut files, &mut out);
+        let mut runner = Emu { count: 0 };
+        let status = run_tool(alloc, words.as_slice(), &mut files, &mut out, &mut runner);
         assert_eq!(rt; status, *ends, "{room}");
         assert_eq!(rt; out.bytes(), text.as_bytes(), "{room}");
     }
@@ -83,7 +86,8 @@ fn the_first_put_fails(rt: HostRuntime) -> Result<(), Fail> {
     let mut files = folder(alloc)?;
     let mut out = MemSink::new(alloc);
     out.fail_on(1)?;
-    let status = run_tool(alloc, words.as_slice(), &mut files, &mut out);
+    let mut runner = Emu { count: 0 };
+    let status = run_tool(alloc, words.as_slice(), &mut files, &mut out, &mut runner);
     assert_eq!(rt; status, Status::WriteFault);
     assert_eq!(rt; out.bytes(), b"".as_slice());
     Ok(())

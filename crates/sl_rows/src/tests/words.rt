@@ -1,6 +1,7 @@
 //! Words that ask for nothing that the tool does.
 
 use super::calls::call;
+use sl_emu::Emu;
 use sl_outside::{MemFiles, MemSink};
 use sl_tool::{Status, run_tool};
 use std::test::Fail;
@@ -8,7 +9,7 @@ use std::test::Fail;
 const USAGE: &str =
     "usage: sleigh check SPEC | list SPEC IMAGE | pcode SPEC IMAGE | run SPEC IMAGE | gen NUMBER\n";
 
-static WORDS: [&[&str]; 43] = [
+static WORDS: [&[&str]; 40] = [
     &[],
     &["list"],
     &["list", "s"],
@@ -29,8 +30,6 @@ static WORDS: [&[&str]; 43] = [
     &["s", "i", "list"],
     &["check", "s", "t"],
     &["check", "s", "i"],
-    &["pcode", "s", "i"],
-    &["pcode", "s", "i", "--hex", "a=1"],
     &["run", "s"],
     &["run", "s", "-i"],
     &["run", "s", "i", "--steps"],
@@ -46,7 +45,6 @@ static WORDS: [&[&str]; 43] = [
     &["run", "s", "i", "--steps", "0x10000000000000000"],
     &["run", "s", "i", "--steps", "1", "2"],
     &["run", "s", "i", "--base", "1", "--base", "1"],
-    &["gen", "1"],
     &["gen", "0"],
     &["gen", "30001"],
     &["help"],
@@ -66,7 +64,8 @@ fn other_words_give_the_usage_line(rt: HostRuntime) -> Result<(), Fail> {
         assert_eq!(rt; out.bytes(), USAGE.as_bytes(), "{words:?}");
     }
     let mut out = MemSink::new(alloc);
-    let status = run_tool(alloc, &[], &mut files, &mut out);
+    let mut runner = Emu { count: 0 };
+    let status = run_tool(alloc, &[], &mut files, &mut out, &mut runner);
     assert_eq!(rt; status, Status::Usage);
     assert_eq!(rt; out.bytes(), USAGE.as_bytes());
     Ok(())

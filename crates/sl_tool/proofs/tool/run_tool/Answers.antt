@@ -1,11 +1,11 @@
-use Rattle.std.proofs.Common.{ℕ, List, Some, None, Option, inl, map, ap, sym, subst, ◌∙◌}
+use Rattle.std.proofs.Common.{ℕ, List, Some, None, Option, inl, map, ap, refl, sym, subst, ◌∙◌}
 use Rattle.std.proofs.KnownBytes.{Appends-nil}
 use Rattle.std.specs.Prelude.{string_bytes}
 use Rattle.std.specs.Option.{option_map}
 use Rattle.sl_tool.specs.Answers.{Answers, AsksFor, UsesFilesFor}
 use Rattle.sl_tool.specs.Ends.{Ends, Means, RunsFor}
 use Rattle.sl_tool.specs.Ends.Means.{usage, answer}
-use Rattle.sl_tool.specs.Outcomes.{IsReadFault, StopsEarly}
+use Rattle.sl_tool.specs.Outcomes.{Grew, IsReadFault, StopsEarly}
 use Rattle.sl_tool.specs.Problems.{refusal_text}
 use Rattle.sl_tool.specs.Request.{Request, request_of}
 use Rattle.sl_tool.specs.Requests.{request}
@@ -13,6 +13,7 @@ use Rattle.sl_tool.specs.declared.halt.Halt.{Halt}
 use Rattle.sl_tool.specs.declared.halt.Halt.TheVariants as halt
 use Rattle.sl_tool.specs.declared.status.Status.{Status}
 use Rattle.sl_tool.specs.declared.status.Status.TheVariants.{Usage, Refused, WriteFault, NoMemory}
+use Rattle.sl_tool.proofs.AnsweredLemmas.{grew_none}
 use Rattle.sl_tool.proofs.EndLemmas.{ends_ended, ends_fault, ends_memory, ends_written, refused_uses, unread, unused, writes_at, written_after, written_reads}
 use Rattle.sl_tool.proofs.tool.run_tool.Goals as goal
 
@@ -32,9 +33,10 @@ returns-in_default-asked-clause-ends g c =
     let old = g.K.Sink.taken c.args.out.now in
     let new = g.K.Sink.taken c.written.new.out in
     let none = sym c.in-Ok.ensures ∙ ap (option_map request) c.in_default-asked.is in
-    let means = subst (λ (text : List ℕ). Means told None Usage text) (sym c.as_bytes.ensures.value) usage in
-    subst (λ (r : Option Request). Ends told r old new c.written.result) (sym none)
-    (ends_written told None old new c.as_bytes.result.now Usage c.written.result tt means c.written.ensures.whole)
+    let means = subst (λ (text : List ℕ). Means told None Usage text 0) (sym c.as_bytes.ensures.value) usage in
+    let n = g.R.Runner.count c.args.runner.now in
+    subst (λ (r : Option Request). Ends told r old new (Grew n n) c.written.result) (sym none)
+    (ends_written told None old new (Grew n n) c.as_bytes.result.now Usage c.written.result tt means (grew_none n 0 (g.R.Runner.small c.args.runner.now) refl) c.written.ensures.whole)
 
 pub returns-in_default-asked-clause-files : goal.returns-in_default-asked-clause-files
 returns-in_default-asked-clause-files g c =
@@ -53,8 +55,9 @@ returns-in-Ok-answered-clause-ends g c =
     let new = g.K.Sink.taken c.answered.new.out in
     let r = request c.in-Some.request in
     let asked = sym c.in-Ok.ensures ∙ ap (option_map request) c.in-Some.is in
-    subst (λ (o : Option Request). Ends told o old new c.ended.result) (sym asked)
-    (subst (λ (s : Status). Ends told (Some r) old new s) (sym c.ended.ensures) (ends_ended told r old new c.in-Ok-answered.ending c.in-Ok-answered.ensures.writes))
+    let grew = Grew (g.R.Runner.count c.args.runner.now) (g.R.Runner.count c.answered.new.runner) in
+    subst (λ (o : Option Request). Ends told o old new grew c.ended.result) (sym asked)
+    (subst (λ (s : Status). Ends told (Some r) old new grew s) (sym c.ended.ensures) (ends_ended told r old new grew c.in-Ok-answered.ending c.in-Ok-answered.ensures.writes))
 
 pub returns-in-Err-Refused-clause-ends : goal.returns-in-Err-Refused-clause-ends
 returns-in-Err-Refused-clause-ends g c =
@@ -65,10 +68,11 @@ returns-in-Err-Refused-clause-ends g c =
     let r = request c.in-Some.request in
     let x = c.in-Err-Refused.refusal in
     let asked = sym c.in-Ok.ensures ∙ ap (option_map request) c.in-Some.is in
-    let w = writes_at (Answers told r) old mid c.in-Err-Refused.field-0 (halt.Refused x) c.in-Err-Refused.field-0-is c.in-Err-Refused.ensures.writes in
-    let means : Means told (Some r) Refused (refusal_text x) = answer w.0 in
-    subst (λ (o : Option Request). Ends told o old new c.refused.result) (sym asked)
-    (ends_written told (Some r) old new (refusal_text x) Refused c.refused.result tt means
+    let grew = Grew (g.R.Runner.count c.args.runner.now) (g.R.Runner.count c.answered.new.runner) in
+    let w = writes_at (Answers told r) old mid grew c.in-Err-Refused.field-0 (halt.Refused x) c.in-Err-Refused.field-0-is c.in-Err-Refused.ensures.writes in
+    let means : Means told (Some r) Refused (refusal_text x) 0 = answer w.0 in
+    subst (λ (o : Option Request). Ends told o old new grew c.refused.result) (sym asked)
+    (ends_written told (Some r) old new grew (refusal_text x) Refused c.refused.result tt means w.2
     (written_after old mid new (refusal_text x) Refused c.refused.result w.1 c.refused.ensures.whole))
 
 pub returns-in-Err-Refused-clause-files : goal.returns-in-Err-Refused-clause-files
@@ -92,8 +96,9 @@ returns-in-Err-WriteFault-clause-ends g c =
     let new = g.K.Sink.taken c.answered.new.out in
     let r = request c.in-Some.request in
     let asked = sym c.in-Ok.ensures ∙ ap (option_map request) c.in-Some.is in
-    subst (λ (o : Option Request). Ends told o old new WriteFault) (sym asked)
-    (ends_fault told r old new (writes_at (Answers told r) old new c.in-Err-WriteFault.field-0 halt.WriteFault c.in-Err-WriteFault.field-0-is c.in-Err-WriteFault.ensures.writes))
+    let grew = Grew (g.R.Runner.count c.args.runner.now) (g.R.Runner.count c.answered.new.runner) in
+    subst (λ (o : Option Request). Ends told o old new grew WriteFault) (sym asked)
+    (ends_fault told r old new grew (writes_at (Answers told r) old new grew c.in-Err-WriteFault.field-0 halt.WriteFault c.in-Err-WriteFault.field-0-is c.in-Err-WriteFault.ensures.writes))
 
 pub returns-clause-ends : goal.returns-clause-ends
 returns-clause-ends g c =
@@ -102,5 +107,6 @@ returns-clause-ends g c =
     let new = g.K.Sink.taken c.answered.new.out in
     let r = request c.in-Some.request in
     let asked = sym c.in-Ok.ensures ∙ ap (option_map request) c.in-Some.is in
-    subst (λ (o : Option Request). Ends told o old new NoMemory) (sym asked)
-    (ends_memory told r old new (writes_at (Answers told r) old new c.in-Err-NoMemory.field-0 halt.NoMemory c.in-Err-NoMemory.field-0-is c.in-Err-NoMemory.ensures.writes))
+    let grew = Grew (g.R.Runner.count c.args.runner.now) (g.R.Runner.count c.answered.new.runner) in
+    subst (λ (o : Option Request). Ends told o old new grew NoMemory) (sym asked)
+    (ends_memory told r old new grew (writes_at (Answers told r) old new grew c.in-Err-NoMemory.field-0 halt.NoMemory c.in-Err-NoMemory.field-0-is c.in-Err-NoMemory.ensures.writes))

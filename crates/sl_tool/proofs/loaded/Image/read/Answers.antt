@@ -1,11 +1,11 @@
-use Rattle.std.proofs.Common.{◌≡◌, ◌^◌, ℕ, List, Vec, Global, Ok, Err, subst, ◌∙◌, arith}
+use Rattle.std.proofs.Common.{◌≡◌, ◌^◌, ℕ, List, length, Vec, Global, Ok, Err, subst, ◌∙◌, arith}
 use Rattle.std.proofs.lemmas.Result.{err_from_is_err_and}
 use Rattle.sl_decoding.specs.Actions.{address_bytes}
 use Rattle.sl_lister.specs.Listing.{image_from}
 use Rattle.sl_request.specs.Views.{target}
 use Rattle.sl_tool.specs.Outcomes.{Gives}
 use Rattle.sl_tool.specs.Stage.Then.{stops, goes}
-use Rattle.sl_tool.specs.Stages.{Fetches, Prepares, Readies, Starts}
+use Rattle.sl_tool.specs.Stages.{Fetches, HasRoom, Prepares, Readies, Starts}
 use Rattle.sl_tool.specs.StageViews.{image_view}
 use Rattle.sl_tool.proofs.AnsweredLemmas.{gives_obtains, reads_on}
 use Rattle.sl_tool.proofs.ImageLemmas.{image_fits, obtains_err}
@@ -65,3 +65,9 @@ returns-clause-gives g c =
 
 pub returns-clause-fits : goal.returns-clause-fits
 returns-clause-fits g c = image_fits c.from-address_bytes.result c.args.target.now.base c.in_ok-bytes-2.bytes.items (omega arith) c.in_ok-bytes-2.ensures.room
+
+pub returns-clause-room : goal.returns-clause-room
+returns-clause-room g c =
+    let bytes = c.in_ok-bytes-2.bytes.items in
+    let same : c.from-address_bytes.result ≡ address_bytes c.args.tables.now = c.from-address_bytes.ensures ∙ c.address_size.ensures in
+    subst (λ (n : ℕ). HasRoom (256 ^ n) c.args.target.now.base (length bytes)) same c.in_ok-bytes-2.ensures.room

@@ -1,3 +1,0 @@
-pub mod Machine
-pub mod Translated
-pub mod Runs

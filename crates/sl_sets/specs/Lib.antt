@@ -1,4 +1,0 @@
-pub mod Sets
-pub mod Cubes
-pub mod Scan
-pub mod Reports

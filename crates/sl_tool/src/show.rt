@@ -1,0 +1,143 @@
+//! What is shown of an image: its listing, the listing with operations, or its run.
+
+ghost use Rattle.std.specs.Prelude.{◌≡◌, [], ◌∷◌};
+ghost use Rattle.sl_outside.specs.Uses.{UsesFiles, UsesSink};
+ghost use Rattle.sl_request.specs.Views.{target as target_view};
+ghost use Rattle.sl_tool.specs.Answers.{Shows, shows_of};
+ghost use Rattle.sl_tool.specs.Inputs.{IsCompiled, IsLoaded};
+ghost use Rattle.sl_tool.specs.Outcomes.{FailsToRead, FailsToWrite, Grew, IsEarly, RanNone};
+ghost use Rattle.sl_tool.specs.Outcomes.{Streams, Writes};
+ghost use Rattle.sl_tool.specs.Request.{Listing, Operations, Run};
+ghost use Rattle.sl_tool.specs.Requests.{show_of};
+ghost use Rattle.sl_tool.specs.Stage.{Then};
+ghost use Rattle.sl_tool.specs.Stages.{Loads};
+ghost use Rattle.sl_tool.specs.StageViews.{compiled_view, loaded_view};
+
+use crate::compiled::Compiled;
+use crate::halt::Halt;
+use crate::loaded::Loaded;
+use crate::request::Show;
+use crate::status::{Ending, ending_of};
+use crate::writing::write_all;
+use sl_emu::Runner;
+use sl_lister::{ListError, list_image};
+use sl_outside::{Files, Sink};
+use sl_pcode_lister::list_pcode;
+use sl_request::Target;
+use sl_runner::run_image;
+use std::alloc::Global;
+
+/// Shows the target's image by the specification. `Loaded::read` is the last stage that has the files,
+/// and `show_image` the only one that has the sink.
+pub fn show<F: Files, K: Sink, R: Runner>(
+    alloc: Global,
+    target: &Target<'_>,
+    what: Show,
+    compiled: Compiled<'_, '_>,
+    files: &mut F,
+    out: &mut K,
+    runner: &mut R,
+) -> Result<Ending, Halt>
+    requires { IsCompiled compiled }
+    ensures writes { Writes (Then (Loads (F.told files.old) (target_view target.now))
+        (Shows (shows_of (show_of what))) (compiled_view compiled.entry)) (K.taken out.old)
+        (K.taken out.new) (Grew (R.count runner.old) (R.count runner.new)) result }
+    ensures files { UsesFiles F.told F.faults F.asked files.old files.new
+        (target.now.image.now ∷ []) (IsEarly result) (FailsToRead result) }
+    ensures sink { UsesSink K.faults K.calls out.old out.new (FailsToWrite result) }
+    ensures unwritten { FailsToRead result → K.calls out.new ≡ K.calls out.old }
+{
+    let loaded = Loaded::read(alloc, target, compiled, files)?;
+    show_image(alloc, what, &loaded, out, runner)
+}
+
+/// Writes what is shown of the image.
+fn show_image<K: Sink, R: Runner>(
+    alloc: Global,
+    what: Show,
+    loaded: &Loaded<'_, '_>,
+    out: &mut K,
+    runner: &mut R,
+) -> Result<Ending, Halt>
+    requires { IsLoaded loaded.now }
+    ensures streams { Streams (shows_of (show_of what) (loaded_view loaded.now)) (K.taken out.old)
+        (K.taken out.new) (Grew (R.count runner.old) (R.count runner.new)) result }
+    ensures sink { UsesSink K.faults K.calls out.old out.new (FailsToWrite result) }
+{
+    match what {
+        Show::Listing => write_listing(alloc, loaded, out),
+        Show::Operations => write_operations(alloc, loaded, out),
+        Show::Run(steps) => write_run(alloc, steps, loaded, out, runner),
+    }
+}
+
+/// Writes the listing of the image, line by line.
+fn write_listing<K: Sink>(
+    alloc: Global,
+    loaded: &Loaded<'_, '_>,
+    out: &mut K,
+) -> Result<Ending, Halt>
+    requires { IsLoaded loaded.now }
+    ensures streams { Streams (shows_of Listing (loaded_view loaded.now))
+        (K.taken out.old) (K.taken out.new) RanNone result }
+    ensures sink { UsesSink K.faults K.calls out.old out.new (FailsToWrite result) }
+{
+    let specification = &loaded.compiled.specification;
+    let image = &loaded.image;
+    let bytes = image.bytes.as_slice();
+    match list_image(alloc, specification, bytes, image.base, image.start, out) {
+        Ok(()) => Ok(Ending::Done),
+        Err(ListError::WriteFault) => Err(Halt::WriteFault),
+        Err(ListError::NoMemory) => Err(Halt::NoMemory),
+    }
+}
+
+/// Writes the listing with the operations of each instruction, line by line.
+fn write_operations<K: Sink>(
+    alloc: Global,
+    loaded: &Loaded<'_, '_>,
+    out: &mut K,
+) -> Result<Ending, Halt>
+    requires { IsLoaded loaded.now }
+    ensures streams { Streams (shows_of Operations (loaded_view loaded.now))
+        (K.taken out.old) (K.taken out.new) RanNone result }
+    ensures sink { UsesSink K.faults K.calls out.old out.new (FailsToWrite result) }
+{
+    let specification = &loaded.compiled.specification;
+    let image = &loaded.image;
+    let bytes = image.bytes.as_slice();
+    match list_pcode(alloc, specification, bytes, image.base, image.start, out) {
+        Ok(()) => Ok(Ending::Done),
+        Err(ListError::WriteFault) => Err(Halt::WriteFault),
+        Err(ListError::NoMemory) => Err(Halt::NoMemory),
+    }
+}
+
+/// Writes the run of the image for at most so many steps.
+fn write_run<K: Sink, R: Runner>(
+    alloc: Global,
+    steps: u64,
+    loaded: &Loaded<'_, '_>,
+    out: &mut K,
+    runner: &mut R,
+) -> Result<Ending, Halt>
+    requires { IsLoaded loaded.now }
+    ensures streams { Streams (shows_of (Run steps) (loaded_view loaded.now)) (K.taken out.old)
+        (K.taken out.new) (Grew (R.count runner.old) (R.count runner.new)) result }
+    ensures sink { UsesSink K.faults K.calls out.old out.new (FailsToWrite result) }
+{
+    let specification = &loaded.compiled.specification;
+    let image = &loaded.image;
+    let bytes = image.bytes.as_slice();
+    let ran = run_image(
+        alloc,
+        specification,
+        bytes,
+        image.base,
+        image.start,
+        steps,
+        runner,
+    )?;
+    write_all(out, ran.text.as_slice())?;
+    Ok(ending_of(ran.stopped))
+}
