@@ -7,3 +7,6 @@ mod opening;
 
 pub use opening::{UnpackError, unpack};
 pub use sl_pack::{Packed, pack};
+
+#[cfg(test)]
+mod tests;
