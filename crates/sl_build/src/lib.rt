@@ -14,4 +14,4 @@ mod unimplemented;
 mod work;
 
 pub use built::{Built, Decoded};
-pub use sections::Sections;
+pub use sections::{Sections, address_sizes};

@@ -40,8 +40,8 @@ fn address_size(space: &Space) -> AddressSize
     AddressSize { bytes: space.size }
 }
 
-/// The sizes of the addresses of all spaces.
-fn address_sizes(alloc: Global, t: &Tables) -> Result<Vec<AddressSize>, AllocError>
+/// The sizes of the addresses of all spaces, in their order. The only error is want of memory.
+pub fn address_sizes(alloc: Global, t: &Tables) -> Result<Vec<AddressSize>, AllocError>
     ensures { IfOk result (λ v. byte_counts v.items ≡ map (λ z. z.size) t.now.spaces) }
 {
     let mut sizes = Vec::new(alloc);

@@ -1,6 +1,7 @@
-pub mod LatestLemmas
-pub mod SeenLemmas
 pub mod CommitLemmas
-pub mod PlaceLemmas
-pub mod SpreadLemmas
+pub mod LatestLemmas
 pub mod LawLemmas
+pub mod PlaceLemmas
+pub mod SeenLemmas
+pub mod SeveralLemmas
+pub mod SpreadLemmas

@@ -7,6 +7,7 @@ pub mod laws;
 mod map;
 mod places;
 mod runs;
+mod several;
 
 pub use commits::Commit;
 pub use map::ContextMap;

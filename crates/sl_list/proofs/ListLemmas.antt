@@ -1,7 +1,6 @@
 -- A listing that is under way.
-use Rattle.std.proofs.Common.{◌≡◌, ℕ, ◌+◌, ◌<◌, ◌≤◌, List, [], ◌∷◌, ◌++◌, length, take, get_or, add-one, Option, Some, None, sym, ap, subst, ◌∙◌, append_assoc, append-nil}
-use Rattle.std.proofs.Math.Seq.{take-length, take-append-add, take-suc}
-use Rattle.std.proofs.lemmas.List.{take_all}
+use Rattle.std.proofs.Common.{◌≡◌, ℕ, ◌+◌, ◌<◌, ◌≤◌, List, [], ◌∷◌, ◌++◌, length, take, Option, Some, None, sym, ap, subst, ◌∙◌, append_assoc, append-nil}
+use Rattle.std.proofs.Math.Seq.{take-length, take-append-add}
 use Rattle.std.proofs.KnownBytes.{Appends-trans}
 use Rattle.std.specs.Io.KnownBytes.{Appends}
 use Rattle.sl_contexts.specs.Kept.{Kept}
@@ -59,15 +58,6 @@ module _ (shows : Shows) (end : ℕ) where
       subst (Appends old new) (sym (take-append-add u.text text w.0)) (Appends-trans old now new u.text (take w.0 text) u.written w.1),
     ),
   )
-
--- one more commit of a list
-pub one_commit : (m : Kept) (start : ℕ) (cs xs : List Commit) (k : ℕ) (d : Commit) → k < length xs → Stands m start (cs ++ take k xs ++ get_or xs k d ∷ []) → Stands m start (cs ++ take (k + 1) xs)
-one_commit m start cs xs k d h s =
-    let e : take (k + 1) xs ≡ take k xs ++ get_or xs k d ∷ [] = rw add-one (take-suc xs k d h) in
-    subst (Stands m start) (append_assoc cs (take k xs) (get_or xs k d ∷ []) ∙ ap (λ l. cs ++ l) (sym e)) s
-
-pub all_commits : (m : Kept) (start : ℕ) (cs xs : List Commit) (k : ℕ) → length xs ≤ k → Stands m start (cs ++ take k xs) → Stands m start (cs ++ xs)
-all_commits m start cs xs k h s = subst (λ l. Stands m start (cs ++ l)) (take_all k xs h) s
 
 module _ (shows : Shows) (at n : ℕ) (cs : List Commit) (text : List ℕ) (ds : List Commit) (old new : Option (List ℕ)) where
   pub next_of : (start : ℕ) (contexts : Kept) → shows at cs text n ds → Stands contexts start (cs ++ ds) → Appends old new text → IsNext shows at n cs start contexts old new

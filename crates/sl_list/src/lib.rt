@@ -11,6 +11,6 @@ mod writing;
 pub use instructions::{
     Decoder, ListBuffers, Listing, WINDOW, count_of, mark_of, put_line, window_at,
 };
-pub use lines::{MOST_BYTES, push_listed};
+pub use lines::{MOST_BYTES, push_address, push_hex, push_listed};
 pub use listings::{ListError, Lister, list_all};
 pub use specified::Specified;

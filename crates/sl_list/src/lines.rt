@@ -11,7 +11,7 @@ use std::alloc::AllocError;
 pub const MOST_BYTES: usize = 255;
 
 /// Appends the bytes in hexadecimal, two digits each.
-fn push_hex(out: &mut Vec<u8>, bytes: &[u8]) -> Result<(), AllocError>
+pub fn push_hex(out: &mut Vec<u8>, bytes: &[u8]) -> Result<(), AllocError>
     requires { length bytes.now ≤ MOST_BYTES }
     ensures { OnOk result (out.new.items ≡ out.old.items ++ encode_lower bytes.now) }
 {
@@ -22,7 +22,7 @@ fn push_hex(out: &mut Vec<u8>, bytes: &[u8]) -> Result<(), AllocError>
 }
 
 /// Appends an address in hexadecimal, with two digits for each of its bytes.
-fn push_address(out: &mut Vec<u8>, size: AddressSize, address: u64) -> Result<(), AllocError>
+pub fn push_address(out: &mut Vec<u8>, size: AddressSize, address: u64) -> Result<(), AllocError>
     ensures { OnOk result (out.new.items ≡ out.old.items ++ address_text size.bytes address) }
 {
     let bytes = address.to_be_bytes();

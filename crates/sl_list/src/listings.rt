@@ -74,17 +74,6 @@ pub trait Lister {
             → shows self.now at cs text.new.items n commits.new.items) };
 }
 
-/// Makes the commits in their order.
-fn commit_all(contexts: &mut ContextMap, commits: &[Commit]) -> Result<(), AllocError>
-    ensures { OnOk result ((start : ℕ) (cs : List CommitOf)
-        → Stands contexts.old start cs → Stands contexts.new start (cs ++ commits.now)) }
-{
-    'commits: for commit in commits {
-        contexts.commit(commit)?;
-    }
-    Ok(())
-}
-
 /// Hands out one position, and makes its commits. The result is the number of bytes that it covers.
 fn next_line<L: Lister, K: Sink>(
     lister: &L,
@@ -116,7 +105,7 @@ fn next_line<L: Lister, K: Sink>(
         Ok(()) => {}
         Err(error) => return Err(error),
     }
-    match commit_all(contexts, commits) {
+    match contexts.commit_all(commits) {
         Ok(()) => Ok(count),
         Err(_) => Err(ListError::NoMemory),
     }

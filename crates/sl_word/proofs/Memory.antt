@@ -97,6 +97,21 @@ Puts-run m base i n byte old mid new room before e =
           e o ∙ out_of_run (base + i) i n o _ _ outside ∙ before.kept o (λ k less. away k (omega arith));
     }
 
+-- a run of bytes more is copied, before the end of the space
+pub copied-run : (m base i n offset : ℕ) (byte old new : ℕ → ℕ) → offset ≡ (base + i) % m → offset + n ≤ m → ((k : ℕ) → k < i → old k ≡ byte ((base + k) % m)) → ((k : ℕ) → new k ≡ with_run i 0 n (λ j. byte (offset + j)) old k) → (k : ℕ) → k < i + n → new k ≡ byte ((base + k) % m)
+copied-run m base i n offset byte old new at room before e k below =
+    elim (cases_lt k i) [
+      | inl less ↦ e k ∙ out_of_run i 0 n k _ _ (inl less) ∙ before k less
+      | inr more ↦
+          let sum : base + k ≡ base + i + (k - i) = omega arith in
+          let same : (base + k) % m ≡ offset + (k - i) =
+          ap (λ x. x % m) sum ∙ sym (mod-add-mod (base + i) m (k - i))
+          ∙ ap (λ x. (x + (k - i)) % m) (sym at) ∙ mod-eq_of_lt (omega arith)
+          in
+          let there : offset + (0 + (k - i)) ≡ (base + k) % m = omega (arith, same) in
+          e k ∙ in_run i 0 n k _ _ (omega arith) (omega arith) ∙ ap byte there
+    ]
+
 -- what a byte is worth at a place
 byte_worth_below : (b p : ℕ) → b < 256 → b * 256 ^ p < 256 ^ suc p
 byte_worth_below b p hb = omega (arith, mul-add-lt b (256 ^ p) 0 256 hb (bytes_pos p), pow-suc 256 p)

@@ -47,6 +47,18 @@ impl Page {
         word.put_into(endian, &mut self.bytes[place..end]);
     }
 
+    // Copies `count` bytes, from the one at a place on, to a place of a buffer.
+    pub(crate) fn copy_to(&self, place: usize, out: &mut [u8], to: usize, count: usize)
+        requires inside { place + count ≤ 4096 }
+        requires there { to + count ≤ length out.old }
+        ensures length { length out.new ≡ length out.old }
+        ensures bytes { (k : ℕ) → slice_index out.new k
+            ≡ with_run to place count (slice_index self.now.bytes.items) (slice_index out.old) k }
+    {
+        let run = &self.bytes[place..place + count];
+        out[to..to + count].copy_from_slice(run);
+    }
+
     // The number that the bytes from a place on make.
     pub(crate) fn number(&self, place: usize, endian: Endian, size: Size) -> u128
         requires { place + size.bytes ≤ 4096 }

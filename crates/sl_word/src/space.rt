@@ -44,8 +44,14 @@ impl Space {
     fn address(&self, base: u64, after: u64) -> u64
         ensures { result ≡ (base + after) % 256 ^ self.now.size.bytes }
     {
-        let mask = u64::MAX >> (64 - 8 * u32::from(self.size.bytes));
-        base.wrapping_add(after) & mask
+        base.wrapping_add(after) & self.last()
+    }
+
+    // The greatest offset.
+    fn last(&self) -> u64
+        ensures { result + 1 ≡ 256 ^ self.now.size.bytes }
+    {
+        u64::MAX >> (64 - 8 * u32::from(self.size.bytes))
     }
 
     fn byte_after(&self, base: u64, place: u8) -> u8
@@ -285,6 +291,52 @@ impl Space {
         self.add_pages_of(base, bytes.len() as u64)?;
         self.set_bytes(base, bytes);
         Ok(())
+    }
+
+    // How many bytes from an offset on lie in its page, before the end of the space.
+    fn run_at(&self, offset: u64) -> usize
+        requires { offset < 256 ^ self.now.size.bytes }
+        ensures some { 0 < result }
+        ensures page { offset % 4096 + result ≤ 4096 }
+        ensures room { offset + result ≤ 256 ^ self.now.size.bytes }
+    {
+        let in_page = PAGE_LENGTH - offset % PAGE_LENGTH;
+        let behind = self.last() - offset;
+        if behind < in_page {
+            (behind + 1) as usize
+        } else {
+            in_page as usize
+        }
+    }
+
+    // Copies `count` bytes, from one at an offset on that lie in one page, to a place of a buffer.
+    fn copy_run(&self, offset: u64, out: &mut [u8], to: usize, count: usize)
+        requires page { offset % 4096 + count ≤ 4096 }
+        requires there { to + count ≤ length out.old }
+        ensures length { length out.new ≡ length out.old }
+        ensures bytes { (k : ℕ) → slice_index out.new k
+            ≡ with_run to 0 count (λ i. byte_in self.now (offset + i)) (slice_index out.old) k }
+    {
+        let number = offset / PAGE_LENGTH;
+        let place = (offset % PAGE_LENGTH) as usize;
+        match self.pages.get(&number) {
+            Some(page) => page.copy_to(place, out, to, count),
+            None => out[to..to + count].fill(0),
+        }
+    }
+
+    // Fills a buffer with the bytes from a base on, page by page.
+    pub(crate) fn fill(&self, base: u64, out: &mut [u8])
+        ensures length { length out.new ≡ length out.old }
+        ensures bytes { (i : ℕ) → i < length out.old → slice_index out.new i ≡ byte_after self.now base i }
+    {
+        let mut done = 0;
+        'runs: while done < out.len() {
+            let offset = self.address(base, done as u64);
+            let count = self.run_at(offset).min(out.len() - done);
+            self.copy_run(offset, out, done, count);
+            done += count;
+        }
     }
 
     // The number that the bytes from the base on make.

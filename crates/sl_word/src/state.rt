@@ -64,6 +64,16 @@ impl State {
         Word { bits, size }
     }
 
+    /// Fills a buffer with the bytes from an offset on, round the end of the space.
+    pub fn fill(&self, space: SpaceId, offset: u64, out: &mut [u8])
+        requires { space.0 < length (address_sizes self.now) }
+        ensures length { length out.new ≡ length out.old }
+        ensures bytes { (i : ℕ) → i < length out.old → slice_index out.new i
+            ≡ byte_at self.now space.0 ((offset + i) % 256 ^ address_size self.now space.0) }
+    {
+        self.spaces[space.0 as usize].fill(offset, out);
+    }
+
     /// Puts the bytes of a word from an offset on.
     pub fn write(&mut self, space: SpaceId, offset: u64, word: Word) -> Result<(), AllocError>
         requires { space.0 < length (address_sizes self.old) }
