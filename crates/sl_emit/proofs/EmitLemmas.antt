@@ -1,5 +1,5 @@
 -- Operations by their parts, and sizes.
-use Rattle.std.proofs.Common.{◌≡◌, ◌∙◌, ◌++◌, ℕ, ap, refl, List, Option}
+use Rattle.std.proofs.Common.{◌≡◌, ◌∙◌, ◌++◌, ℕ, ap, List, Option}
 use Rattle.sl_code.specs.Operations.{Operation, operation_of}
 use Rattle.sl_code.specs.Terms.{terms_before, terms_operands}
 use Rattle.sl_emit.specs.Views.{operations_of}

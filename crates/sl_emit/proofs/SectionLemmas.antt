@@ -1,12 +1,12 @@
 -- Sections, statement by statement.
 use Rattle.std.proofs.Common.{◌≡◌, ◌∙◌, ◌++◌, ◌∷◌, [], ℕ, zero, suc, ◌+◌, ◌≤◌, Bool, true, false, List, Option, Some, None, Ok, Err, OnOk, refl, sym, ap, append_assoc, length, length-append, map, arith, pos}
 use Rattle.std.proofs.Math.Path.{fun_ext}
-use Rattle.std.specs.Prelude.{if◌then◌else◌, Result, Vec, slice_get, unwrap_or}
+use Rattle.std.specs.Prelude.{if◌then◌else◌, ◌||◌, Result, Vec, is_some, slice_get, unwrap_or}
 use Rattle.std.specs.declared.alloc.Global.{Global}
-use Rattle.sl_code.specs.Operations.{Operation, at_temp, exit, exit_if, in_space, operation_of}
+use Rattle.sl_code.specs.Operations.{Operation, at_temp, exit, exit_if, in_space}
 use Rattle.sl_code.specs.Statements.{bits_put, direct, label_at, section_code, step_code, step_length, steps_code}
 use Rattle.sl_code.specs.Terms.{term_before, term_operand}
-use Rattle.sl_emit.specs.Views.{jumps_to, label_in, lists_of, operations_of, place_by, references_of, scan}
+use Rattle.sl_emit.specs.Views.{jump_inside, jumps_to, label_in, lists_of, operations_of, place_by, references_of, scan}
 use Rattle.sl_emit.specs.declared.reference.Reference.{Reference}
 use Rattle.sl_meaning.specs.References.{Setting, number}
 use Rattle.sl_meaning.specs.Statements.{is_label}
@@ -17,6 +17,15 @@ use Rattle.sl_pcode.specs.declared.varnode.Varnode.{Varnode}
 use Rattle.sl_section.specs.Sections as s
 use Rattle.sl_section.specs.Sections.{Direct, Label, Step}
 use Rattle.sl_word.specs.declared.word.Size.{Size}
+
+-- neither of two tests is true
+left_alone : (o : Option Label) (b : Bool) → (is_some o || b) ≡ false → o ≡ None
+left_alone None b none = refl
+left_alone (Some l) b none = absurd (cc)
+
+right_alone : (o : Option Label) (b : Bool) → (is_some o || b) ≡ false → b ≡ false
+right_alone None b none = none
+right_alone (Some l) b none = absurd (cc)
 
 -- as many operations as are seen
 pub as_many : (ops : List Op) → length (operations_of ops) ≡ length ops
@@ -90,11 +99,26 @@ module _ (top : ℕ) (g : Setting) (f : Frame) (lists : List (List Operation)) w
       picked true h = refl
       picked false h = h
 
+  -- where no statement jumps to a label, their places don't count
+  pub unplaced : (one other : Label → ℕ) (ss : List Step) (p : ℕ) → jump_inside ss ≡ false → steps_code top g f lists one p ss ≡ steps_code top g f lists other p ss
+  unplaced one other [] p none = refl
+  unplaced one other (a ∷ ss) p none =
+      let here : jumps_to a ≡ None = left_alone (jumps_to a) (jump_inside ss) none in
+      let there : jump_inside ss ≡ false = right_alone (jumps_to a) (jump_inside ss) none in
+      ap (λ (c : List Operation). c ++ steps_code top g f lists one (p + step_length top g f lists a) ss)
+      (step_at one p 0 a (sym (ap (place_by one) here)) ∙ sym (step_at other p 0 a (sym (ap (place_by other) here))))
+      ∙ ap (λ (c : List Operation). step_code top g f other lists p a ++ c) (unplaced one other ss (p + step_length top g f lists a) there)
+
   -- labels by the numbers of operations make the section
   pub section_is : (ss : List Step) (ns : List ℕ) → ns ≡ map (step_length top g f lists) ss → steps_code top g f lists (λ l. scan ss ns l 0) 0 ss ≡ section_code top g f lists ss
   section_is ss ns is =
       ap (λ (xs : List ℕ). steps_code top g f lists (λ l. scan ss xs l 0) 0 ss) is
       ∙ ap (λ (label_place : Label → ℕ). steps_code top g f lists label_place 0 ss) (fun_ext (λ l. scanned l ss 0))
+
+-- a label's place where no number is told
+pub scan_none : (ss : List Step) (l : Label) (p : ℕ) → scan ss [] l p ≡ p
+scan_none [] l p = refl
+scan_none (a ∷ ss) l p = refl
 
 -- lists of operands that aren't there
 pub none_there : (lists : List (Vec Op Global)) (i : ℕ) → length lists ≤ i → unwrap_or (slice_get (lists_of lists) i) [] ≡ []

@@ -1,6 +1,7 @@
 -- view: the program's references, nodes and operations as those of the definitions.
-use Rattle.std.specs.Prelude.{ℕ, ℤ, pos, negsuc, List, Vec, Option, Some, None, map, slice_get}
+use Rattle.std.specs.Prelude.{ℕ, ℤ, pos, negsuc, Bool, is_some, List, Vec, Option, Some, None, map, slice_get}
 use Rattle.std.specs.Prelude.{unwrap_or, ◌+◌, [], ◌∷◌, if◌then◌else◌}
+use Rattle.std.specs.List.{list_any}
 use Rattle.std.specs.declared.alloc.Global.{Global}
 use Rattle.sl_code.specs.Operations.{Operation, operation_of}
 use Rattle.sl_emit.specs.declared.reference.Number.{Number}
@@ -70,6 +71,10 @@ abbrev pub jumps_to : s.Step → Option s.Label
 jumps_to (s.branch to) = label_in to
 jumps_to (s.branch_if e to) = label_in to
 jumps_to _ = None
+
+-- whether one of these statements jumps to a label
+abbrev pub jump_inside : List s.Step → Bool
+jump_inside ss = list_any (λ a. is_some (jumps_to a)) ss
 
 -- the place of that label
 abbrev pub place_by : (s.Label → ℕ) → Option s.Label → ℕ

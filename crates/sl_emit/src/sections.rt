@@ -1,10 +1,10 @@
 //! Sections.
 
-ghost use Rattle.std.specs.Prelude.{◌≡◌, length, map, option_map, IfOk};
+ghost use Rattle.std.specs.Prelude.{◌≡◌, map, option_map, IfOk};
 ghost use Rattle.std.specs.Str.{bytes_eq};
 ghost use Rattle.sl_code.specs.Statements as step;
 ghost use Rattle.sl_emit.specs.Views.{frame_of, jumps_to, lists_of, operations_of, place_by};
-ghost use Rattle.sl_emit.specs.Views.{label_in, scan, setting_of};
+ghost use Rattle.sl_emit.specs.Views.{jump_inside, label_in, scan, setting_of};
 ghost use Rattle.sl_meaning.specs.Statements as meaning;
 ghost use Rattle.sl_section.specs.Views.{direct_of, label_of, step_of, steps_of};
 
@@ -113,13 +113,27 @@ fn jump_label<'a>(a: &Step<'a>) -> Option<Label<'a>>
     }
 }
 
+/// Whether a statement jumps to a label.
+fn jumps_inside(steps: &[Step<'_>]) -> bool
+    ensures { result ≡ jump_inside (steps_of steps.now) }
+{
+    'steps: for index in 0..steps.len() {
+        if jump_label(&steps[index]).is_some() {
+            return true;
+        }
+    }
+    false
+}
+
 /// The place of a label: behind the operations of the statements before it.
 fn label_place(steps: &[Step<'_>], lengths: &[u64], l: Label<'_>) -> Result<u64, AllocError>
-    requires { length lengths.now ≡ length steps.now }
     ensures { IfOk result (λ p. p ≡ scan (steps_of steps.now) lengths.now (label_of l.entry) 0) }
 {
     let mut place: u64 = 0;
     'steps: for index in 0..steps.len() {
+        if lengths.len() <= index {
+            return Ok(place);
+        }
         if is_label(&steps[index], l) {
             return Ok(place);
         }
@@ -130,7 +144,6 @@ fn label_place(steps: &[Step<'_>], lengths: &[u64], l: Label<'_>) -> Result<u64,
 
 /// The place of the label that a statement jumps to; 0 where it jumps to none.
 fn place_of(steps: &[Step<'_>], lengths: &[u64], a: &Step<'_>) -> Result<u64, AllocError>
-    requires { length lengths.now ≡ length steps.now }
     ensures { IfOk result (λ p. p ≡ place_by (λ l. scan (steps_of steps.now) lengths.now l 0)
         (jumps_to (step_of a.now))) }
 {
@@ -148,7 +161,6 @@ fn all_steps(
     steps: &[Step<'_>],
     lengths: &[u64],
 ) -> Result<Vec<Op>, AllocError>
-    requires { length lengths.now ≡ length steps.now }
     ensures { IfOk result (λ v. operations_of v.items ≡ step.steps_code site.now.top
         (setting_of site.now) (frame_of site.now) (lists_of lists.now)
         (λ l. scan (steps_of steps.now) lengths.now l 0) 0 (steps_of steps.now)) }
@@ -162,6 +174,26 @@ fn all_steps(
     Ok(out)
 }
 
+/// The numbers of operations of statements as far as places of labels hang on them: none where no
+/// statement jumps to a label.
+fn counts(
+    alloc: Global,
+    site: &Site<'_>,
+    lists: &[Vec<Op>],
+    steps: &[Step<'_>],
+) -> Result<Vec<u64>, AllocError>
+    ensures { IfOk result (λ v. step.steps_code site.now.top (setting_of site.now)
+        (frame_of site.now) (lists_of lists.now) (λ l. scan (steps_of steps.now) v.items l 0) 0
+        (steps_of steps.now) ≡ step.section_code site.now.top (setting_of site.now)
+        (frame_of site.now) (lists_of lists.now) (steps_of steps.now)) }
+{
+    if !jumps_inside(steps) {
+        return Ok(Vec::new(alloc));
+    }
+    let counts = lengths(alloc, site, lists, steps)?;
+    Ok(counts)
+}
+
 /// The operations of a section, by what its operands stand for and the lists of its operands.
 pub fn section(
     alloc: Global,
@@ -172,7 +204,7 @@ pub fn section(
     ensures { IfOk result (λ v. operations_of v.items ≡ step.section_code site.now.top
         (setting_of site.now) (frame_of site.now) (lists_of lists.now) (steps_of steps.now)) }
 {
-    let counts = lengths(alloc, site, lists, steps)?;
+    let counts = counts(alloc, site, lists, steps)?;
     let out = all_steps(alloc, site, lists, steps, &counts)?;
     Ok(out)
 }

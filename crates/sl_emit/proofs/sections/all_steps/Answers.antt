@@ -1,4 +1,4 @@
-use Rattle.std.proofs.Common.{rules, ◌≡◌, ◌++◌, ◌+◌, ◌∷◌, ℕ, List, length, drop, sym, ap, ◌∙◌, subst, arith}
+use Rattle.std.proofs.Common.{rules, ◌≡◌, ◌++◌, ◌+◌, ◌∷◌, ℕ, List, length, drop, sym, ap, ◌∙◌, arith}
 use Rattle.std.proofs.lemmas.Grind.{common_steps}
 use Rattle.sl_code.specs.Statements.{step_code, steps_code}
 use Rattle.sl_emit.specs.Views.{frame_of, jumps_to, lists_of, operations_of, place_by, scan, setting_of}

@@ -1,4 +1,4 @@
-use Rattle.std.proofs.Common.{rules, ◌≡◌, ◌<◌, ◌^◌, arith}
+use Rattle.std.proofs.Common.{arith}
 use Rattle.std.proofs.lemmas.Grind.{common_steps}
 use Rattle.sl_word.proofs.Powers.{bytes_pos}
 use Rattle.sl_emit.proofs.varnodes.cut.Goals as goal
