@@ -1,0 +1,3 @@
+pub mod MeasureLemmas
+pub mod OperandLemmas
+pub mod TreeLemmas

@@ -1,0 +1,9 @@
+pub mod EntryLemmas
+pub mod GrowLemmas
+pub mod LeafLemmas
+pub mod MeaningLemmas
+pub mod OutcomeLemmas
+pub mod ReadLemmas
+pub mod SiteLemmas
+pub mod TokenLemmas
+pub mod WindowLemmas
