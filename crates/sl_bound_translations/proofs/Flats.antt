@@ -96,6 +96,17 @@ reaches_long : (items : List Item) → length (scopes_of items).reaches ≡ leng
 unfolding scopes_of
 reaches_long items = let h = all_reaches nothing_defined (unfolded items) in omega (arith, h)
 
+-- ---- each flat section is that of a constructor
+
+pub ctor_of : (t : Tables) (z : Scopes) (cs : List (Placed Constructor)) (number : ℕ) (f : Flat)
+    → slice_get (flat_sections t z cs) number ≡ Some f
+    → (c : Ctor) × (slice_get t.constructors number ≡ Some c)
+unfolding flat_sections
+ctor_of t z cs number f is =
+    let row = of_map (row_section t z.macros) (zip (rows t cs) z.reaches) number f is in
+    let first = unzipped (rows t cs) z.reaches number row.0 row.1 in
+    (row.0.0.0, (unzipped t.constructors cs number row.0.0 first.0).0)
+
 -- ---- each constructor has a flat section
 
 pub flats_long : (items : List Item) (t : Tables) → length t.constructors ≡ length (constructors_in (unfolded items))

@@ -1,4 +1,4 @@
--- Each instruction of an accepted text has a list of operations that is a translation of it.
+-- Each instruction of an accepted text has a list of operations that is faithful to it.
 use Rattle.std.proofs.Common.{◌≡◌, List, [], ◌∷◌, map, refl, ap}
 use Rattle.sl_bound_translations.specs.Laws.{BoundAreTranslated, BoundHaveTranslations}
 use Rattle.sl_code.specs.Nodes.{node_code, top_of}

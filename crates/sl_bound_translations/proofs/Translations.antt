@@ -1,4 +1,4 @@
--- The operations of the instructions of an accepted text are translations.
+-- The operations of the instructions of an accepted text are faithful to them.
 use Rattle.std.proofs.Common.{◌≡◌, ℕ, false, List, map, slice_get, Some, Ok, ap, ◌∙◌, arith}
 use Rattle.sl_ast.specs.Trees.{Item}
 use Rattle.sl_bind.proofs.BoundLemmas.{tables_listed}
@@ -13,11 +13,15 @@ use Rattle.sl_bound_places.proofs.SpaceLemmas.{taken_have_spaces}
 use Rattle.sl_bound_sections.proofs.BoundLemmas.{builds_are_once, constants_are_bare, exports_are_places}
 use Rattle.sl_bound_sections.proofs.BoundLemmas.{tables_export_alike}
 use Rattle.sl_bound_translations.proofs.Choices.{choices_are_own}
-use Rattle.sl_bound_translations.proofs.Flats.{flats_long, of_map, unzipped, variables_few}
+use Rattle.sl_bound_translations.proofs.Flats.{ctor_of, flats_long, of_map, unzipped, variables_few}
 use Rattle.sl_bound_translations.proofs.HaveLemmas as have
 use Rattle.sl_bound_translations.proofs.Parts.{bound_are_parts, bound_keep_limits}
 use Rattle.sl_bound_translations.proofs.Uses.{bound_keep_uses, rules_hold}
 use Rattle.sl_bound_translations.specs.Laws.{ArePlaced, BoundAreTranslated, BoundHaveTranslations, IsShort, flats_of}
+use Rattle.sl_code.specs.Nodes.{top_of}
+use Rattle.sl_decoding.specs.Flat.{count}
+use Rattle.sl_faithful.proofs.Instructions.{translations_are_faithful}
+use Rattle.sl_faithful.specs.Laws.{AllSectionsName}
 use Rattle.sl_fitting.specs.Keeping.{first_export}
 use Rattle.sl_flat_sections.specs.FlatSections.{Flat}
 use Rattle.sl_flat_sections.specs.Scopes.{scopes_of}
@@ -31,7 +35,7 @@ use Rattle.sl_spec.specs.declared.tables.Tables.{Tables}
 use Rattle.sl_tables.specs.Rows as all
 use Rattle.sl_translated.proofs.Translated.{decodes_are_translated, is_setting}
 use Rattle.sl_translated.specs.Laws.{SpacesFit}
-use Rattle.sl_translation.specs.Sound.{Uses}
+use Rattle.sl_translation.specs.Sound.{Uses, kinds_of}
 use Rattle.sl_tree_limits.specs.Laws.{KeepLimits}
 use Rattle.sl_whole_sizes.proofs.Whole.{fit_the_whole}
 use Rattle.sl_whole_sizes.specs.Laws.{FitTheWhole}
@@ -71,6 +75,12 @@ module _ (items : List Item) (t : Tables) (sizes : List (List Size)) (short : Is
   named u number c f there is =
       flats_are_named t (scopes_of items) (constructors_of items) u address after number c f
       (taken_are_defined items t parts.stands) there is
+
+  -- whatever is known of tables, each section names what there is
+  sections_name : Uses → AllSectionsName s g
+  sections_name u number f is =
+      let c = ctor_of t (scopes_of items) (constructors_of items) number f is in
+      (kinds_of t u c.0, (named u number c.0 f c.1 is).names)
 
   module _ (whole : FitTheWhole t s.sections sizes) (limits : KeepLimits t s.constructors (scopes_of items).macros)
     where
@@ -116,17 +126,19 @@ bound_are_translated items t sizes choose bytes address context d ops short bind
     let whole = fit_the_whole t (constructors_of items) (flats_of items t) sizes (tables_listed items t parts.stands)
     parts.kept.sized in
     let known = known items t sizes short parts address d.after whole limits in
-    decodes_are_translated items t sizes choose bytes address context d ops
+    let u = uses_in (specification_of items t sizes) known.whole.last in
+    let translation = decodes_are_translated items t sizes choose bytes address context d ops
     (choices_are_own t (constructors_of items) choose is_choice) decodes
     (record {
       spaces = spaces_fit items t sizes short parts address d.after;
       known = known;
       limits = limits;
-      gives = decodes_are_given (specification_of items t sizes)
-          (uses_in (specification_of items t sizes) known.whole.last) choose bytes address context d
+      gives = decodes_are_given (specification_of items t sizes) u choose bytes address context d
           (taken_are_defined items t parts.stands) (taken_are_read items t parts.stands) decodes;
       implemented = implemented;
-    }) same
+    }) same in
+    translations_are_faithful (specification_of items t sizes) bytes address (top_of (count d.tree)) d ops
+    (sections_name items t sizes short parts address d.after u) implemented translation same
 
 pub bound_have_translations : BoundHaveTranslations
 bound_have_translations = have.bound_have_translations bound_are_translated

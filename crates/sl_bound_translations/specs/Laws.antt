@@ -1,5 +1,4 @@
--- meaning: the operations of each instruction of an accepted text are a well-formed list that does
--- what the instruction does.
+-- meaning: the operations of each instruction of an accepted text are a list that is faithful to it.
 use Rattle.std.specs.Prelude.{◌≡◌, ℕ, ◌^◌, ◌≤◌, false, List, length, map, Ok, Some, slice_get}
 use Rattle.sl_ast.specs.Spelling.{spell}
 use Rattle.sl_ast.specs.Trees.{Constructor, Item}
@@ -13,8 +12,8 @@ use Rattle.sl_decoding.specs.Decoding.{Decoded, decoded}
 use Rattle.sl_decoding.specs.Flat.{count}
 use Rattle.sl_decoding.specs.Laws.{Choice}
 use Rattle.sl_exports.specs.Exports.{Row, rows}
+use Rattle.sl_faithful.specs.Faithful.{IsFaithfulList}
 use Rattle.sl_fitting.specs.Keeping.{first_export}
-use Rattle.sl_fitting.specs.Laws.{IsTranslation}
 use Rattle.sl_flat_sections.specs.FlatSections.{Flat, flat_sections}
 use Rattle.sl_flat_sections.specs.Scopes.{scopes_of}
 use Rattle.sl_instruction.specs.Instructions.{instruction, is_unimplemented}
@@ -35,7 +34,7 @@ abbrev pub IsShort : List Item → Type 0
 IsShort items = length (spell items) ≤ 2 ^ 32
 
 -- Operations that are those of a decoded instruction of an accepted text, none of whose nodes is
--- `unimpl`, are a translation of it.
+-- `unimpl`, are faithful to it.
 abbrev pub BoundAreTranslated : Type 0
 BoundAreTranslated = (items : List Item) (t : Tables) (sizes : List (List Size)) (choose : Choice)
     (bytes : List ℕ) (address context : ℕ) (d : Decoded) (ops : List Op)
@@ -44,18 +43,16 @@ BoundAreTranslated = (items : List Item) (t : Tables) (sizes : List (List Size))
     → is_unimplemented (constructors_of items) d.tree ≡ false
     → map operation_of ops ≡ node_code (top_of (count d.tree)) (setting_of t address d.after)
     (instruction (specification_of items t sizes) bytes d.tree)
-    → IsTranslation (setting_of t address d.after)
-    (instruction (specification_of items t sizes) bytes d.tree) ops
+    → IsFaithfulList (specification_of items t sizes) bytes address d ops
 
--- Each decoded instruction of an accepted text, none of whose nodes is `unimpl`, has one.
+-- Each decoded instruction of an accepted text, none of whose nodes is `unimpl`, has such a list.
 abbrev pub BoundHaveTranslations : Type 0
 BoundHaveTranslations = (items : List Item) (t : Tables) (sizes : List (List Size))
     (choose : Choice) (bytes : List ℕ) (address context : ℕ) (d : Decoded)
     → IsShort items → Binds items (Ok (t, sizes)) → IsChoiceOf t (constructors_of items) choose
     → decoded t (constructors_of items) choose bytes address context ≡ Ok d
     → is_unimplemented (constructors_of items) d.tree ≡ false
-    → (ops : List Op) × IsTranslation (setting_of t address d.after)
-    (instruction (specification_of items t sizes) bytes d.tree) ops
+    → (ops : List Op) × IsFaithfulList (specification_of items t sizes) bytes address d ops
 
 -- ---- what is known of an accepted text
 

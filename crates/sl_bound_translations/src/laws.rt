@@ -27,12 +27,13 @@ pub fn choices_are_own()
 {}
 
 /// Operations that are those of an instruction of an accepted text, where that isn't unimplemented,
-/// are a well-formed list that does what the instruction does.
+/// are faithful to it: a well-formed list that does what the instruction does, leads to the default
+/// space alone, and calls user operations of the text.
 pub fn bound_are_translated()
     ensures { BoundAreTranslated }
 {}
 
-/// So each such instruction has a list of operations that is a translation of it.
+/// So each such instruction has a list of operations that is faithful to it.
 pub fn bound_have_translations()
     ensures { BoundHaveTranslations }
 {}

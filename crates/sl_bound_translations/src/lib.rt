@@ -1,4 +1,4 @@
-//! The law that lists of operations do what the instructions of an accepted text do.
+//! The law that lists of operations are faithful to the instructions of an accepted text.
 #![tactic(auto)]
 
 pub mod laws;

@@ -5,20 +5,18 @@ use Rattle.sl_contexts.specs.Commits.{IsContextAt}
 use Rattle.sl_decoding.specs.Decoding.{Decoded}
 use Rattle.sl_decoding.specs.Laws.{Choice}
 use Rattle.sl_decoding.specs.declared.faults.Fault.{Fault}
-use Rattle.sl_fitting.specs.Laws.{IsTranslation}
-use Rattle.sl_instruction.specs.Instructions.{Specification, instruction, is_unimplemented}
-use Rattle.sl_instruction.specs.Instructions.{setting_of}
+use Rattle.sl_faithful.specs.Faithful.{IsFaithfulList}
+use Rattle.sl_instruction.specs.Instructions.{Specification, is_unimplemented, setting_of}
 use Rattle.sl_pcode.specs.Machine.{ran_of, run_of}
 use Rattle.sl_pcode.specs.declared.operation.Op.{Op}
 use Rattle.sl_steps.specs.Steps.{IsStep, Machine, StepFault, decoded_at, goes, stops}
 use Rattle.sl_steps.specs.Steps.{window_of}
 
 module _ (s : Specification) (choose : Choice) (start : ℕ) where
-  -- This many operations ran whole of a list that is a translation of the instruction.
+  -- This many operations ran whole of a list that is faithful to the instruction.
   pub record RanOf (m : Machine) (d : Decoded) (count : ℕ) : Type 0 where
     pub ops : List Op
-    pub translation : IsTranslation (setting_of s.tables m.counter d.after)
-        (instruction s (window_of s choose start m) d.tree) ops
+    pub faithful : IsFaithfulList s (window_of s choose start m) m.counter d ops
     pub count_is : count ≡ ran_of (run_of s.tables.endian
         (setting_of s.tables m.counter d.after).sizes ops m.memory)
 

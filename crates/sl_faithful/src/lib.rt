@@ -1,0 +1,4 @@
+//! Lists of operations that are faithful to decoded instructions.
+#![tactic(auto)]
+
+pub mod laws;
