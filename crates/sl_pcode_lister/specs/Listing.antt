@@ -9,15 +9,12 @@ use Rattle.sl_contexts.specs.declared.commits.Commit.{Commit}
 use Rattle.sl_decoding.specs.Decoding.{Decoded, decoded}
 use Rattle.sl_decoding.specs.Laws.{Choice}
 use Rattle.sl_decoding.specs.declared.faults.Fault.{Fault}
-use Rattle.sl_fitting.specs.Laws.{IsTranslation}
-use Rattle.sl_instruction.specs.Instructions.{instruction, is_unimplemented}
-use Rattle.sl_instruction.specs.Instructions.{setting_of, specification_of}
+use Rattle.sl_faithful.specs.Faithful.{IsFaithfulList}
+use Rattle.sl_instruction.specs.Instructions.{is_unimplemented, specification_of}
 use Rattle.sl_list.specs.Instructions.{Listed, window}
 use Rattle.sl_list.specs.Lines.{bytes_at}
 use Rattle.sl_list.specs.Listings.{Begins, Lists}
 use Rattle.sl_lister.specs.Listing.{Image, subject}
-use Rattle.sl_meaning.specs.Nodes.{Node}
-use Rattle.sl_meaning.specs.References.{Setting}
 use Rattle.sl_pcode.specs.declared.operation.Op.{Op}
 use Rattle.sl_pcode.specs.declared.print.Names.{Names}
 use Rattle.sl_pcode_lister.specs.Names.{AreNames, op_lines, unimplemented_line}
@@ -41,16 +38,9 @@ module _ (items : List Item) (t : Tables) (sizes : List (List Size)) (i : Image)
       pub stands : IsContextAt i.start cs (i.base + at) context
       pub is : decoded t (constructors_of items) choose (bytes_from at) (i.base + at) context ≡ r
 
-    -- the machine of a decode, and its instruction
-    abbrev pub setting_at : (at : ℕ) → Decoded → Setting
-    setting_at at d = setting_of t (i.base + at) d.after
-
-    abbrev pub instruction_at : (at : ℕ) → Decoded → Node
-    instruction_at at d = instruction (specification_of items t sizes) (bytes_from at) d.tree
-
     -- What stands behind a line: nothing where none is decoded; that the instruction is
-    -- unimplemented, where a node is `unimpl`; or else the operations of a list that is well formed
-    -- and does what the instruction does.
+    -- unimplemented, where a node is `unimpl`; or else the operations of a list that is faithful to
+    -- the instruction.
     pub data IsBehind (at : ℕ) (cs : List Commit) : List ℕ → Type 0 where
       misaligned : 1 ≤ (i.base + at) % t.alignment → IsBehind at cs []
       undecoded : {fault : Fault} → Decodes at cs (Err fault) → IsBehind at cs []
@@ -59,7 +49,7 @@ module _ (items : List Item) (t : Tables) (sizes : List (List Size)) (i : Image)
           → IsBehind at cs unimplemented_line
       operations : {d : Decoded} {ops : List Op} → Decodes at cs (Ok d)
           → is_unimplemented (constructors_of items) d.tree ≡ false
-          → IsTranslation (setting_at at d) (instruction_at at d) ops
+          → IsFaithfulList (specification_of items t sizes) (bytes_from at) (i.base + at) d ops
           → IsBehind at cs (op_lines names ops)
 
     -- The line of `list`, and what stands behind it.

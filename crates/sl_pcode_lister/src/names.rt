@@ -2,11 +2,10 @@
 
 ghost use Rattle.std.specs.Prelude.{◌≡◌, IfOk, map, string_bytes};
 ghost use Rattle.sl_pcode_lister.specs.Names.{AreNames};
-ghost use Rattle.sl_word.specs.Sizes.{byte_counts};
 
+use sl_build::address_sizes;
 use sl_pcode::Names;
 use sl_spec::{Space, Tables, UserOp};
-use sl_word::AddressSize;
 use std::alloc::{AllocError, Global};
 
 /// A name as a text. One that isn't UTF-8 is answered as want of memory: identifiers are ASCII.
@@ -41,24 +40,6 @@ fn space_names(alloc: Global, t: &Tables) -> Result<Vec<String>, AllocError>
         names.push(name)?;
     }
     Ok(names)
-}
-
-/// The size of a space's addresses.
-fn address_size(space: &Space) -> AddressSize
-    ensures { result.bytes ≡ space.now.size }
-{
-    AddressSize { bytes: space.size }
-}
-
-/// The sizes of the addresses of all spaces.
-fn address_sizes(alloc: Global, t: &Tables) -> Result<Vec<AddressSize>, AllocError>
-    ensures { IfOk result (λ v. byte_counts v.items ≡ map (λ z. z.size) t.now.spaces) }
-{
-    let mut sizes = Vec::new(alloc);
-    'spaces: for index in 0..t.spaces.len() {
-        sizes.push(address_size(t.spaces.member(index)))?;
-    }
-    Ok(sizes)
 }
 
 /// The names of all user operations.

@@ -13,8 +13,8 @@ use Rattle.sl_contexts.specs.Commits.{IsContextAt}
 use Rattle.sl_decoding.specs.Decoding.{Decoded}
 use Rattle.sl_decoding.specs.Laws.{Choice}
 use Rattle.sl_decoding.specs.declared.faults.Fault as decoding
-use Rattle.sl_fitting.specs.Laws.{IsTranslation}
-use Rattle.sl_instruction.specs.Instructions.{Specification, instruction, is_unimplemented, setting_of, specification_of}
+use Rattle.sl_faithful.specs.Faithful.{IsFaithfulList}
+use Rattle.sl_instruction.specs.Instructions.{Specification, is_unimplemented, specification_of}
 use Rattle.sl_lister.proofs.AcceptedLemmas.{accepted}
 use Rattle.sl_lister.specs.Listing.{Image}
 use Rattle.sl_pcode.specs.declared.operation.Op.{Op}
@@ -29,14 +29,13 @@ use Rattle.sl_steps.specs.Steps.{IsStep, Machine, StepFault, Stepped, decoded_at
 use Rattle.sl_word.specs.declared.word.Size.{Size}
 
 module _ (s : Specification) (choose : Choice) (start : ℕ) where
-  -- Each instruction that a machine decodes has a translation.
-  abbrev pub HaveTranslations : Type 0
-  HaveTranslations = (m : Machine) (context : ℕ) (d : Decoded) → decoded_at s choose start m context ≡ Ok d
+  -- Each instruction that a machine decodes has a list that is faithful to it.
+  abbrev pub HaveFaithfulLists : Type 0
+  HaveFaithfulLists = (m : Machine) (context : ℕ) (d : Decoded) → decoded_at s choose start m context ≡ Ok d
       → is_unimplemented s.constructors d.tree ≡ false
-      → (ops : List Op) × IsTranslation (setting_of s.tables m.counter d.after)
-      (instruction s (window_of s choose start m) d.tree) ops
+      → (ops : List Op) × IsFaithfulList s (window_of s choose start m) m.counter d ops
 
-  module _ (have : HaveTranslations) where
+  module _ (have : HaveFaithfulLists) where
     -- ---- of one instruction
 
     abbrev SomeCount : Machine → Type 0
@@ -49,7 +48,7 @@ module _ (s : Specification) (choose : Choice) (start : ℕ) where
       count_decoded d is true whole = (0, unimplemented aligned narrow at is whole)
       count_decoded d is false whole =
           let found = have m context d is whole in
-          (_, executed aligned narrow at is whole (record { ops = found.0; translation = found.1; count_is = refl }))
+          (_, executed aligned narrow at is whole (record { ops = found.0; faithful = found.1; count_is = refl }))
 
       count_by : (r : Result Decoded decoding.Fault) → decoded_at s choose start m context ≡ r → SomeCount m
       count_by (Ok d) is = count_decoded d is (is_unimplemented s.constructors d.tree) refl
@@ -97,7 +96,7 @@ module _ (items : List Item) (t : Tables) (sizes : List (List Size)) (i : Image)
   some_outcome : (choose : Choice) → IsChoiceOf t (constructors_of items) choose → SomeOutcome
   some_outcome choose is_choice =
       let s = specification_of items t sizes in
-      let have : HaveTranslations s choose i.start = λ m context d is implemented.
+      let have : HaveFaithfulLists s choose i.start = λ m context d is implemented.
       let bytes = window_of s choose i.start m in
       bound_have_translations items t sizes choose bytes m.counter context d short binds is_choice is implemented in
       let run = some_counted_run s choose i.start have steps (opened t i) in (

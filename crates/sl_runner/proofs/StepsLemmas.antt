@@ -27,35 +27,31 @@ grows_more a b old mid new h k = omega (arith, h, k)
 -- ---- one step
 
 module _ (s : Specification) (choose : Choice) (start : ℕ) (m : steps.Machine) (new : Machine) (a b : ℕ) where
-  pub went_on : (trace : Trace) → outcome.Steps s choose start m new (Ok trace) → outcome.Counted s choose start m a b
-      (Ok trace)
-      → Steps s choose start m new a b None
-  went_on trace h k = (h.next, record { count = k.0; step = h.step; counts = k.1; seen = h.seen; counted = k.2 })
+  went_on : (trace : Trace) → outcome.Goes s choose start m new a b trace → Steps s choose start m new a b None
+  went_on trace h = (h.next, record { count = trace.ran; step = h.step; counts = h.counts; seen = h.seen; counted = h.counted })
 
-  pub stopped_at : (error : StepError) (fault : RunFault) → Some (fault_of fault) ≡ outcome.fault_of error
-      → outcome.Stops s choose start m new (outcome.fault_of error) → outcome.CountedUnless s choose start m a b
-      (outcome.fault_of error)
+  stopped_at : (error : StepError) (fault : RunFault) → Some (fault_of fault) ≡ outcome.fault_of error
+      → outcome.StopsBy s choose start m new a b (outcome.fault_of error)
       → Steps s choose start m new a b (Some (fault_of fault))
-  stopped_at error fault is h k =
-      let stops = subst (λ (o : Option StepFault). outcome.Stops s choose start m new o) (sym is) h in
-      let grows = subst (λ (o : Option StepFault). outcome.CountedUnless s choose start m a b o) (sym is) k in
-      (stops.0, record { count = grows.0; step = stops.1; counts = grows.1; seen = stops.2; counted = grows.2 })
+  stopped_at error fault is h =
+      let stops = subst (λ (o : Option StepFault). outcome.StopsBy s choose start m new a b o) (sym is) h in (
+        stops.last,
+        record { count = stops.count; step = stops.step; counts = stops.counts; seen = stops.seen; counted = stops.counted },
+      )
 
   -- the same by what a step returned
-  pub went_on_by : (r : Result Trace StepError) → None ≡ result_err r → outcome.Steps s choose start m new r
-      → outcome.Counted s choose start m a b r
+  pub went_on_by : (r : Result Trace StepError) → None ≡ result_err r → outcome.Steps s choose start m new a b r
       → Steps s choose start m new a b None
-  went_on_by (Ok trace) e h k = went_on trace h k
-  went_on_by (Err error) e h k = absurd (let no : ⊥ = cc in no)
+  went_on_by (Ok trace) e h = went_on trace h
+  went_on_by (Err error) e h = absurd (let no : ⊥ = cc in no)
 
   pub stopped_by_error : (r : Result Trace StepError) (error : StepError) (fault : RunFault) → Some error ≡ result_err r
-      → Some (fault_of fault) ≡ outcome.fault_of error → outcome.Steps s choose start m new r
-      → outcome.Counted s choose start m a b r
+      → Some (fault_of fault) ≡ outcome.fault_of error → outcome.Steps s choose start m new a b r
       → Steps s choose start m new a b (Some (fault_of fault))
-  stopped_by_error (Ok trace) error fault e is h k = absurd (let no : ⊥ = cc in no)
-  stopped_by_error (Err other) error fault e is h k =
+  stopped_by_error (Ok trace) error fault e is h = absurd (let no : ⊥ = cc in no)
+  stopped_by_error (Err other) error fault e is h =
       let same : error ≡ other = cc in
-      stopped_at other fault (is ∙ ap outcome.fault_of same) h k
+      stopped_at other fault (is ∙ ap outcome.fault_of same) h
 
 -- ---- several steps
 

@@ -10,6 +10,7 @@ ghost use Rattle.sl_lister.specs.Listing.{image_from};
 ghost use Rattle.sl_runner.specs.Executing.{Executes, Runs, Steps, stopped_by};
 ghost use Rattle.sl_sizing.specs.Sizings.{lists_of};
 ghost use Rattle.sl_sound.specs.Soundness.{AreSetsOf};
+ghost use Rattle.sl_step.specs.Kept.{AreKept};
 ghost use Rattle.sl_step.specs.Machines.{Fits, IsSeen};
 ghost use Rattle.sl_step.specs.Stands.{StandsFor, choice_in, specification_in};
 ghost use Rattle.sl_steps.specs.Steps.{Machine as MachineOf};
@@ -19,7 +20,7 @@ use crate::opening::opening;
 use sl_compile::Compiled;
 use sl_contexts::ContextMap;
 use sl_emu::Runner;
-use sl_step::{Machine, Stepper, Walk};
+use sl_step::{Machine, StepBuffers, Stepper};
 use std::alloc::{AllocError, Global};
 
 /// A machine behind its last step.
@@ -36,19 +37,21 @@ pub struct Execution {
 fn next<R: Runner>(
     alloc: Global,
     stepper: &Stepper<'_, '_>,
-    walk: &mut Walk,
+    buffers: &mut StepBuffers,
     machine: &mut Machine,
     runner: &mut R,
 ) -> Result<Option<RunFault>, AllocError>
     requires stands { StandsFor stepper.now }
+    requires kept { AreKept (specification_in stepper.now) (choice_in stepper.now) buffers.old }
     requires fits { Fits (specification_in stepper.now).tables machine.old }
+    ensures kept { AreKept (specification_in stepper.now) (choice_in stepper.now) buffers.new }
     ensures fits { Fits (specification_in stepper.now).tables machine.new }
     ensures steps { IfOk result (λ fault. (start : ℕ) (m : MachineOf)
         → IsSeen start machine.old m
         → Steps (specification_in stepper.now) (choice_in stepper.now) start m machine.new
         (R.count runner.old) (R.count runner.new) (stopped_by fault)) }
 {
-    let Some(error) = stepper.step(alloc, walk, machine, runner).err() else {
+    let Some(error) = stepper.step(alloc, buffers, machine, runner).err() else {
         return Ok(None);
     };
     match fault_in(error) {
@@ -73,9 +76,9 @@ fn run_steps<R: Runner>(
         → Runs (specification_in stepper.now) (choice_in stepper.now) start m machine.new
         (R.count runner.old) (R.count runner.new) steps r.0 (stopped_by r.1)) }
 {
-    let mut walk = Walk::new(alloc);
+    let mut buffers = StepBuffers::new(alloc)?;
     'steps: for ran in 0..steps {
-        if let Some(fault) = next(alloc, stepper, &mut walk, machine, runner)? {
+        if let Some(fault) = next(alloc, stepper, &mut buffers, machine, runner)? {
             return Ok((ran, Some(fault)));
         }
     }

@@ -1,10 +1,8 @@
 //! The lines that tell of a run, each appended to a buffer. Where memory runs out the buffer may
 //! have a part of the line.
 
-ghost use Rattle.std.specs.Prelude.{◌≡◌, ◌++◌, ◌<◌, ◌≤◌, OnOk, length};
-ghost use Rattle.hex.specs.Hex.{encode_lower};
+ghost use Rattle.std.specs.Prelude.{◌≡◌, ◌++◌, ◌<◌, OnOk, length};
 ghost use Rattle.sl_decoding.specs.Actions.{address_bytes};
-ghost use Rattle.sl_list.specs.Lines.{address_text};
 ghost use Rattle.sl_runner.specs.RunLines.{change_line, counter_line, held, is_context};
 ghost use Rattle.sl_runner.specs.RunLines.{number_text, register_line, register_lines, steps_line};
 ghost use Rattle.sl_runner.specs.Told.{HasSpacesOf, RegistersAreInSpaces, numbered_line};
@@ -14,31 +12,10 @@ ghost use Rattle.sl_word.specs.Bytes.{byte_at};
 use crate::opening::size_of;
 use itoa::Buffer;
 use sl_decode::address_size;
+use sl_list::{push_address, push_hex};
 use sl_spec::{Register, Space, SpaceKind, Tables};
-use sl_word::{AddressSize, Change, Size, State};
+use sl_word::{Change, Size, State};
 use std::alloc::AllocError;
-
-/// The most bytes that are written in hexadecimal at once.
-const MOST_BYTES: usize = 16;
-
-/// Appends the bytes in hexadecimal, two digits each.
-fn push_hex(out: &mut Vec<u8>, bytes: &[u8]) -> Result<(), AllocError>
-    requires { length bytes.now ≤ MOST_BYTES }
-    ensures { OnOk result (out.new.items ≡ out.old.items ++ encode_lower bytes.now) }
-{
-    let mut buffer = [0; 2 * MOST_BYTES];
-    let digits = &mut buffer[..2 * bytes.len()];
-    hex::encode_to_slice(bytes, digits).unwrap();
-    out.extend_from_slice(digits)
-}
-
-/// Appends an address in hexadecimal, with two digits for each of its bytes.
-fn push_address(out: &mut Vec<u8>, size: AddressSize, address: u64) -> Result<(), AllocError>
-    ensures { OnOk result (out.new.items ≡ out.old.items ++ address_text size.bytes address) }
-{
-    let bytes = address.to_be_bytes();
-    push_hex(out, &bytes[8 - usize::from(size.get())..])
-}
 
 /// Appends how many steps ended without a fault.
 pub(crate) fn push_steps(out: &mut Vec<u8>, ran: u64) -> Result<(), AllocError>

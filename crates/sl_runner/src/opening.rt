@@ -1,16 +1,17 @@
 //! Machines before their first step.
 
-ghost use Rattle.std.specs.Prelude.{◌≡◌, ℕ, ◌+◌, ◌^◌, ◌<◌, ◌≤◌, IfOk, Some, length, map, position};
+ghost use Rattle.std.specs.Prelude.{◌≡◌, ℕ, ◌+◌, ◌^◌, ◌<◌, ◌≤◌, IfOk, length};
 ghost use Rattle.sl_code.specs.Nodes.{AreBytes};
 ghost use Rattle.sl_decoding.specs.Actions.{address_bytes};
 ghost use Rattle.sl_lister.specs.Listing.{image_from};
 ghost use Rattle.sl_runner.specs.Running.{opening};
 ghost use Rattle.sl_runner.specs.Told.{HasSpacesOf};
 ghost use Rattle.sl_word.specs.Bytes.{byte_at};
-ghost use Rattle.sl_word.specs.Sizes.{byte_counts};
 
+use sl_build::address_sizes;
 use sl_spec::{Space, Tables};
-use sl_word::{AddressSize, SpaceId, State};
+use sl_step::default_space;
+use sl_word::{AddressSize, State};
 use std::alloc::{AllocError, Global};
 
 /// More spaces than this have no room in memory.
@@ -21,38 +22,6 @@ pub(crate) fn size_of(space: &Space) -> AddressSize
     ensures { result.bytes ≡ space.now.size }
 {
     AddressSize { bytes: space.size }
-}
-
-/// The size of an address of each space.
-fn address_sizes(alloc: Global, tables: &Tables) -> Result<Vec<AddressSize>, AllocError>
-    ensures { IfOk result (λ sizes. byte_counts sizes.items ≡ map (λ s. s.size) tables.now.spaces) }
-{
-    let mut sizes = Vec::new(alloc);
-    'spaces: for number in 0..tables.spaces.len() {
-        sizes.push(size_of(tables.spaces.member(number)))?;
-    }
-    Ok(sizes)
-}
-
-/// The number of the default space.
-fn default_index(tables: &Tables) -> Option<usize>
-    ensures { result ≡ position (λ s. s.default) tables.now.spaces }
-{
-    tables.spaces.iter().position(|space| space.default)
-}
-
-/// The default space. An accepted specification has one, with a number of 32 bits; any other would
-/// be want of memory.
-fn default_space(tables: &Tables) -> Result<SpaceId, AllocError>
-    ensures { IfOk result (λ space. position (λ s. s.default) tables.now.spaces ≡ Some space.0) }
-{
-    let Some(index) = default_index(tables) else {
-        return Err(AllocError);
-    };
-    match u32::try_from(index) {
-        Ok(number) => Ok(SpaceId(number)),
-        Err(_) => Err(AllocError),
-    }
 }
 
 /// The bytes of a machine before its first step: the image in the default space from its base on,

@@ -2,5 +2,6 @@ pub mod AddressLemmas
 pub mod AfterLemmas
 pub mod ByteLemmas
 pub mod ReadLemmas
+pub mod SightLemmas
 pub mod StepLemmas
 pub mod WindowLemmas

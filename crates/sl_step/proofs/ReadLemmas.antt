@@ -80,23 +80,26 @@ module _ (x : Stepper) (stands : StandsFor x) (bytes : List ℕ) (address contex
   w = walked_by _ n after nodes values commits is
 
   pub read_list : BoundAreTranslated → (list : OpList) → BuiltTo x bytes address after nodes values (Ops list)
-      → IsRead (specification_in x) (choice_in x) bytes address context commits after (operations list)
+      → (read : IsRead (specification_in x) (choice_in x) bytes address context commits after (operations list))
+      × (nodes ≡ entries 0 read.told.tree)
   unfolding w
   read_list law list built =
-      let b = built (specification_in x) w.told.tree stands.builds w.nodes_are w.values_are in
-      record {
-        told = w.told;
-        decodes = w.decodes;
-        after_is = w.after_is;
-        commits_are = w.commits_are;
-        implemented = b.0;
-        translation = law (items_of x.compiled.now.bound.spec) (specification_in x).tables (specification_in x).sizes
-            (choice_in x) bytes address context w.told (operations list)
-            stands.short stands.binds stands.decodes.chooses w.decodes b.0
-            (subst (λ (a : ℕ). map operation_of (operations list)
-            ≡ node_code (top_of (count w.told.tree)) (setting_of (specification_in x).tables address a)
-            (instruction (specification_in x) bytes w.told.tree)) w.after_is b.1.code);
-      }
+      let b = built (specification_in x) w.told.tree stands.builds w.nodes_are w.values_are in (
+        record {
+          told = w.told;
+          decodes = w.decodes;
+          after_is = w.after_is;
+          commits_are = w.commits_are;
+          implemented = b.0;
+          faithful = law (items_of x.compiled.now.bound.spec) (specification_in x).tables (specification_in x).sizes
+              (choice_in x) bytes address context w.told (operations list)
+              stands.short stands.binds stands.decodes.chooses w.decodes b.0
+              (subst (λ (a : ℕ). map operation_of (operations list)
+              ≡ node_code (top_of (count w.told.tree)) (setting_of (specification_in x).tables address a)
+              (instruction (specification_in x) bytes w.told.tree)) w.after_is b.1.code);
+        },
+        w.nodes_are,
+      )
 
   pub read_unimplemented : BuiltTo x bytes address after nodes values Unimplemented
       → IsUnimplemented (specification_in x) (choice_in x) bytes address context

@@ -2,7 +2,7 @@
 use Rattle.std.proofs.Common.{◌≡◌, ℕ, ◌+◌, ◌%◌, ◌^◌, ◌<◌, ◌≤◌, Bool, true, false, List, ◌++◌}
 use Rattle.std.proofs.Common.{Result, Ok, Err, refl, sym, ap, subst, ◌∙◌, arith}
 use Rattle.std.specs.List.{range_with_len}
-use Rattle.std.specs.Prelude.{if◌then◌else◌, map, slice_index}
+use Rattle.std.specs.Prelude.{if◌then◌else◌, map, slice_index, take}
 use Rattle.sl_contexts.specs.Commits.{IsContextAt}
 use Rattle.sl_contexts.specs.Kept.{Kept}
 use Rattle.sl_contexts.specs.Runs.{Stands}
@@ -11,8 +11,8 @@ use Rattle.sl_decoding.specs.Actions.{address_bytes}
 use Rattle.sl_decoding.specs.Decoding.{Decoded, decoded}
 use Rattle.sl_decoding.specs.Laws.{Choice}
 use Rattle.sl_decoding.specs.declared.faults.Fault as decoding
-use Rattle.sl_emu.specs.Outcomes.{left_ending, run_over}
-use Rattle.sl_fitting.specs.Laws.{IsTranslation}
+use Rattle.sl_emu.specs.Outcomes.{HasEffectsOf, left_ending, run_over}
+use Rattle.sl_faithful.specs.Faithful.{IsFaithfulList}
 use Rattle.sl_instruction.specs.Instructions.{Specification, default_space, instruction, is_unimplemented, setting_of}
 use Rattle.sl_meaning.specs.Nodes.{After}
 use Rattle.sl_pcode.specs.Machine.{Ending, EndsSo, Run, run_of}
@@ -21,14 +21,14 @@ use Rattle.sl_spec.specs.Tables.{Space}
 use Rattle.sl_step.proofs.AddressLemmas.{sizes_are}
 use Rattle.sl_step.proofs.AfterLemmas.{goes_on, stops_there}
 use Rattle.sl_step.specs.Machines.{Fits, IsSeen}
-use Rattle.sl_step.specs.Outcomes.{Counted, Goes, Grows, Steps}
-use Rattle.sl_step.specs.Stages.{CountsMore, IsRead, IsRun, Reads, Runs, fault_ending}
+use Rattle.sl_step.specs.Outcomes.{Goes, Steps, nothing, some_commits, some_operations}
+use Rattle.sl_step.specs.Stages.{IsRead, IsRun, IsUnread, Runs, fault_ending}
 use Rattle.sl_step.specs.Stages.{machine_with, target}
 use Rattle.sl_step.specs.declared.error.StepError.{StepError}
 use Rattle.sl_step.specs.declared.error.StepError.TheVariants.{Decode, Emu, Misaligned, NoMemory, Unimplemented}
 use Rattle.sl_step.specs.declared.machine.Machine.{Machine}
 use Rattle.sl_step.specs.declared.step.Trace.{Trace}
-use Rattle.sl_steps.specs.Counted.{executed as counts_executed, off as counts_off}
+use Rattle.sl_steps.specs.Counted.{Counts, executed as counts_executed, off as counts_off}
 use Rattle.sl_steps.specs.Counted.{undecoded as counts_undecoded, unimplemented as counts_unimplemented}
 use Rattle.sl_steps.specs.Steps as steps
 use Rattle.sl_steps.specs.Steps.{IsStep, StepFault, Stepped, after_of, committed, decoded_at, executed, failed, goes}
@@ -99,11 +99,16 @@ run_over_same ops m a b x y is same = ap (λ (e : Endian). run_of e x ops m) is
 -- off the alignment
 module _ (s : Specification) (choose : Choice) (start : ℕ) (old : Machine) (cs : List Commit) (beyond : ℕ)
     (is : old.counter % s.tables.alignment ≡ beyond) (some : 1 ≤ beyond) where
-  pub off_steps : Stands old.contexts start cs → Steps s choose start (machine_with old cs) old (Err Misaligned)
-  off_steps stands = (machine_with old cs, off is some, record { memory = refl; counter = refl; contexts = stands })
-
-  pub off_counts : (n : ℕ) → n < 2 ^ 64 → Counted s choose start (machine_with old cs) n n (Err Misaligned)
-  off_counts n few = (0, counts_off is some, omega arith)
+  pub off_steps : (n : ℕ) → n < 2 ^ 64 → Stands old.contexts start cs
+      → Steps s choose start (machine_with old cs) old n n (Err Misaligned)
+  off_steps n few stands = record {
+    last = machine_with old cs;
+    count = 0;
+    step = off is some;
+    seen = record { memory = refl; counter = refl; contexts = stands };
+    counts = counts_off is some;
+    counted = omega arith;
+  }
 
 module _ (s : Specification) (choose : Choice) (start : ℕ) (old : Machine) (cs : List Commit) (bytes : List ℕ)
     (context : ℕ) (low : context < 2 ^ 64)
@@ -115,30 +120,42 @@ module _ (s : Specification) (choose : Choice) (start : ℕ) (old : Machine) (cs
       ∙ is
 
   -- nothing has changed where the instruction isn't read
-  pub unread : (n : ℕ) → n < 2 ^ 64 → Stands old.contexts start cs → (commits : List Commit) (error : StepError)
-      → Reads s choose bytes old.counter context commits (Err error)
-      → Steps s choose start (machine_with old cs) old (Err error)
-      × Counted s choose start (machine_with old cs) n n (Err error)
-  unread n few stands commits (Decode fault) is = (
-    (
-      _,
-      step_undecoded s choose start (machine_with old cs) context low at aligned fault (decoded_is (Err fault) is),
-      record { memory = refl; counter = refl; contexts = stands },
-    ),
-    (0, counts_undecoded aligned low at (decoded_is (Err fault) is), omega arith),
-  )
-  unread n few stands commits Unimplemented is = (
-    (
-      _,
-      step_unimplemented s choose start (machine_with old cs) context low at aligned is.told
-          (decoded_is (Ok is.told) is.decodes) is.marked,
-      record { memory = refl; counter = refl; contexts = stands },
-    ),
-    (0, counts_unimplemented aligned low at (decoded_is (Ok is.told) is.decodes) is.marked, omega arith),
-  )
-  unread n few stands commits NoMemory is = (tt, tt)
-  unread n few stands commits Misaligned is = absurd is
-  unread n few stands commits (Emu fault) is = absurd is
+  pub unread : (n : ℕ) → n < 2 ^ 64 → Stands old.contexts start cs → (error : StepError)
+      → IsUnread s choose bytes old.counter context error
+      → Steps s choose start (machine_with old cs) old n n (Err error)
+  unread n few stands (Decode fault) is = record {
+    last = machine_with old cs;
+    count = 0;
+    step = step_undecoded s choose start (machine_with old cs) context low at aligned fault
+        (decoded_is (Err fault) is);
+    seen = record { memory = refl; counter = refl; contexts = stands };
+    counts = counts_undecoded aligned low at (decoded_is (Err fault) is);
+    counted = omega arith;
+  }
+  unread n few stands Unimplemented is = record {
+    last = machine_with old cs;
+    count = 0;
+    step = step_unimplemented s choose start (machine_with old cs) context low at aligned is.told
+        (decoded_is (Ok is.told) is.decodes) is.marked;
+    seen = record { memory = refl; counter = refl; contexts = stands };
+    counts = counts_unimplemented aligned low at (decoded_is (Ok is.told) is.decodes) is.marked;
+    counted = omega arith;
+  }
+  unread n few stands NoMemory is = nothing (record { memory = refl; counter = refl; contexts = stands })
+  unread n few stands Misaligned is = absurd is
+  unread n few stands (Emu fault) is = absurd is
+
+  -- some of its commits are made where memory runs out
+  pub cut_commits : (commits : List Commit) (after : ℕ) (ops : List Op)
+      (read : IsRead s choose bytes old.counter context commits after ops) (n k : ℕ) (new : Machine)
+      → new.state ≡ old.state → new.counter ≡ old.counter → Stands new.contexts start (cs ++ take k commits)
+      → Steps s choose start (machine_with old cs) new n n (Err NoMemory)
+  cut_commits commits after ops read n k new state counter stands =
+      some_commits k low at (decoded_is (Ok read.told) read.decodes) read.implemented (record {
+        memory = ap (λ (x : State). byte_at x) state;
+        counter = counter;
+        contexts = subst (λ (ds : List Commit). Stands new.contexts start (cs ++ take k ds)) read.commits_are stands;
+      })
 
   -- an instruction that is read, the machine when its commits are made, and the one when its list is run
   module _ (commits : List Commit) (after : ℕ) (ops : List Op)
@@ -150,10 +167,8 @@ module _ (s : Specification) (choose : Choice) (start : ℕ) (old : Machine) (cs
     decodes : decoded_at s choose start (machine_with old cs) context ≡ Ok read.told
     decodes = decoded_is (Ok read.told) read.decodes
 
-    translation : IsTranslation (setting_of s.tables old.counter read.told.after)
-        (instruction s (window_of s choose start (machine_with old cs)) read.told.tree) ops
-    translation = subst (λ (b : List ℕ). IsTranslation (setting_of s.tables old.counter read.told.after)
-        (instruction s b read.told.tree) ops) window_is read.translation
+    faithful : IsFaithfulList s (window_of s choose start (machine_with old cs)) old.counter read.told ops
+    faithful = subst (λ (b : List ℕ). IsFaithfulList s b old.counter read.told ops) window_is read.faithful
 
     run_is : run_over mid.state ops
         ≡ run_of s.tables.endian (setting_of s.tables old.counter read.told.after).sizes ops (byte_at old.state)
@@ -170,24 +185,19 @@ module _ (s : Specification) (choose : Choice) (start : ℕ) (old : Machine) (cs
     now_stands = subst (λ (ds : List Commit). Stands new.contexts start (cs ++ ds)) read.commits_are
         (subst (λ (c : Kept). Stands c start (cs ++ commits)) (sym contexts) stands)
 
-    grows : (ran before behind : ℕ) (ending : Ending) → EndsSo ran (run_over mid.state ops) ending (byte_at new.state)
-        → CountsMore ran before behind
-        → Grows s choose start (machine_with old cs) before behind
-    grows ran before behind ending ends counted = (
-      ran,
-      counts_executed aligned low at decodes read.implemented
-          (record { ops = ops; translation = translation; count_is = sym (ends_at ran ending ends).ran }),
-      counted,
-    )
+    counts : (ran : ℕ) (ending : Ending) → EndsSo ran (run_over mid.state ops) ending (byte_at new.state)
+        → Counts s choose start (machine_with old cs) ran
+    counts ran ending ends = counts_executed aligned low at decodes read.implemented
+        (record { ops = ops; faithful = faithful; count_is = sym (ends_at ran ending ends).ran })
 
     -- where its list is left
     goes_there : (trace : Trace) (before behind : ℕ) → IsRun ops after n mid new before behind trace
-        → Goes s choose start (machine_with old cs) new trace
+        → Goes s choose start (machine_with old cs) new before behind trace
     goes_there trace before behind runs =
         let ends = ends_at trace.ran (left_ending trace.left) runs.ends in
         let leads = goes_on s.tables old.counter read.told.after n size few
         (instruction s (window_of s choose start (machine_with old cs)) read.told.tree) ops (byte_at old.state)
-        (byte_at new.state) trace.ran translation fits.bytes trace.left ends in
+        (byte_at new.state) trace.ran faithful.translation fits.bytes trace.left ends in
         record {
           next = machine_of (byte_at new.state) (target read.told.after trace.left % 256 ^ n) (cs ++ read.told.commits);
           step = step_executed s choose start (machine_with old cs) context low at aligned read.told decodes
@@ -203,37 +213,36 @@ module _ (s : Specification) (choose : Choice) (start : ℕ) (old : Machine) (cs
             at = at;
             told = read.told;
             decodes = decodes;
-            translation = subst (λ (xs : List Op). IsTranslation (setting_of s.tables old.counter read.told.after)
-                (instruction s (window_of s choose start (machine_with old cs)) read.told.tree) xs) (sym runs.same)
-                translation;
+            faithful = subst (λ (xs : List Op). IsFaithfulList s (window_of s choose start (machine_with old cs))
+                old.counter read.told xs) (sym runs.same) faithful;
             ran = subst (λ (xs : List Op). EndsSo trace.ran
                 (run_of s.tables.endian (setting_of s.tables old.counter read.told.after).sizes xs (byte_at old.state))
                 (left_ending trace.left) (byte_at new.state)) (sym runs.same) ends;
           };
+          counts = counts trace.ran (left_ending trace.left) runs.ends;
+          counted = runs.counted;
         }
 
     pub stepped : (before behind : ℕ) (r : Result Trace StepError) → Runs ops after n mid new before behind r
-        → Steps s choose start (machine_with old cs) new r
-        × Counted s choose start (machine_with old cs) before behind r
-    stepped before behind (Ok trace) runs = (
-      goes_there trace before behind runs,
-      grows trace.ran before behind (left_ending trace.left) runs.ends
-          runs.counted,
-    )
+        → Steps s choose start (machine_with old cs) new before behind r
+    stepped before behind (Ok trace) runs = goes_there trace before behind runs
     stepped before behind (Err (Emu fault)) runs =
         let stays = stops_there s.tables old.counter read.told.after n size few
         (instruction s (window_of s choose start (machine_with old cs)) read.told.tree) ops (byte_at old.state)
-        (byte_at new.state) runs.ran translation fits.bytes fault
-        (ends_at runs.ran (fault_ending fault) runs.ends) in (
-          (
-            machine_of (byte_at new.state) old.counter (cs ++ read.told.commits),
-            step_executed s choose start (machine_with old cs) context low at aligned read.told decodes read.implemented
-                _ stays,
-            record { memory = refl; counter = runs.counter ∙ counter; contexts = now_stands },
-          ),
-          grows runs.ran before behind (fault_ending fault) runs.ends runs.counted,
-        )
-    stepped before behind (Err NoMemory) runs = (tt, tt)
+        (byte_at new.state) runs.ran faithful.translation fits.bytes fault
+        (ends_at runs.ran (fault_ending fault) runs.ends) in record {
+          last = machine_of (byte_at new.state) old.counter (cs ++ read.told.commits);
+          count = runs.ran;
+          step = step_executed s choose start (machine_with old cs) context low at aligned read.told decodes
+              read.implemented _ stays;
+          seen = record { memory = refl; counter = runs.counter ∙ counter; contexts = now_stands };
+          counts = counts runs.ran (fault_ending fault) runs.ends;
+          counted = runs.counted;
+        }
+    stepped before behind (Err NoMemory) runs =
+        some_operations runs.ran low at decodes faithful
+        (subst (λ (run : Run). HasEffectsOf runs.ran run (byte_at new.state)) run_is runs.effects)
+        (record { memory = refl; counter = runs.counter ∙ counter; contexts = now_stands }) runs.counted
     stepped before behind (Err Misaligned) runs = absurd runs
     stepped before behind (Err (Decode fault)) runs = absurd runs
     stepped before behind (Err Unimplemented) runs = absurd runs

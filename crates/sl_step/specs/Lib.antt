@@ -1,3 +1,4 @@
+pub mod Kept
 pub mod Machines
 pub mod Outcomes
 pub mod Stages

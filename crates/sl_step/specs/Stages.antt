@@ -2,16 +2,17 @@
 use Rattle.std.specs.Prelude.{◌≡◌, ℕ, ◌+◌, ◌-◌, ◌%◌, ◌^◌, min, true, false, List, Result, Ok, Err}
 use Rattle.sl_contexts.specs.declared.commits.Commit.{Commit}
 use Rattle.sl_decoding.specs.Decoding.{Decoded, decoded}
+use Rattle.sl_decoding.specs.Flat.{entries}
 use Rattle.sl_decoding.specs.Laws.{Choice}
+use Rattle.sl_decoding.specs.declared.entries.Entry.{Entry}
 use Rattle.sl_decoding.specs.declared.faults.Fault as decoding
-use Rattle.sl_emu.specs.Outcomes.{left_ending, run_over}
+use Rattle.sl_emu.specs.Outcomes.{HasEffectsOf, left_ending, run_over}
 use Rattle.sl_emu.specs.declared.run.EmuError.{EmuError}
 use Rattle.sl_emu.specs.declared.run.EmuError.TheVariants as emu
 use Rattle.sl_emu.specs.declared.run.Left.{Left}
 use Rattle.sl_emu.specs.declared.run.Left.TheVariants.{Next, To}
-use Rattle.sl_fitting.specs.Laws.{IsTranslation}
-use Rattle.sl_instruction.specs.Instructions.{Specification, instruction, is_unimplemented}
-use Rattle.sl_instruction.specs.Instructions.{setting_of}
+use Rattle.sl_faithful.specs.Faithful.{IsFaithfulList}
+use Rattle.sl_instruction.specs.Instructions.{Specification, is_unimplemented}
 use Rattle.sl_pcode.specs.Machine.{Ending, EndsSo, calls_user_op, divides_by_zero}
 use Rattle.sl_pcode.specs.Machine.{jumps_too_often}
 use Rattle.sl_pcode.specs.Operations.{operations}
@@ -23,7 +24,7 @@ use Rattle.sl_step.specs.declared.error.StepError.TheVariants.{Decode, Emu, Misa
 use Rattle.sl_step.specs.declared.error.StepError.TheVariants.{Unimplemented}
 use Rattle.sl_step.specs.declared.machine.Machine.{Machine}
 use Rattle.sl_step.specs.declared.step.Trace.{Trace}
-use Rattle.sl_step.specs.declared.stepper.Listed.{Listed}
+use Rattle.sl_step.specs.declared.instruction.Listed.{Listed}
 use Rattle.sl_steps.specs.Steps as steps
 use Rattle.sl_word.specs.Bytes.{byte_at}
 
@@ -43,15 +44,14 @@ module _ (s : Specification) (choose : Choice) (bytes : List ℕ) (address conte
   told_by = decoded s.tables s.constructors choose bytes address context
 
   -- They decode to an instruction with these commits, with this address behind it, and with this
-  -- list, which is a translation of it.
+  -- list, which is faithful to it.
   pub record IsRead (commits : List Commit) (after : ℕ) (ops : List Op) : Type 0 where
     pub told : Decoded
     pub decodes : told_by ≡ Ok told
     pub after_is : after ≡ told.after
     pub commits_are : commits ≡ told.commits
     pub implemented : is_unimplemented s.constructors told.tree ≡ false
-    pub translation : IsTranslation (setting_of s.tables address told.after)
-        (instruction s bytes told.tree) ops
+    pub faithful : IsFaithfulList s bytes address told ops
 
   -- They decode to one that is `unimpl`.
   pub record IsUnimplemented : Type 0 where
@@ -59,14 +59,19 @@ module _ (s : Specification) (choose : Choice) (bytes : List ℕ) (address conte
     pub decodes : told_by ≡ Ok told
     pub marked : is_unimplemented s.constructors told.tree ≡ true
 
-  -- What was read of them. Memory may run out.
-  abbrev pub Reads : List Commit → Result Listed StepError → Type 0
-  Reads commits (Ok listed) = IsRead commits listed.after (operations listed.ops)
-  Reads commits (Err (Decode fault)) = told_by ≡ Err fault
-  Reads commits (Err Unimplemented) = IsUnimplemented
-  Reads commits (Err NoMemory) = Unit {0}
-  Reads commits (Err Misaligned) = ⊥
-  Reads commits (Err (Emu fault)) = ⊥
+  -- Nothing was read of them, for this reason. Memory may run out.
+  abbrev pub IsUnread : StepError → Type 0
+  IsUnread (Decode fault) = told_by ≡ Err fault
+  IsUnread Unimplemented = IsUnimplemented
+  IsUnread NoMemory = Unit {0}
+  IsUnread Misaligned = ⊥
+  IsUnread (Emu fault) = ⊥
+
+  -- what was read of them
+  abbrev pub Reads : List Entry → List Commit → Result Listed StepError → Type 0
+  Reads nodes commits (Ok listed) = (read : IsRead commits listed.after (operations listed.ops))
+      × (nodes ≡ entries 0 read.told.tree)
+  Reads nodes commits (Err error) = IsUnread error
 
 -- ---- what a list comes to
 
@@ -95,7 +100,7 @@ CountsMore ran before behind = behind ≡ min (before + ran) (2 ^ 64 - 1)
 -- runner's count before and behind its run
 module _ (ops : List Op) (after bytes : ℕ) (old new : Machine) (before behind : ℕ) where
   pub record IsRun (trace : Trace) : Type 0 where
-    pub same : operations trace.ops ≡ ops
+    pub same : operations trace.instruction.value.ops ≡ ops
     pub ends : EndsSo trace.ran (run_over old.state ops) (left_ending trace.left)
         (byte_at new.state)
     pub counter : new.counter ≡ target after trace.left % 256 ^ bytes
@@ -107,11 +112,18 @@ module _ (ops : List Op) (after bytes : ℕ) (old new : Machine) (before behind 
     pub counter : new.counter ≡ old.counter
     pub counted : CountsMore ran before behind
 
-  -- What came of its run. Memory may run out.
+  -- Memory ran out when so many of its operations had run.
+  pub record IsCut : Type 0 where
+    pub ran : ℕ
+    pub effects : HasEffectsOf ran (run_over old.state ops) (byte_at new.state)
+    pub counter : new.counter ≡ old.counter
+    pub counted : CountsMore ran before behind
+
+  -- What came of its run.
   abbrev pub Runs : Result Trace StepError → Type 0
   Runs (Ok trace) = IsRun trace
   Runs (Err (Emu fault)) = IsFaulted fault
-  Runs (Err NoMemory) = Unit {0}
+  Runs (Err NoMemory) = IsCut
   Runs (Err Misaligned) = ⊥
   Runs (Err (Decode fault)) = ⊥
   Runs (Err Unimplemented) = ⊥

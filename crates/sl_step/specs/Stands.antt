@@ -10,6 +10,7 @@ use Rattle.sl_decoding.specs.Actions.{address_bytes}
 use Rattle.sl_decoding.specs.Laws.{Choice}
 use Rattle.sl_instruction.specs.Instructions.{Specification, specification_of}
 use Rattle.sl_lister.specs.Disassemblies as disassembly
+use Rattle.sl_sight.specs.Laws.{TokensAreShort}
 use Rattle.sl_sizing.specs.Sizings.{lists_of}
 use Rattle.sl_step.specs.declared.stepper.Stepper.{Stepper}
 
@@ -31,6 +32,7 @@ pub record StandsFor (x : Stepper) : Type 0 where
   pub compiles : Compiles (items_of x.compiled.now.bound.spec) (Ok (specification_in x).tables)
   pub decodes : disassembly.StandsFor x.disassembly (specification_in x).tables
       (specification_in x).constructors
+  pub tokens : TokensAreShort (specification_in x).tables
   pub builds : sections.StandsFor x.sections (specification_in x)
   pub space : position (λ z. z.default) (specification_in x).tables.spaces ≡ Some x.space.0
   pub size : x.size.bytes ≡ address_bytes (specification_in x).tables

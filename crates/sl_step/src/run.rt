@@ -8,13 +8,14 @@ ghost use Rattle.sl_step.specs.Stages.{Runs, error_of, target};
 ghost use Rattle.sl_word.specs.Bytes.{address_sizes, byte_at, endian_of};
 
 use crate::error::{EmuFault, StepError};
+use crate::instruction::Instruction;
 use crate::machine::Machine;
 use crate::step::Trace;
-use crate::stepper::Listed;
 use crate::window::wrapped;
 use sl_emu::{EmuError, Left, Runner};
 use sl_word::AddressSize;
 use std::alloc::Global;
+use std::rc::Rc;
 
 fn error_of(error: EmuError) -> StepError
     ensures { result ≡ error_of error }
@@ -41,12 +42,12 @@ fn target(after: u64, left: Left) -> u64
 /// this size.
 pub(crate) fn run<R: Runner>(
     alloc: Global,
-    listed: Listed,
+    instruction: Rc<Instruction>,
     size: AddressSize,
     machine: &mut Machine,
     runner: &mut R,
 ) -> Result<Trace, StepError>
-    requires well_formed { IsWellFormed (address_sizes machine.old.state) (operations listed.ops) }
+    requires well_formed { IsWellFormed (address_sizes machine.old.state) (operations instruction.value.ops) }
     requires bytes { AreBytes (byte_at machine.old.state) }
     requires counter { machine.old.counter < 256 ^ size.bytes }
     ensures endian { endian_of machine.new.state ≡ endian_of machine.old.state }
@@ -54,15 +55,18 @@ pub(crate) fn run<R: Runner>(
     ensures bytes { AreBytes (byte_at machine.new.state) }
     ensures counter { machine.new.counter < 256 ^ size.bytes }
     ensures contexts { machine.new.contexts ≡ machine.old.contexts }
-    ensures runs { Runs (operations listed.ops) listed.after size.bytes machine.old machine.new
+    ensures runs { Runs (operations instruction.value.ops) instruction.value.after size.bytes machine.old machine.new
         (R.count runner.old) (R.count runner.new) result }
 {
     let mut ran = 0;
-    let ops = listed.ops;
-    match runner.run(alloc, &ops, &mut machine.state, &mut ran) {
+    match runner.run(alloc, &instruction.ops, &mut machine.state, &mut ran) {
         Ok(left) => {
-            machine.counter = wrapped(u128::from(target(listed.after, left)), size);
-            Ok(Trace { ops, ran, left })
+            machine.counter = wrapped(u128::from(target(instruction.after, left)), size);
+            Ok(Trace {
+                instruction,
+                ran,
+                left,
+            })
         }
         Err(error) => Err(error_of(error)),
     }

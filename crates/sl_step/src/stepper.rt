@@ -1,24 +1,30 @@
 //! What decodes and builds the instructions of a specification.
 
-ghost use Rattle.std.specs.Prelude.{◌≡◌, IfOk, Ok, Some, position};
+ghost use Rattle.std.specs.Prelude.{◌≡◌, IfErr, IfOk, Ok, length};
 ghost use Rattle.sl_ast.specs.Views.{items_of};
 ghost use Rattle.sl_bind.specs.Binding.{Binds};
 ghost use Rattle.sl_bound_translations.specs.Laws.{IsShort};
 ghost use Rattle.sl_compile.specs.Outcomes.{Compiles, all_constructors};
 ghost use Rattle.sl_sizing.specs.Sizings.{lists_of};
 ghost use Rattle.sl_sound.specs.Soundness.{AreSetsOf};
-ghost use Rattle.sl_step.specs.Stages.{Reads};
+ghost use Rattle.sl_step.specs.Kept.{AreKept, IsReadAs, IsReadFrom};
+ghost use Rattle.sl_step.specs.Stages.{IsUnread, Reads};
 ghost use Rattle.sl_step.specs.Stands.{StandsFor, choice_in, specification_in};
 
+use crate::buffers::StepBuffers;
 use crate::error::StepError;
+use crate::instruction::{Instruction, Listed};
+use crate::sight::sight_of;
+use crate::spaces::default_space;
+use crate::window::WINDOW;
 use sl_build::{Built, Decoded, Sections};
 use sl_compile::Compiled;
 use sl_decode::{DecodeError, Walk, address_size};
 use sl_lister::Disassembly;
-use sl_pcode::OpList;
-use sl_spec::Tables;
+use sl_sight::tokens_are_short;
 use sl_word::{AddressSize, SpaceId};
 use std::alloc::{AllocError, Global};
+use std::rc::Rc;
 
 /// Decodes and builds the instructions of a specification.
 #[derive(Drop)]
@@ -29,34 +35,6 @@ pub struct Stepper<'t, 'a> {
     /// The default space, and the size of its addresses.
     pub(crate) space: SpaceId,
     pub(crate) size: AddressSize,
-}
-
-/// The list of an instruction, and the address behind it.
-#[derive(Drop)]
-pub(crate) struct Listed {
-    pub ops: OpList,
-    pub after: u64,
-}
-
-/// The number of the default space.
-fn default_index(t: &Tables) -> Option<usize>
-    ensures { result ≡ position (λ z. z.default) t.now.spaces }
-{
-    t.spaces.iter().position(|space| space.default)
-}
-
-/// The default space. By rule 32 there is one, and its number has 32 bits; else it would be want of
-/// memory.
-fn default_space(t: &Tables) -> Result<SpaceId, AllocError>
-    ensures { IfOk result (λ space. position (λ z. z.default) t.now.spaces ≡ Some space.0) }
-{
-    let Some(index) = default_index(t) else {
-        return Err(AllocError);
-    };
-    match u32::try_from(index) {
-        Ok(number) => Ok(SpaceId(number)),
-        Err(_) => Err(AllocError),
-    }
 }
 
 impl<'t, 'a> Stepper<'t, 'a> {
@@ -78,6 +56,7 @@ impl<'t, 'a> Stepper<'t, 'a> {
         let sections = Sections::new(alloc, &compiled.bound)?;
         let space = default_space(tables)?;
         let size = address_size(tables);
+        tokens_are_short(tables);
         Ok(Stepper {
             compiled,
             disassembly,
@@ -87,8 +66,9 @@ impl<'t, 'a> Stepper<'t, 'a> {
         })
     }
 
-    /// The instruction that the bytes at an address decode to. Its commits are left in the buffers.
-    pub(crate) fn read(
+    /// The list of what the bytes at an address decode to. Its nodes and its commits are left in the
+    /// buffers.
+    fn read(
         &self,
         alloc: Global,
         bytes: &[u8],
@@ -98,7 +78,7 @@ impl<'t, 'a> Stepper<'t, 'a> {
     ) -> Result<Listed, StepError>
         requires stands { StandsFor self.now }
         ensures { Reads (specification_in self.now) (choice_in self.now) bytes.now address context
-            walk.new.commits.items result }
+            walk.new.nodes.items walk.new.commits.items result }
     {
         let disassembler = &self.disassembly.disassembler;
         let after = match disassembler.decode_into(bytes, address, context, walk) {
@@ -118,5 +98,67 @@ impl<'t, 'a> Stepper<'t, 'a> {
             Ok(Built::Unimplemented) => Err(StepError::Unimplemented),
             Err(_) => Err(StepError::NoMemory),
         }
+    }
+
+    /// The instruction that the bytes at an address decode to, read anew. Where its decode looked at
+    /// fewer bytes than it was told, it has those alone.
+    fn read_anew(
+        &self,
+        alloc: Global,
+        bytes: &[u8],
+        address: u64,
+        context: u64,
+        walk: &mut Walk,
+    ) -> Result<Instruction, StepError>
+        requires stands { StandsFor self.now }
+        requires window { length bytes.now ≡ WINDOW }
+        ensures read { IfOk result (IsReadFrom (specification_in self.now) (choice_in self.now)
+            bytes.now address context) }
+        ensures unread { IfErr result (IsUnread (specification_in self.now) (choice_in self.now)
+            bytes.now address context) }
+    {
+        let listed = match self.read(alloc, bytes, address, context, walk) {
+            Ok(listed) => listed,
+            Err(error) => return Err(error),
+        };
+        let count = sight_of(walk.nodes.as_slice()).min(bytes.len());
+        let seen = &bytes[..count];
+        let commits = walk.commits.as_slice();
+        match Instruction::new(alloc, seen, address, context, commits, listed) {
+            Ok(instruction) => Ok(instruction),
+            Err(_) => Err(StepError::NoMemory),
+        }
+    }
+
+    /// The same, kept or read anew.
+    pub(crate) fn instruction(
+        &self,
+        alloc: Global,
+        bytes: &[u8],
+        address: u64,
+        context: u64,
+        buffers: &mut StepBuffers,
+    ) -> Result<Rc<Instruction>, StepError>
+        requires stands { StandsFor self.now }
+        requires window { length bytes.now ≡ WINDOW }
+        requires kept { AreKept (specification_in self.now) (choice_in self.now) buffers.old }
+        ensures kept { AreKept (specification_in self.now) (choice_in self.now) buffers.new }
+        ensures read { IfOk result (λ x. IsReadAs (specification_in self.now) (choice_in self.now)
+            bytes.now address context x.value) }
+        ensures unread { IfErr result (IsUnread (specification_in self.now) (choice_in self.now)
+            bytes.now address context) }
+    {
+        if let Some(found) = buffers.found(bytes, address, context) {
+            return Ok(found);
+        }
+        let instruction = match self.read_anew(alloc, bytes, address, context, &mut buffers.walk) {
+            Ok(instruction) => instruction,
+            Err(error) => return Err(error),
+        };
+        let Ok(instruction) = Rc::new(alloc, instruction) else {
+            return Err(StepError::NoMemory);
+        };
+        buffers.keep(&instruction);
+        Ok(instruction)
     }
 }

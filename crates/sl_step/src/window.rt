@@ -5,7 +5,7 @@ ghost use Rattle.std.specs.List.{range_with_len};
 ghost use Rattle.sl_steps.specs.Steps.{window};
 ghost use Rattle.sl_word.specs.Bytes.{address_size, address_sizes, byte_at};
 
-use sl_word::{AddressSize, Size, SpaceId, State};
+use sl_word::{AddressSize, SpaceId, State};
 
 /// The number of bytes that a decode is told, those of the longest instruction and those beyond it
 /// that are looked at.
@@ -18,31 +18,13 @@ pub(crate) fn wrapped(number: u128, size: AddressSize) -> u64
     (number % (1 << (8 * u32::from(size.bytes)))) as u64
 }
 
-/// The byte of a space that lies so many bytes behind an address, round its end.
-fn byte_after(state: &State, space: SpaceId, size: AddressSize, address: u64, count: usize) -> u8
-    requires space { space.0 < length (address_sizes state.now) }
-    requires size { address_size state.now space.0 ≡ size.bytes }
-    ensures { result ≡ byte_at state.now space.0 ((address + count) % 256 ^ size.bytes) }
-{
-    let at = wrapped(u128::from(address) + count as u128, size);
-    state.read(space, at, Size { bytes: 1 }).bits as u8
-}
-
 /// The bytes of a space from an address on, round its end.
-pub(crate) fn window_at(
-    state: &State,
-    space: SpaceId,
-    size: AddressSize,
-    address: u64,
-) -> [u8; WINDOW]
-    requires space { space.0 < length (address_sizes state.now) }
-    requires size { address_size state.now space.0 ≡ size.bytes }
-    ensures { result ≡ map (λ i. byte_at state.now space.0 ((address + i) % 256 ^ size.bytes))
-        (range_with_len 0 window) }
+pub(crate) fn window_at(state: &State, space: SpaceId, address: u64) -> [u8; WINDOW]
+    requires { space.0 < length (address_sizes state.now) }
+    ensures { result ≡ map (λ i. byte_at state.now space.0
+        ((address + i) % 256 ^ address_size state.now space.0)) (range_with_len 0 window) }
 {
     let mut window = [0; WINDOW];
-    'bytes: for index in 0..WINDOW {
-        window[index] = byte_after(state, space, size, address, index);
-    }
+    state.fill(space, address, &mut window);
     window
 }

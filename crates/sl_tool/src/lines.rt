@@ -1,29 +1,15 @@
 //! Lines of output, each appended to a buffer. Where memory runs out the buffer may have a part of the
 //! line.
 
-ghost use Rattle.std.specs.Prelude.{◌≡◌, ◌++◌, ◌≤◌, OnOk, length};
+ghost use Rattle.std.specs.Prelude.{◌≡◌, ◌++◌, OnOk};
 ghost use Rattle.std.specs.Fmt.{decimal};
-ghost use Rattle.hex.specs.Hex.{encode_lower};
 ghost use Rattle.sl_tool.specs.Lines.{point_text, place_text};
 
 use crate::place::Place;
 use itoa::Buffer;
 use sl_cube::Point;
+use sl_list::push_hex;
 use std::alloc::AllocError;
-
-/// The most bytes that are written in hexadecimal at once.
-pub const MOST_BYTES: usize = 16;
-
-/// Appends the bytes in hexadecimal, two digits each.
-pub fn push_hex(out: &mut Vec<u8>, bytes: &[u8]) -> Result<(), AllocError>
-    requires { length bytes.now ≤ MOST_BYTES }
-    ensures { OnOk result (out.new.items ≡ out.old.items ++ encode_lower bytes.now) }
-{
-    let mut buffer = [0; 2 * MOST_BYTES];
-    let digits = &mut buffer[..2 * bytes.len()];
-    hex::encode_to_slice(bytes, digits).unwrap();
-    out.extend_from_slice(digits)
-}
 
 /// Appends the sixteen bytes of a point and its context.
 pub fn push_point(out: &mut Vec<u8>, point: &Point) -> Result<(), AllocError>

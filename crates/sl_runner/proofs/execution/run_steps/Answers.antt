@@ -7,6 +7,7 @@ use Rattle.sl_runner.proofs.execution.run_steps.Goals as goal
 
 pub steps-init : goal.steps-init
 steps-init g c = record {
+  kept = c.in_ok-buffers.ensures (specification_in c.args.stepper.now) (choice_in c.args.stepper.now);
   fits = c.requires.fits;
   reaches =
       λ start m seen. begins (specification_in c.args.stepper.now)
@@ -32,6 +33,7 @@ steps-preserved g c =
     let s = specification_in c.args.stepper.now in
     let choose = choice_in c.args.stepper.now in
     record {
+      kept = c.next.ensures.kept;
       fits = c.next.ensures.fits;
       reaches = λ start m seen.
           let r = c.steps.invariant.reaches start m seen in

@@ -1,8 +1,8 @@
 use Rattle.std.proofs.Common.{ℕ, ◌%◌, ◌≤◌, Err, refl, subst, arith}
 use Rattle.sl_ast.specs.Views.{items_of}
 use Rattle.sl_lister.proofs.AcceptedLemmas.{aligned}
-use Rattle.sl_step.proofs.StepLemmas.{off_counts, off_steps, seen_holds}
-use Rattle.sl_step.specs.Outcomes.{Counted, Steps}
+use Rattle.sl_step.proofs.StepLemmas.{off_steps, seen_holds}
+use Rattle.sl_step.specs.Outcomes.{Steps}
 use Rattle.sl_step.specs.Stands.{choice_in, specification_in}
 use Rattle.sl_step.specs.declared.error.StepError.TheVariants.{Misaligned}
 use Rattle.sl_steps.specs.Steps as steps
@@ -20,23 +20,8 @@ returns-then-machine-from-gt0-clause-steps g c start m seen =
     let s = specification_in c.args.self.now in
     let choose = choice_in c.args.self.now in
     let old = c.args.machine.now in
-    seen_holds (λ (x : steps.Machine). Steps s choose start x old (Err Misaligned)) start old m seen
-    (off_steps s choose start old m.commits (old.counter % s.tables.alignment) refl
-    (subst (λ (n : ℕ). 1 ≤ old.counter % n) c.from.ensures c.if-machine-from-gt0.true) seen.contexts)
-
-pub returns-then-machine-from-gt0-clause-counted : goal.returns-then-machine-from-gt0-clause-counted
-returns-then-machine-from-gt0-clause-counted g c start m seen =
-    let s = specification_in c.args.self.now in
-    let choose = choice_in c.args.self.now in
-    let old = c.args.machine.now in
     let n = g.R.Runner.count c.args.runner.now in
-    seen_holds (λ (x : steps.Machine). Counted s choose start x n n (Err Misaligned)) start old m seen
-    (off_counts s choose start old m.commits (old.counter % s.tables.alignment) refl
+    seen_holds (λ (x : steps.Machine). Steps s choose start x old n n (Err Misaligned)) start old m seen
+    (off_steps s choose start old m.commits (old.counter % s.tables.alignment) refl
     (subst (λ (n : ℕ). 1 ≤ old.counter % n) c.from.ensures c.if-machine-from-gt0.true) n
-    (g.R.Runner.small c.args.runner.now))
-
-pub returns-clause-steps : goal.returns-clause-steps
-returns-clause-steps g c start m seen = (c.step_aligned.ensures.both start m seen).0
-
-pub returns-clause-counted : goal.returns-clause-counted
-returns-clause-counted g c start m seen = (c.step_aligned.ensures.both start m seen).1
+    (g.R.Runner.small c.args.runner.now) seen.contexts)

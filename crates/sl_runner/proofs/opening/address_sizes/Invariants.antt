@@ -1,6 +1,0 @@
-use Rattle.std.proofs.Common.{◌≡◌, map, take}
-use Rattle.sl_word.specs.Sizes.{byte_counts}
-use Rattle.sl_runner.proofs.opening.address_sizes.Given as goal
-
-abbrev pub invariant-spaces : goal.invariant-spaces
-invariant-spaces l = byte_counts l.sizes.items ≡ map (λ s. s.size) (take l.number l.tables.spaces)
