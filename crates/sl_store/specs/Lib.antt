@@ -1,3 +1,4 @@
 pub mod Reads
 pub mod Answers
 pub mod Laws
+pub mod Kinds

@@ -1,5 +1,5 @@
-//! Packed specifications: a specification with the files that it includes, as one file. [`pack`] writes it, and
-//! [`unpack`] reads exactly what `pack` writes. The format is `sl_packed`'s.
+//! Packed specifications: a specification with the files that it includes, as one file. [`pack`]
+//! writes it, and [`unpack`] reads exactly what `pack` writes. The format is `sl_packed`'s.
 #![tactic(auto)]
 
 pub mod laws;

@@ -1,4 +1,5 @@
-//! Packed files, opened and packed again, or why they aren't opened. What is told of each was reckoned by hand.
+//! Packed files, opened and packed again, or why they aren't opened. What is told of each was reckoned
+//! by hand.
 
 use crate::{UnpackError, pack, unpack};
 use std::test::Fail;

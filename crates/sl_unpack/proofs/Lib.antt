@@ -1,7 +1,2 @@
-pub mod Rounds
-pub mod Forms
-pub mod Weights
-pub mod Making
-pub mod Dots
 pub mod Names
 pub mod Nested

@@ -29,8 +29,8 @@ use Rattle.sl_preproc.specs.declared.places.Place.{Place}
 use Rattle.sl_unpack.specs.Placed.{chain_of, chain_in, places_in, IsInner, AreInside, IsItem, AreItems}
 use Rattle.sl_unpack.specs.declared.items.Placed as program_items
 use Rattle.sl_packed.proofs.Goods.{true_le}
-use Rattle.sl_unpack.proofs.Forms.{passes}
-use Rattle.sl_unpack.proofs.Rounds.{stops_along, stops_then, rounds_begin, round_goes, round_stops, rounds_end}
+use Rattle.sl_packed_phrases.proofs.Forms.{passes}
+use Rattle.sl_packed_phrases.proofs.Rounds.{stops_along, stops_then, rounds_begin, round_goes, round_stops, rounds_end}
 
 -- ---- what the readers give
 
@@ -191,10 +191,6 @@ module _ (files : ℕ) (xs one : List ℕ) (p : Place) (placed : place_here file
       → placed_here files xs ≡ Ok (item_at p i, left)
   unfolding placed_here
   item_plain two left form i taken other read = rw (placed, taken, placed_other form other two, read) refl
-
-  pub item_stops_at_form : (e : Stop) → Stops (coded item_forms one) e → Stops (placed_here files xs) e
-  unfolding placed_here
-  item_stops_at_form e h = rw placed (stops_then (coded item_forms one) (placed_by files p) e h)
 
   pub item_stops_at_head : (two : List ℕ) (e : Stop) → coded item_forms one ≡ Ok (x.With, two) → Stops (head_here two) e → Stops (placed_here files xs) e
   unfolding placed_here block_here

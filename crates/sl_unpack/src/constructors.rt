@@ -6,12 +6,11 @@ ghost use Rattle.sl_packed.specs.Constructors as reader;
 ghost use Rattle.sl_packing.specs.Reads.{Reads};
 
 use crate::parts::{Part, list, option, separated};
-use crate::patterns::whole_pattern;
-use crate::words::{blank, byte, caret, name, shown_word, text};
 use sl_ast::constructors::{Constructor, Head, Macro, Section, Shown};
 use sl_ast::patterns::{Action, Pattern};
 use sl_ast::statements::Stmt;
 use sl_packed::forms::ShownForm;
+use sl_packed_phrases::{blank, byte, caret, name, shown_word, text, whole_pattern};
 use sl_packing::{Bytes, Stop};
 use std::alloc::Global;
 

@@ -10,11 +10,11 @@ ghost use Rattle.sl_packing.specs.Reads.{Plain, Reads};
 ghost use Rattle.sl_packing.specs.Tables.{coded};
 
 use crate::parts::{Part, list};
-use crate::words::{member_word, name, natural, text};
 use sl_ast::definitions::{
     BitRange, ByteOrder, Definition, Field, FieldAttribute, Member, Names, SpaceAttribute,
 };
 use sl_packed::forms::{AttributeForm, DefinitionForm, MemberForm};
+use sl_packed_phrases::{member_word, name, natural, text};
 use sl_packing::{Bytes, Stop};
 use std::alloc::Global;
 

@@ -11,12 +11,12 @@ ghost use Rattle.sl_unpack.specs.Placed.{ReadsInner, ReadsInside, ReadsItem, Rea
 
 use crate::constructors::{constructor_here, head_here, macro_here};
 use crate::definitions::{definition_here, member_here, names_here};
-use crate::operands::taken;
 use crate::parts::list;
 use sl_ast::constructors::Inner;
 use sl_ast::definitions::{AttachKind, Member};
 use sl_ast::items::{Item, ItemKind};
 use sl_packed::forms::ItemForm;
+use sl_packed_phrases::taken;
 use sl_packing::{Bytes, Stop};
 use sl_preproc::Place;
 use std::alloc::Global;

@@ -6,7 +6,7 @@ ghost use Rattle.sl_packing.specs.Lists.{collected, same_state, some_more};
 ghost use Rattle.sl_packing.specs.Reader.{Reader};
 ghost use Rattle.sl_packing.specs.Reads.{Reads, now_of, seen_by};
 
-use crate::words::name;
+use sl_packed_phrases::name;
 use sl_packing::{Bytes, Stop};
 use std::alloc::Global;
 

@@ -9,14 +9,15 @@ ghost use Rattle.sl_packed.specs.Statements as reader;
 ghost use Rattle.sl_packed.specs.declared.forms.StatementForm.TheVariants as form;
 ghost use Rattle.sl_packing.specs.Reads.{Reads};
 
-use crate::expressions::whole_expression;
+use crate::actions::operand_here;
 use crate::parts::{Part, option, separated};
-use crate::patterns::operand_here;
-use crate::words::{first_name, invoked_name, name, natural, width, width_option};
 use sl_ast::expressions::Expr;
 use sl_ast::patterns::Address;
 use sl_ast::statements::{Dest, Direct, Exported, Left, Pointer, Star, Stmt, Target};
 use sl_packed::forms::{DirectForm, LeftForm, StatementForm, TargetForm};
+use sl_packed_phrases::{
+    first_name, invoked_name, name, natural, whole_expression, width, width_option,
+};
 use sl_packing::{Bytes, Stop};
 use sl_phrases::operators::Kind;
 use std::alloc::Global;

@@ -4,7 +4,7 @@ use Rattle.sl_packed.specs.FileNames.{goes_on, then_due}
 use Rattle.sl_packing.specs.Lists.{collected, some_more}
 use Rattle.sl_packing.specs.Reader.{byte}
 use Rattle.sl_unpack.specs.Views.{due_of}
-use Rattle.sl_unpack.proofs.Rounds.{round_goes, round_stops, rounds_end, stops_along}
+use Rattle.sl_packed_phrases.proofs.Rounds.{round_goes, round_stops, rounds_end, stops_along}
 use Rattle.sl_unpack.proofs.files.letters.Goals as goal
 
 pub returns-in_err-byte : goal.returns-in_err-byte

@@ -6,7 +6,7 @@ use Rattle.sl_packed.specs.Items.{inner_here}
 use Rattle.sl_packing.specs.Lists.{list_of}
 use Rattle.sl_unpack.specs.Placed.{AreInside, IsInner}
 use Rattle.sl_unpack.proofs.Nested.{deeper_of, inner_is, deeper_is, deep_enough, stops_at_place, stops_at_form, stops_at_head, stops_at_inside, stops_at_constructor, read_block, read_constructor, inside_begins, inside_goes, inside_stops, inside_ends}
-use Rattle.sl_unpack.proofs.Rounds.{stops_along}
+use Rattle.sl_packed_phrases.proofs.Rounds.{stops_along}
 use Rattle.sl_unpack.proofs.items.+inner.Goals as goal
 
 pub inside_here-rounds-init : goal.inside_here-rounds-init

@@ -3,7 +3,7 @@ use Rattle.std.proofs.lemmas.Grind.{common_steps}
 use Rattle.std.proofs.lemmas.List.{map_push}
 use Rattle.sl_packing.specs.Lists.{collected, same_state, some_more}
 use Rattle.sl_packing.specs.Reads.{seen_by}
-use Rattle.sl_unpack.proofs.Rounds.{round_goes, round_stops, rounds_end, stops_along}
+use Rattle.sl_packed_phrases.proofs.Rounds.{round_goes, round_stops, rounds_end, stops_along}
 use Rattle.sl_unpack.proofs.parts.members.Goals as goal
 
 pub returns-in_err-read-clause-reads : goal.returns-in_err-read-clause-reads

@@ -10,7 +10,7 @@ use Rattle.sl_packing.specs.Reader.{Outcome}
 use Rattle.sl_packing.specs.Reads.{Reads}
 use Rattle.sl_packing.specs.declared.bytes.Stop.{Stop}
 use Rattle.sl_packing.specs.declared.bytes.Stop.TheVariants as sv
-use Rattle.sl_unpack.specs.Within.{Makes, Spends, operand_room, operand_weight}
+use Rattle.sl_packed_phrases.specs.Within.{Makes, Spends, operand_room, operand_weight}
 
 pub made_reads : (o : Outcome Expression) (tree : Expression) (left : List ℕ) (r : Result Expr Stop) → Makes tree r → o ≡ Ok (tree, left) → Reads expression_of o r left
 made_reads o tree left (Ok e) made same = same ∙ ap (λ t. Ok (t, left)) (sym made)

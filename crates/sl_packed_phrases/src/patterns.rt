@@ -1,28 +1,22 @@
-//! Bit patterns and disassembly actions.
+//! Bit patterns.
 
 ghost use Rattle.std.specs.Prelude.{◌≡◌};
-ghost use Rattle.sl_ast.specs.Views.{action_of, operand_of_address, pattern_of};
+ghost use Rattle.sl_ast.specs.Views.{pattern_of};
 ghost use Rattle.sl_packed.specs.Forms.{pattern_forms};
 ghost use Rattle.sl_packed.specs.Patterns as reader;
 ghost use Rattle.sl_packing.specs.Reads.{Plain, Reads};
 ghost use Rattle.sl_packing.specs.Tables.{coded_if};
-ghost use Rattle.sl_unpack.specs.Within.{pattern_form_of, ReadsPattern, SpendsPattern};
+ghost use Rattle.sl_packed_phrases.specs.Within.{pattern_form_of, ReadsPattern, SpendsPattern};
 
-use crate::expressions::{HEAVIEST, expression, whole_expression};
+use crate::expressions::{self, HEAVIEST, expression};
 use crate::operands::taken;
-use crate::parts::Part;
-use crate::words::{name, natural};
-use sl_ast::patterns::{
-    Action, Address, Pattern, PatternOp, Relation, bare, constraint, ellipsis, group, joined,
-};
+use crate::words::name;
+use sl_ast::patterns::{Pattern, PatternOp, Relation, bare, constraint, ellipsis, group, joined};
 use sl_packed::forms::PatternForm;
 use sl_packing::{Bytes, Stop};
 use sl_phrases::operators::Kind;
 use sl_phrases::patterns::right_rank;
 use std::alloc::Global;
-
-/// The loosest rank of an expression.
-const LOOSEST_EXPRESSION: u8 = 10;
 
 /// The loosest rank of a pattern.
 const LOOSEST: u8 = 3;
@@ -162,7 +156,7 @@ fn constrained<'a>(
         Kind::Constraint,
         depth,
         room,
-        LOOSEST_EXPRESSION,
+        expressions::LOOSEST,
     )?;
     Ok(constraint(name, relation, value))
 }
@@ -232,55 +226,4 @@ pub fn whole_pattern<'a>(alloc: Global, bytes: &mut Bytes<'a>) -> Result<Pattern
     let mut room = HEAVIEST;
     let found = pattern(alloc, bytes, HEAVIEST + 1, &mut room, LOOSEST)?;
     Ok(found)
-}
-
-impl<'a> Part<'a> for Pattern<'a> {
-    ghost use Rattle.sl_ast.specs.Trees as t;
-
-    ghost Tree = { t.Pattern };
-
-    ghost view = { pattern_of };
-
-    ghost reader = { reader.whole_pattern };
-
-    fn read(alloc: Global, bytes: &mut Bytes<'a>) -> Result<Pattern<'a>, Stop> {
-        whole_pattern(alloc, bytes)
-    }
-}
-
-/// A name or an integer.
-#[tactic(auto, unfolding(sl_packed::specs::Patterns::operand_here, sl_packing::specs::Lists::either))]
-pub fn operand_here<'a>(bytes: &mut Bytes<'a>) -> Result<Address<'a>, Stop>
-    ensures { Reads operand_of_address (reader.operand_here bytes.old) result bytes.new }
-{
-    if bytes.below(2)? == 0 {
-        let name = name(bytes)?;
-        Ok(Address::Name(name))
-    } else {
-        let value = natural(bytes)?;
-        Ok(Address::Integer(value))
-    }
-}
-
-impl<'a> Part<'a> for Action<'a> {
-    ghost use Rattle.sl_ast.specs.Trees as t;
-
-    ghost Tree = { t.Action };
-
-    ghost view = { action_of };
-
-    ghost reader = { reader.action };
-
-    #[tactic(auto, unfolding(sl_packed::specs::Patterns::action, sl_packing::specs::Lists::either))]
-    fn read(alloc: Global, bytes: &mut Bytes<'a>) -> Result<Action<'a>, Stop> {
-        if bytes.below(2)? == 0 {
-            let name = name(bytes)?;
-            let value = whole_expression(alloc, bytes, Kind::Action)?;
-            Ok(Action::Assign(name, value))
-        } else {
-            let address = operand_here(bytes)?;
-            let field = name(bytes)?;
-            Ok(Action::GlobalSet(address, field))
-        }
-    }
 }

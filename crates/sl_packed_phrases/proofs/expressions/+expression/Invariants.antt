@@ -6,7 +6,7 @@ use Rattle.sl_packed.specs.Expressions.{expression, given, room_after}
 use Rattle.sl_packing.specs.Lists.{collected, some_more}
 use Rattle.sl_packing.specs.Reads.{seen_by}
 use Rattle.sl_phrases.specs.Kinds.{kind_of}
-use Rattle.sl_unpack.proofs.expressions.+expression.Given as goal
+use Rattle.sl_packed_phrases.proofs.expressions.+expression.Given as goal
 
 abbrev pub decreases-expression : goal.decreases-expression
 decreases-expression l = 8 * l.depth

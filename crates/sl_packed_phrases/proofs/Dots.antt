@@ -8,7 +8,7 @@ use Rattle.sl_packing.specs.Reader.{and_then, pure}
 use Rattle.sl_packing.specs.Reads.{Stops}
 use Rattle.sl_packing.specs.Tables.{coded_if}
 use Rattle.sl_packing.specs.declared.bytes.Stop.{Stop}
-use Rattle.sl_unpack.proofs.Rounds.{stops_along, stops_then}
+use Rattle.sl_packed_phrases.proofs.Rounds.{stops_along, stops_then}
 
 module _ (depth room less : ℕ) (xs two : List ℕ) (form : PatternForm) (same : less ≡ room - 1) (taken : coded_if (ellipsis_fits less) pattern_forms xs ≡ Ok (form, two)) where
   pub ellipsis_stops : (e : Stop) → Stops (simple_pattern depth (pattern depth) less form two) e → Stops (with_ellipsis depth (pattern depth) room xs) e

@@ -1,5 +1,5 @@
 use Rattle.std.proofs.Common.{◌+◌, ◌*◌}
-use Rattle.sl_unpack.proofs.patterns.+pattern.Given as goal
+use Rattle.sl_packed_phrases.proofs.patterns.+pattern.Given as goal
 
 abbrev pub decreases-pattern : goal.decreases-pattern
 decreases-pattern l = 8 * l.depth

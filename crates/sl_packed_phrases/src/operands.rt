@@ -10,7 +10,7 @@ ghost use Rattle.sl_packing.specs.Reader.{byte, picked};
 ghost use Rattle.sl_packing.specs.Reads.{Plain, Reads, now_of};
 ghost use Rattle.sl_packing.specs.Tables.{coded_if};
 ghost use Rattle.sl_phrases.specs.Kinds.{kind_of};
-ghost use Rattle.sl_unpack.specs.Within.{operand_fits, operand_room};
+ghost use Rattle.sl_packed_phrases.specs.Within.{operand_fits, operand_room};
 
 use crate::words::name;
 use sl_ast::expressions::{BinaryOp, PrefixOp};
@@ -65,18 +65,7 @@ pub fn form_here(
     }
 }
 
-/// The form of what a size may follow.
-#[tactic(auto, unfolding(sl_packing::specs::Reader::choose))]
-fn form_before_size(bytes: &mut Bytes<'_>, room: u64) -> Result<ExpressionForm, Stop>
-    ensures { Reads Plain (coded_if (reader.size_fits room) expression_forms bytes.old) result
-        bytes.new }
-{
-    match bytes.peek::<ExpressionForm>() {
-        Some(form) => taken(bytes, form, size_fits(room, form)),
-        None => Err(bytes.refuse()),
-    }
-}
-
+/// Whether a size may follow the form.
 fn size_fits(room: u64, form: ExpressionForm) -> bool
     ensures { result ≡ reader.size_fits room form }
 {
@@ -87,18 +76,7 @@ fn size_fits(room: u64, form: ExpressionForm) -> bool
     }
 }
 
-/// The form of what a count of dropped bytes may follow.
-#[tactic(auto, unfolding(sl_packing::specs::Reader::choose))]
-fn form_before_drop(bytes: &mut Bytes<'_>, room: u64) -> Result<ExpressionForm, Stop>
-    ensures { Reads Plain (coded_if (reader.drop_fits room) expression_forms bytes.old) result
-        bytes.new }
-{
-    match bytes.peek::<ExpressionForm>() {
-        Some(form) => taken(bytes, form, drop_fits(room, form)),
-        None => Err(bytes.refuse()),
-    }
-}
-
+/// Whether a count of dropped bytes may follow the form.
 fn drop_fits(room: u64, form: ExpressionForm) -> bool
     ensures { result ≡ reader.drop_fits room form }
 {
@@ -108,18 +86,7 @@ fn drop_fits(room: u64, form: ExpressionForm) -> bool
     }
 }
 
-/// The form of what a range of bits may follow.
-#[tactic(auto, unfolding(sl_packing::specs::Reader::choose))]
-fn form_before_bits(bytes: &mut Bytes<'_>, room: u64) -> Result<ExpressionForm, Stop>
-    ensures { Reads Plain (coded_if (reader.bits_fit room) expression_forms bytes.old) result
-        bytes.new }
-{
-    match bytes.peek::<ExpressionForm>() {
-        Some(form) => taken(bytes, form, bits_fit(room, form)),
-        None => Err(bytes.refuse()),
-    }
-}
-
+/// Whether a range of bits may follow the form.
 fn bits_fit(room: u64, form: ExpressionForm) -> bool
     ensures { result ≡ reader.bits_fit room form }
 {
@@ -130,7 +97,20 @@ fn bits_fit(room: u64, form: ExpressionForm) -> bool
     }
 }
 
+/// Whether the inner form may be the operand that a size, a count of dropped bytes or a range of bits
+/// follows.
+fn operand_fits(form: ExpressionForm, room: u64, inner: ExpressionForm) -> bool
+    ensures { result ≡ operand_fits form room inner }
+{
+    match form {
+        ExpressionForm::Sized => size_fits(room, inner),
+        ExpressionForm::Dropped => drop_fits(room, inner),
+        _ => bits_fit(room, inner),
+    }
+}
+
 /// The form of the operand that a size, a count of dropped bytes or a range of bits follows.
+#[tactic(auto, unfolding(sl_packing::specs::Reader::choose))]
 pub fn operand_form(
     bytes: &mut Bytes<'_>,
     form: ExpressionForm,
@@ -139,10 +119,9 @@ pub fn operand_form(
     ensures { Reads Plain (coded_if (operand_fits form room) expression_forms bytes.old) result
         bytes.new }
 {
-    match form {
-        ExpressionForm::Sized => form_before_size(bytes, room),
-        ExpressionForm::Dropped => form_before_drop(bytes, room),
-        _ => form_before_bits(bytes, room),
+    match bytes.peek::<ExpressionForm>() {
+        Some(inner) => taken(bytes, inner, operand_fits(form, room, inner)),
+        None => Err(bytes.refuse()),
     }
 }
 

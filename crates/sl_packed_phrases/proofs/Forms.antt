@@ -9,7 +9,7 @@ use Rattle.sl_packing.specs.Reader.{Outcome, Reader, pure, and_then, ◌>>=◌, 
 use Rattle.sl_packing.specs.Reads.{IsFault, Stops}
 use Rattle.sl_packing.specs.Tables.{got, kept, coded_if}
 use Rattle.sl_packing.specs.declared.bytes.Stop as s
-use Rattle.sl_unpack.specs.Within.{form_of, pattern_form_of}
+use Rattle.sl_packed_phrases.specs.Within.{form_of, pattern_form_of}
 use Rattle.sl_packing.specs.declared.bytes.Stop.TheVariants as sv
 
 kept_none : {K : Type 0} (o : Option K) → kept (λ k. false) o ≡ None

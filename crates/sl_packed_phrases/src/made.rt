@@ -5,9 +5,9 @@ ghost use Rattle.sl_ast.specs.Trees as tree;
 ghost use Rattle.sl_ast.specs.Validity.{weight};
 ghost use Rattle.sl_ast.specs.Views.{expression_of};
 ghost use Rattle.sl_packing.specs.Reads.{Reads, now_of};
-ghost use Rattle.sl_unpack.specs.Within.{integer_here, name_here, sized_end, dropped_end, bits_end};
-ghost use Rattle.sl_unpack.specs.Within.{operand_end, operand_weight};
-ghost use Rattle.sl_unpack.specs.Within.{Makes};
+ghost use Rattle.sl_packed_phrases.specs.Within.{integer_here, name_here, sized_end, dropped_end, bits_end};
+ghost use Rattle.sl_packed_phrases.specs.Within.{operand_end, operand_weight};
+ghost use Rattle.sl_packed_phrases.specs.Within.{Makes};
 
 use crate::words::{name, natural, width};
 use sl_ast::expressions::{

@@ -11,11 +11,11 @@ use Rattle.sl_packing.specs.Numbers.{greatest}
 use Rattle.sl_packing.specs.Reader.{and_then, pure}
 use Rattle.sl_packing.specs.Reads.{now_of, seen_by}
 use Rattle.sl_phrases.specs.Kinds.{kind_of}
-use Rattle.sl_unpack.proofs.Forms.{no_depth, deeper}
-use Rattle.sl_unpack.proofs.Making.{made_reads, made_spends, light_spends, operand_spends}
-use Rattle.sl_unpack.proofs.Rounds.{rounds_begin, round_goes, round_stops, rounds_end, stops_along}
-use Rattle.sl_unpack.proofs.Weights.{room_left}
-use Rattle.sl_unpack.proofs.expressions.+expression.Goals as goal
+use Rattle.sl_packed_phrases.proofs.Forms.{no_depth, deeper}
+use Rattle.sl_packed_phrases.proofs.Making.{made_reads, made_spends, light_spends, operand_spends}
+use Rattle.sl_packed_phrases.proofs.Rounds.{rounds_begin, round_goes, round_stops, rounds_end, stops_along}
+use Rattle.sl_packed_phrases.proofs.Weights.{room_left}
+use Rattle.sl_packed_phrases.proofs.expressions.+expression.Goals as goal
 
 -- ---- depth
 

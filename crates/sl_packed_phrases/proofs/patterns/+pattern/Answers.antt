@@ -1,9 +1,9 @@
 use Rattle.std.proofs.Common.{rules, Ok, ap, sym, ◌∙◌, arith}
 use Rattle.std.proofs.lemmas.Grind.{common_steps}
 use Rattle.sl_ast.specs.Views.{pattern_of}
-use Rattle.sl_unpack.proofs.Dots.{ellipsis_stops, ellipsis_reads}
-use Rattle.sl_unpack.proofs.Forms.{no_pattern_depth, pattern_deeper}
-use Rattle.sl_unpack.proofs.patterns.+pattern.Goals as goal
+use Rattle.sl_packed_phrases.proofs.Dots.{ellipsis_stops, ellipsis_reads}
+use Rattle.sl_packed_phrases.proofs.Forms.{no_pattern_depth, pattern_deeper}
+use Rattle.sl_packed_phrases.proofs.patterns.+pattern.Goals as goal
 
 pub pattern-returns-then-depth-eq0-clause-reads : goal.pattern-returns-then-depth-eq0-clause-reads
 pattern-returns-then-depth-eq0-clause-reads t c =

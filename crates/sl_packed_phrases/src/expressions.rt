@@ -6,7 +6,7 @@ ghost use Rattle.sl_ast.specs.Views.{arguments, expression_of, expressions_of};
 ghost use Rattle.sl_packed.specs.Expressions as reader;
 ghost use Rattle.sl_packing.specs.Reads.{Reads, seen_by};
 ghost use Rattle.sl_phrases.specs.Kinds.{kind_of};
-ghost use Rattle.sl_unpack.specs.Within.{followed, form_of, ReadsForm, Spends};
+ghost use Rattle.sl_packed_phrases.specs.Within.{followed, form_of, ReadsForm, Spends};
 
 use crate::made::{binary_of, integer_here, name_here, operand_end, paren_of, prefix_of, star_of};
 use crate::operands::{
@@ -24,7 +24,7 @@ use std::alloc::Global;
 pub const HEAVIEST: u64 = 256;
 
 /// The loosest rank of an expression.
-const LOOSEST: u8 = 10;
+pub const LOOSEST: u8 = 10;
 
 /// An expression of the rank or tighter, with expressions inside one another fewer than `depth`
 /// times. It takes what it needs of the room.

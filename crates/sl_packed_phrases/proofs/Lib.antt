@@ -1,0 +1,5 @@
+pub mod Rounds
+pub mod Forms
+pub mod Weights
+pub mod Making
+pub mod Dots
