@@ -1,5 +1,5 @@
 pub mod ChangeLemmas
-mod CountedLemmas
+pub mod CountedLemmas
 mod KeptLemmas
 pub mod LawLemmas
 mod OpeningLemmas

@@ -58,8 +58,8 @@ stop_writes S view R a G ReadFault f n g = (Appends-nil a, n)
 stop_writes S view R a G WriteFault f n g = absurd g
 stop_writes S view R a G NoMemory f n g = inl (Appends-nil a)
 
-front_map : (S R : Result Shown Refusal → Type 0) (a b : Option (List ℕ)) → ((r : Result Shown Refusal) → S r → R r) → WritesFront S a b → WritesFront R a b
-front_map S R a b f w = (w.0, w.1, f w.0 w.2, w.3)
+front_map : (S R : Result Shown Refusal → Type 0) (a b : Option (List ℕ)) (G : ℕ → Type 0) → ((r : Result Shown Refusal) → S r → R r) → WritesFront S a b G → WritesFront R a b G
+front_map S R a b G f w = (w.0, w.1, f w.0 w.2, w.3, w.4)
 
 -- what was written of one stage was written of a row of stages that comes to the same
 pub writes_map : (S R : Result Shown Refusal → Type 0) (a b : Option (List ℕ)) (G : ℕ → Type 0) (x : Result Ending Halt)
@@ -67,9 +67,9 @@ pub writes_map : (S R : Result Shown Refusal → Type 0) (a b : Option (List ℕ
 writes_map S R a b G (Ok e) f g = (g.0, g.1, f (Ok (shown e g.0 g.1)) g.2, g.3, g.4)
 writes_map S R a b G (Err (Refused x)) f g = (f (Err x) g.0, g.1, g.2)
 writes_map S R a b G (Err ReadFault) f g = g
-writes_map S R a b G (Err WriteFault) f g = front_map S R a b f g
+writes_map S R a b G (Err WriteFault) f g = front_map S R a b G f g
 writes_map S R a b G (Err NoMemory) f (inl w) = inl w
-writes_map S R a b G (Err NoMemory) f (inr w) = inr (front_map S R a b f w)
+writes_map S R a b G (Err NoMemory) f (inr w) = inr (front_map S R a b G f w)
 
 -- a command that writes what is due
 pub show_writes : {A : Type 0} (due : A → Due) (l : A) (a b : Option (List ℕ)) (G : ℕ → Type 0) (x : Result Ending Halt)
@@ -77,17 +77,18 @@ pub show_writes : {A : Type 0} (due : A → Due) (l : A) (a b : Option (List ℕ
 show_writes due l a b G (Ok e) g = g
 show_writes due l a b G (Err (Refused x)) g = absurd g
 show_writes due l a b G (Err ReadFault) g = absurd g
-show_writes due l a b G (Err WriteFault) g = (Ok g.0, g.1, g.2, g.3)
+show_writes due l a b G (Err WriteFault) g = (Ok g.0, g.1, g.2, g.3, g.4)
 show_writes due l a b G (Err NoMemory) (inl w) = inl w
-show_writes due l a b G (Err NoMemory) (inr g) = inr (Ok g.0, g.1, g.2, g.3)
+show_writes due l a b G (Err NoMemory) (inr g) = inr (Ok g.0, g.1, g.2, g.3, g.4)
 
 -- what is written without a runner leaves the count of each as it was
 pub streams_alike : (due : Due) (a b : Option (List ℕ)) (c : ℕ) (x : Result Ending Halt) → c < 2 ^ 64 → Streams due a b RanNone x → Streams due a b (Grew c c) x
 streams_alike due a b c (Ok e) small g = (g.0, g.1, g.2, g.3, grew_none c g.1 small g.4)
 streams_alike due a b c (Err (Refused x)) small g = g
 streams_alike due a b c (Err ReadFault) small g = g
-streams_alike due a b c (Err WriteFault) small g = g
-streams_alike due a b c (Err NoMemory) small g = g
+streams_alike due a b c (Err WriteFault) small g = (g.0, g.1, g.2, g.3, grew_none c g.0.ran small g.4)
+streams_alike due a b c (Err NoMemory) small (inl w) = inl w
+streams_alike due a b c (Err NoMemory) small (inr g) = inr (g.0, g.1, g.2, g.3, grew_none c g.0.ran small g.4)
 
 -- a stage that stops doesn't use the sink
 pub stop_sink : {T B K : Type 0} (S : Result B Refusal → Type 0) (view : T → B) (faults calls : K → ℕ) (out : K) (h : Halt) → Obtains S view (Err h)

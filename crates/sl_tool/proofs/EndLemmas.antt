@@ -58,8 +58,8 @@ pub ends_written : (told : Option Folder) (r : Option Request) (a b : Option (Li
 ends_written told r a b G text s q h m n (inl w) = subst (λ (z : Status). Ends told r a b G z) (sym w.0) (ends_whole told r a b G s h (text, 0, m, w.1, n))
 ends_written told r a b G text s q h m n (inr w) = first w.0
   where
-    front : WritesFirst told r a b
-    front = (s, text, 0, w.1.0, m, w.1.1)
+    front : WritesFirst told r a b G
+    front = (s, text, 0, w.1.0, m, w.1.1, n)
 
     first : (q ≡ WriteFault) ⊎ (q ≡ NoMemory) → Ends told r a b G q
     first (inl e) = subst (λ (z : Status). Ends told r a b G z) (sym e) front
@@ -68,19 +68,19 @@ ends_written told r a b G text s q h m n (inr w) = first w.0
 pub ends_ended : (told : Option Folder) (r : Request) (a b : Option (List ℕ)) (G : ℕ → Type 0) (e : Ending) → Writes (Answers told r) a b G (Ok e) → Ends told (Some r) a b G (ended e)
 ends_ended told r a b G e w = ends_whole told (Some r) a b G (ended e) (ended_whole e) (w.0, w.1, answer w.2, w.3, w.4)
 
-first_of_front : (told : Option Folder) (r : Request) (a b : Option (List ℕ)) → WritesFront (Answers told r) a b → WritesFirst told (Some r) a b
-first_of_front told r a b w = (status_of w.0, text_of w.0, ran_of w.0, w.1, answer w.2, w.3)
+first_of_front : (told : Option Folder) (r : Request) (a b : Option (List ℕ)) (G : ℕ → Type 0) → WritesFront (Answers told r) a b G → WritesFirst told (Some r) a b G
+first_of_front told r a b G w = (status_of w.0, text_of w.0, ran_of w.0, w.1, answer w.2, w.3, w.4)
 
 -- what was written where the halt is this one
 pub writes_at : (S : Result Shown Refusal → Type 0) (a b : Option (List ℕ)) (G : ℕ → Type 0) (h k : Halt) → h ≡ k → Writes S a b G (Err h) → Writes S a b G (Err k)
 writes_at S a b G h k e w = subst (λ (z : Halt). Writes S a b G (Err z)) e w
 
 pub ends_fault : (told : Option Folder) (r : Request) (a b : Option (List ℕ)) (G : ℕ → Type 0) → Writes (Answers told r) a b G (Err halt.WriteFault) → Ends told (Some r) a b G WriteFault
-ends_fault told r a b G w = first_of_front told r a b w
+ends_fault told r a b G w = first_of_front told r a b G w
 
 pub ends_memory : (told : Option Folder) (r : Request) (a b : Option (List ℕ)) (G : ℕ → Type 0) → Writes (Answers told r) a b G (Err halt.NoMemory) → Ends told (Some r) a b G NoMemory
 ends_memory told r a b G (inl w) = inl w
-ends_memory told r a b G (inr w) = inr (first_of_front told r a b w)
+ends_memory told r a b G (inr w) = inr (first_of_front told r a b G w)
 
 pub written_after : (a b c : Option (List ℕ)) (text : List ℕ) (s q : Status) → Appends a b [] → IsWritten b c text s q → IsWritten a c text s q
 written_after a b c text s q h (inl w) = inl (w.0, Appends-trans a b c [] text h w.1)

@@ -5,12 +5,16 @@ pub mod Thens
 pub mod ExpandLemmas
 pub mod PlaceLemmas
 pub mod TokenLemmas
+pub mod SoundTexts
+pub mod NameLemmas
 pub mod ImageLemmas
 pub mod SomeFault
 pub mod StageLemmas
+pub mod ReadLemmas
 pub mod RunLemmas
 pub mod OneAnswer
 pub mod SomeAnswer
+pub mod CompleteLemmas
 pub mod AnsweredLemmas
 pub mod FigureLemmas
 pub mod ShowLemmas

@@ -44,7 +44,7 @@ uncounted items t sizes i steps count o h = record {
 }
 
 -- the line that tells of this listing and this outcome
-abbrev line_of : Tables → ℕ → List ℕ → Outcome → List ℕ
+abbrev pub line_of : Tables → ℕ → List ℕ → Outcome → List ℕ
 line_of t size listing o = figures_line (figures_told t size (shown_lines listing) o.ran o.machine.memory)
 
 pub figures_are_one : (c : Compiled) (size : ℕ) (s u : Shown) → AreFigures c size s → AreFigures c size u → (s.ending ≡ u.ending) × (s.text ≡ u.text)

@@ -1,48 +1,103 @@
--- It can't be that a specification isn't judged, or an image not listed.
-use Rattle.std.proofs.Common.{List, ℕ, length, Option, Result, Ok, refl, sym, subst}
-use Rattle.sl_compile.specs.Outcomes as outcome
+-- It can't be that a request has no answer.
+use Rattle.std.proofs.Common.{ℕ, Bool, List, codes, length, Option, Some, Result, Ok, refl, sym, subst}
+use Rattle.sl_bind.specs.Binding.{constructors_of}
 use Rattle.sl_compile.specs.Outcomes.{all_constructors}
+use Rattle.sl_lister.proofs.AcceptedLemmas.{IsAccepted, accepted}
 use Rattle.sl_lister.proofs.LawLemmas.{some_listing}
-use Rattle.sl_lister.specs.Listing.{IsListing}
+use Rattle.sl_lister.specs.Listing.{Image, IsListing}
 use Rattle.sl_outside.specs.Folder.{Folder}
-use Rattle.sl_settle.proofs.Surely.{surely, surely_map}
-use Rattle.sl_tool.specs.Answers.{Answers, Shows, counts_of, shows_of}
-use Rattle.sl_tool.specs.Laws.{RunsNothing}
+use Rattle.sl_pcode_lister.proofs.WholeLemmas.{some_pcode_listing}
+use Rattle.sl_pcode_lister.specs.Listing.{IsPcodeListing}
+use Rattle.sl_runner.proofs.CountedLemmas.{some_counted_outcome, some_counted_text}
+use Rattle.sl_runner.specs.Running.{IsCountedRunText, Outcome, RunsCountedTo}
+use Rattle.sl_settle.proofs.Surely.{surely, surely_map, surely_then}
+use Rattle.sl_tool.specs.Answers.{Answers, Shows, counts_of, figures_of, generated, shows_of}
+use Rattle.sl_tool.specs.Endings.{ending_of}
+use Rattle.sl_tool.specs.Generated.{generated_image}
 use Rattle.sl_tool.specs.Lines.{count_line}
-use Rattle.sl_tool.specs.Request.{CheckSpec, Generate, Request, ShowImage, Listing, Operations, Run}
+use Rattle.sl_tool.specs.Request.{CheckSpec, Generate, Request, Show, ShowImage, Listing, Operations, Run, spec_of}
 use Rattle.sl_tool.specs.Stage.{HasSomeResult, Surely}
-use Rattle.sl_tool.specs.Stage.Then.{goes}
-use Rattle.sl_tool.specs.Stages.{Specifies}
-use Rattle.sl_tool.specs.Values.{Compiled, Loaded, Shown, Tree, shown}
+use Rattle.sl_tool.specs.Values.{Compiled, Loaded, Shown, shown}
 use Rattle.sl_tool.specs.declared.refusal.Refusal.{Refusal}
 use Rattle.sl_tool.specs.declared.status.Ending.TheVariants.{Done}
+use Rattle.sl_tool.proofs.ReadLemmas.{IsSpecified, specified}
+use Rattle.sl_tool.proofs.RunLemmas.{line_of}
 use Rattle.sl_tool.proofs.StageLemmas.{loads_some, specifies_some}
 use Rattle.sl_tool.proofs.Thens.{then_some}
 
--- what was compiled is accepted
-abbrev HasCompiled : Compiled → Type 0
-HasCompiled c = outcome.Compiles c.tree.items (Ok c.tables)
-
-compiled_so : (told : Option Folder) (name : List ℕ) (c : Compiled) → Specifies told name (Ok c) → HasCompiled c
-compiled_so told name c (goes read h) = subst (λ (t : Tree). outcome.Compiles t.items (Ok c.tables)) (sym h.0) h.1
+-- ---- of a sound specification
 
 counts_some : (c : Compiled) → HasSomeResult (Shows counts_of) c
 counts_some c =
     let line = count_line (length c.tables.tables) (length c.tables.constructors) in
     surely (let p : (r : Result Shown Refusal) × Shows counts_of c r = (Ok (shown Done line 0), record { ending = refl; text = refl; ran = refl }) in p)
 
-lists_some : (l : Loaded) → HasCompiled l.compiled → HasSomeResult (Shows (shows_of Listing)) l
-lists_some l compiles =
-    surely_map (λ (t : (text : List ℕ) × IsListing l.compiled.tables (all_constructors l.compiled.tree.items) l.image text).
-    let p : (r : Result Shown Refusal) × Shows (shows_of Listing) l r = (Ok (shown Done t.0 0), record { ending = refl; text = t.1; ran = refl }) in p)
-    (some_listing l.compiled.tree.items l.compiled.tables l.image compiles)
+module _ (c : Compiled) (size : ℕ) (is : IsSpecified c) (known : IsAccepted c.tree.items c.tables) where
+  abbrev image : Image
+  image = generated_image size
 
-pub answer_some : (told : Option Folder) (r : Request) → RunsNothing r → Surely ((x : Result Shown Refusal) × Answers told r x)
-answer_some told (CheckSpec spec) is = then_some _ _ spec (specifies_some told spec) (λ c h. counts_some c)
-answer_some told (ShowImage t Listing) is =
+  abbrev HasListing : Type 0
+  HasListing = (listing : List ℕ) × IsListing c.tables (constructors_of c.tree.items) image listing
+
+  abbrev HasOutcome : Type 0
+  HasOutcome = (count : ℕ) × (outcome : Outcome) × RunsCountedTo c.tree.items c.tables known.sizes image size count outcome
+
+  figures_of_both : HasListing → HasOutcome → (r : Result Shown Refusal) × Shows (figures_of size) c r
+  figures_of_both l o = (
+    Ok (shown Done (line_of c.tables size l.0 o.1) o.0),
+    record {
+      sizes = known.sizes;
+      listing = l.0;
+      outcome = o.1;
+      bound = known.binds;
+      lists = l.1;
+      runs = o.2;
+      ending = refl;
+      text = refl;
+    },
+  )
+
+  figures_some : HasSomeResult (Shows (figures_of size)) c
+  figures_some =
+      surely_then (some_listing c.tree.items c.tables image is.compiles) (λ (l : HasListing).
+      surely_map (figures_of_both l) (some_counted_outcome c.tree.items c.tables known.sizes image size is.short known.binds is.compiles))
+
+-- ---- of an image
+
+module _ (l : Loaded) (is : IsSpecified l.compiled) (known : IsAccepted l.compiled.tree.items l.compiled.tables) where
+  abbrev HasPcode : Type 0
+  HasPcode = (text : List ℕ) × IsPcodeListing l.compiled.tree.items l.compiled.tables known.sizes l.image text
+
+  abbrev HasRun : (steps : ℕ) → Type 0
+  HasRun steps = (count : ℕ) × (has_stopped : Bool) × (text : List ℕ)
+      × IsCountedRunText l.compiled.tree.items l.compiled.tables known.sizes l.image steps count has_stopped text
+
+  shows_some : (what : Show) → HasSomeResult (Shows (shows_of what)) l
+  shows_some Listing =
+      surely_map (λ (t : (text : List ℕ) × IsListing l.compiled.tables (all_constructors l.compiled.tree.items) l.image text).
+      let p : (r : Result Shown Refusal) × Shows (shows_of Listing) l r = (Ok (shown Done t.0 0), record { ending = refl; text = t.1; ran = refl }) in p)
+      (some_listing l.compiled.tree.items l.compiled.tables l.image is.compiles)
+  shows_some Operations =
+      surely_map (λ (t : HasPcode).
+      let p : (r : Result Shown Refusal) × Shows (shows_of Operations) l r =
+      (Ok (shown Done t.0 0), record { ending = refl; text = record { sizes = known.sizes; bound = known.binds; lists = t.1 }; ran = refl }) in p)
+      (some_pcode_listing l.compiled.tree.items l.compiled.tables known.sizes l.image is.short is.texts known.binds is.compiles)
+  shows_some (Run steps) =
+      surely_map (λ (t : HasRun steps).
+      let p : (r : Result Shown Refusal) × Shows (shows_of (Run steps)) l r =
+      (Ok (shown (ending_of t.1) t.2 t.0), record { sizes = known.sizes; bound = known.binds; stopped = t.1; ending = refl; runs = t.3 }) in p)
+      (some_counted_text l.compiled.tree.items l.compiled.tables known.sizes l.image steps is.short known.binds is.compiles)
+
+-- ---- of a request
+
+pub answer_some : (told : Option Folder) (r : Request) → Surely ((x : Result Shown Refusal) × Answers told r x)
+answer_some told (CheckSpec spec) = then_some _ _ spec (specifies_some told spec) (λ c h. counts_some c)
+answer_some told (ShowImage t what) =
     then_some _ _ t.spec (specifies_some told t.spec) (λ c h.
     then_some _ _ c (loads_some told t c) (λ l i.
-    lists_some l (subst HasCompiled (sym i.0) (compiled_so told t.spec c h))))
-answer_some told (ShowImage t Operations) is = absurd is
-answer_some told (ShowImage t (Run steps)) is = absurd is
-answer_some told (Generate size) is = absurd is
+    let is = subst IsSpecified (sym i.0) (specified told t.spec c h) in
+    shows_some l is (accepted l.compiled.tree.items l.compiled.tables is.compiles) what))
+answer_some told (Generate size) =
+    then_some _ _ (spec_of (Generate size)) (specifies_some (Some generated) (spec_of (Generate size))) (λ c h.
+    let is = specified (Some generated) (spec_of (Generate size)) c h in
+    figures_some c size is (accepted c.tree.items c.tables is.compiles))

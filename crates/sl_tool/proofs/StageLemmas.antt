@@ -1,6 +1,7 @@
 -- Each stage has one result, and it can't be that it has none.
 use Rattle.std.proofs.Common.{◌≡◌, ℕ, ◌+◌, ◌^◌, ◌<◌, ◌≤◌, ◌⊎◌, inl, inr, List, Option, Some, None, Result, Ok, Err, refl, sym, ap, subst, ◌∙◌, length, arith}
 use Rattle.std.proofs.lemmas.Bool.{cases_lt}
+use Rattle.std.specs.Prelude.{IsSome}
 use Rattle.sl_ast.specs.Spelling.{spell}
 use Rattle.sl_ast.specs.Trees.{Item}
 use Rattle.sl_ast.specs.Unfolding.{firsts}
@@ -196,7 +197,7 @@ readies_one folder t b = then_one _ _ (images_one folder (256 ^ address_bytes b)
 readies_some : (told : Option Folder) (t : Target) (b : spec.Tables) → Surely ((r : Result Image Refusal) × Readies told t b r)
 readies_some told t b = then_some _ _ t.image (images_some told (256 ^ address_bytes b) t) (λ bytes h. starts_some b t bytes)
 
-pub loads_one : (folder : Folder) (t : Target) → HasOneResult (Loads (Some folder) t)
+loads_one : (folder : Folder) (t : Target) → HasOneResult (Loads (Some folder) t)
 loads_one folder t c (Ok i) (Ok j) h g =
     ap Ok (loaded_is i j (h.0 ∙ sym g.0) (ok_is Refusal i.image j.image (readies_one folder t c.tables _ _ h.1 g.1)))
 loads_one folder t c (Ok i) (Err x) h g = absurd (not_both x i.image (readies_one folder t c.tables _ _ g h.1))
@@ -225,3 +226,13 @@ specifies_one folder = then_one _ _ (reads_one folder) compiles_one
 
 pub specifies_some : (told : Option Folder) (name : List ℕ) → HasSomeResult (Specifies told) name
 specifies_some told name = then_some _ _ name (reads_some told name) (λ u h. compiles_some u)
+
+-- ---- of a folder that is told
+
+pub loads_told : (told : Option Folder) (t : Target) → IsSome told → HasOneResult (Loads told t)
+loads_told None t is = absurd (let no : ⊥ = cc in no)
+loads_told (Some folder) t is = loads_one folder t
+
+pub specifies_told : (told : Option Folder) → IsSome told → HasOneResult (Specifies told)
+specifies_told None is = absurd (let no : ⊥ = cc in no)
+specifies_told (Some folder) is = specifies_one folder

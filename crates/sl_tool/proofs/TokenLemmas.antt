@@ -29,7 +29,7 @@ few_tokens mode from text (p ∷ ps) end (rest, here, later) =
     let fewer = few_tokens (mode_after mode p.kind p.text) (from + length p.text) rest ps end later in
     omega (arith, lengths, some, fewer, one_kept p.kind p (tokens_of ps))
 
-short_by : (text : Text) (tokens : List Token) (items : List Item) → symbols_of tokens ≡ spell items → IsSound text → ReadsAs text.bytes tokens → IsShort items
+pub short_by : (text : Text) (tokens : List Token) (items : List Item) → symbols_of tokens ≡ spell items → IsSound text → ReadsAs text.bytes tokens → IsShort items
 short_by text tokens items spelled sound (pieces, reads, are) =
     let few = few_tokens Top 0 text.bytes pieces None reads in
     let count : length (tokens_of pieces) ≡ length tokens = ap length are in

@@ -1,10 +1,10 @@
 -- meaning: what stands written at the end of a call, and the files that it asked for.
-use Rattle.std.specs.Prelude.{◌≡◌, ℕ, ◌⊎◌, List, [], take, Option, Some, None, Result, IsSome}
+use Rattle.std.specs.Prelude.{◌≡◌, ℕ, ◌⊎◌, List, [], take, Option, Some, None, Result, ⊤}
 use Rattle.std.specs.Io.KnownBytes.{Appends}
 use Rattle.sl_outside.specs.Folder.{Folder}
 use Rattle.sl_outside.specs.Uses.{Names, UsesFiles}
 use Rattle.sl_tool.specs.Answers.{Answers, AsksFor, UsesFilesFor, ran_of, status_of, text_of}
-use Rattle.sl_tool.specs.Request.{Request, usage_line}
+use Rattle.sl_tool.specs.Request.{CheckSpec, Generate, Request, Show, ShowImage, Listing, Operations, Run, usage_line}
 use Rattle.sl_tool.specs.Values.{Shown}
 use Rattle.sl_tool.specs.declared.refusal.Refusal.{Refusal}
 use Rattle.sl_tool.specs.declared.status.Status.{Status}
@@ -19,19 +19,40 @@ pub data Means (told : Option Folder) : Option Request → Status → List ℕ �
 abbrev pub WritesWhole : Option Folder → Option Request → Option (List ℕ) → Option (List ℕ) → (Grown : ℕ → Type 0) → Status → Type 0
 WritesWhole told r old new Grown status = (text : List ℕ) × (ran : ℕ) × Means told r status text ran × Appends old new text × Grown ran
 
--- The first bytes of a text that is due were written.
-abbrev pub WritesFirst : Option Folder → Option Request → Option (List ℕ) → Option (List ℕ) → Type 0
-WritesFirst told r old new =
-    (status : Status) × (text : List ℕ) × (ran : ℕ) × (count : ℕ) × Means told r status text ran × Appends old new (take count text)
+-- The first bytes of a text that is due were written, and the count grew as it says.
+abbrev pub WritesFirst : Option Folder → Option Request → Option (List ℕ) → Option (List ℕ) → (Grown : ℕ → Type 0) → Type 0
+WritesFirst told r old new Grown =
+    (status : Status) × (text : List ℕ) × (ran : ℕ) × (count : ℕ) × Means told r status text ran × Appends old new (take count text) × Grown ran
 
--- What was written at each status, and how the count of operations grew.
+-- It asks for files of the caller, as what is generated doesn't.
+abbrev pub ReadsFiles : Option Request → Type 0
+ReadsFiles None = ⊥
+ReadsFiles (Some (CheckSpec spec)) = ⊤
+ReadsFiles (Some (ShowImage t what)) = ⊤
+ReadsFiles (Some (Generate size)) = ⊥
+
+-- It is shown without a run.
+abbrev pub IsStill : Show → Type 0
+IsStill Listing = ⊤
+IsStill Operations = ⊤
+IsStill (Run steps) = ⊥
+
+-- Nothing is run.
+abbrev pub RunsNothing : Option Request → Type 0
+RunsNothing None = ⊤
+RunsNothing (Some (CheckSpec spec)) = ⊤
+RunsNothing (Some (ShowImage t what)) = IsStill what
+RunsNothing (Some (Generate size)) = ⊥
+
+-- What was written at each status, and how the count of operations grew; where memory ran out before anything was written,
+-- it isn't told.
 abbrev pub Ends : Option Folder → Option Request → Option (List ℕ) → Option (List ℕ) → (Grown : ℕ → Type 0) → Status → Type 0
 Ends told r old new Grown Done = WritesWhole told r old new Grown Done
 Ends told r old new Grown Refused = WritesWhole told r old new Grown Refused
 Ends told r old new Grown Usage = WritesWhole told r old new Grown Usage
-Ends told r old new Grown ReadFault = IsSome r × Appends old new [] × Grown 0
-Ends told r old new Grown WriteFault = WritesFirst told r old new
-Ends told r old new Grown NoMemory = Appends old new [] ⊎ WritesFirst told r old new
+Ends told r old new Grown ReadFault = ReadsFiles r × Appends old new [] × Grown 0
+Ends told r old new Grown WriteFault = WritesFirst told r old new Grown
+Ends told r old new Grown NoMemory = Appends old new [] ⊎ WritesFirst told r old new Grown
 Ends told r old new Grown Stopped = WritesWhole told r old new Grown Stopped
 
 -- The call stopped before its end.

@@ -1,10 +1,12 @@
 -- view: the errors of the crates below as halts and problems.
-use Rattle.std.specs.Prelude.{◌≡◌, ℕ, Option, Some, None, string_bytes, ⊤}
+use Rattle.std.specs.Prelude.{◌≡◌, ℕ, Option, Some, None, Result, Ok, Err, string_bytes, ⊤}
 use Rattle.sl_compile.specs.Outcomes.{ambiguous, flawed}
 use Rattle.sl_compile.specs.declared.error.CompileError.{CompileError}
 use Rattle.sl_compile.specs.declared.error.CompileError.TheVariants as compile
 use Rattle.sl_lex.specs.declared.LexError.{LexError}
 use Rattle.sl_lex.specs.declared.LexError.TheVariants as lex
+use Rattle.sl_list.specs.declared.listings.ListError.{ListError}
+use Rattle.sl_list.specs.declared.listings.ListError.TheVariants as list
 use Rattle.sl_parse.specs.declared.parser.ParseError.{ParseError}
 use Rattle.sl_parse.specs.declared.parser.ParseError.TheVariants as parse
 use Rattle.sl_preproc.specs.declared.error.PreError.{PreError}
@@ -16,6 +18,8 @@ use Rattle.sl_tool.specs.declared.halt.Halt.{Halt}
 use Rattle.sl_tool.specs.declared.halt.Halt.TheVariants.{Refused, ReadFault, WriteFault, NoMemory}
 use Rattle.sl_tool.specs.declared.problem.Problem.{Problem}
 use Rattle.sl_tool.specs.declared.problem.Problem.TheVariants as problem
+use Rattle.sl_tool.specs.declared.status.Ending.{Ending}
+use Rattle.sl_tool.specs.declared.status.Ending.TheVariants.{Done}
 
 -- the halt for a text that has no expansion
 abbrev pub halt_of : PreError → Halt
@@ -42,6 +46,12 @@ first_fault (parse.Syntax at) = Some (at, problem.Syntax)
 first_fault (parse.Nesting at) = Some (at, problem.Nesting)
 first_fault (parse.NotSupported feature at) = Some (at, problem.NotSupported feature)
 first_fault parse.NoMemory = None
+
+-- the ending of a listing, or the halt where it wasn't written whole
+abbrev pub listed : {T : Type 0} → Result T ListError → Result Ending Halt
+listed (Ok done) = Ok Done
+listed (Err list.WriteFault) = Err WriteFault
+listed (Err list.NoMemory) = Err NoMemory
 
 -- The halt tells why a specification is refused, unless memory ran out.
 abbrev pub TellsRefusal : Tokens → CompileError → Halt → Type 0

@@ -1,11 +1,21 @@
 -- meaning: laws above the definitions.
-use Rattle.std.specs.Prelude.{◌≡◌, Option, Some, Result, Ok, Err, ⊤}
+use Rattle.std.specs.Prelude.{◌≡◌, ℕ, ◌⊎◌, List, Option, Some, IsSome, Result, Ok, Err, ⊤}
+use Rattle.std.specs.Io.KnownBytes.{Appends}
+use Rattle.sl_outside.specs.Causes.{Rose}
 use Rattle.sl_outside.specs.Folder.{Folder}
-use Rattle.sl_tool.specs.Answers.{Answers}
-use Rattle.sl_tool.specs.Request.{CheckSpec, Generate, Request, ShowImage, Listing, Operations, Run}
-use Rattle.sl_tool.specs.Stage.{Surely}
-use Rattle.sl_tool.specs.Values.{Shown}
+use Rattle.sl_tool.specs.Answers.{Answers, generated}
+use Rattle.sl_tool.specs.Endings.{ended}
+use Rattle.sl_tool.specs.Ends.{Ends, ReadsFiles}
+use Rattle.sl_tool.specs.Outcomes.{Grew}
+use Rattle.sl_tool.specs.Request.{CheckSpec, Generate, Request, ShowImage, Listing, Operations, Run, spec_of}
+use Rattle.sl_tool.specs.Stage.{Surely, Then}
+use Rattle.sl_tool.specs.Stages.{Loads, Specifies}
+use Rattle.sl_tool.specs.Values.{Compiled, Loaded, Shown}
 use Rattle.sl_tool.specs.declared.refusal.Refusal.{Refusal}
+use Rattle.sl_tool.specs.declared.status.Ending.{Ending}
+use Rattle.sl_tool.specs.declared.status.Ending.TheVariants.{Done}
+use Rattle.sl_tool.specs.declared.status.Status.{Status}
+use Rattle.sl_tool.specs.declared.status.Status.TheVariants.{NoMemory, ReadFault, WriteFault}
 
 -- The same refusal, or the same ending and text. How many operations run in an instruction is another number for another
 -- list that does what the instruction does.
@@ -22,19 +32,78 @@ PrintsNoList (ShowImage t Operations) = ⊥
 PrintsNoList (ShowImage t (Run steps)) = ⊤
 PrintsNoList (Generate size) = ⊤
 
--- But for those lists a request has one answer at most, where the folder is told.
+-- The folder is told, or what is asked for needs none.
+abbrev pub IsTold : Option Folder → Request → Type 0
+IsTold told (CheckSpec spec) = IsSome told
+IsTold told (ShowImage t what) = IsSome told
+IsTold told (Generate size) = ⊤
+
+-- But for those lists a request has one answer at most.
 abbrev pub HasOneAnswer : Type 0
-HasOneAnswer = (folder : Folder) (r : Request) (x y : Result Shown Refusal) → PrintsNoList r
-    → Answers (Some folder) r x → Answers (Some folder) r y → AreAlike x y
+HasOneAnswer = (told : Option Folder) (r : Request) (x y : Result Shown Refusal) → IsTold told r → PrintsNoList r
+    → Answers told r x → Answers told r y → AreAlike x y
 
--- It judges a specification or lists an image.
-abbrev pub RunsNothing : Request → Type 0
-RunsNothing (CheckSpec spec) = ⊤
-RunsNothing (ShowImage t Listing) = ⊤
-RunsNothing (ShowImage t Operations) = ⊥
-RunsNothing (ShowImage t (Run steps)) = ⊥
-RunsNothing (Generate size) = ⊥
-
--- It can't be that such a request has no answer.
+-- It can't be that a request has no answer.
 abbrev pub HasSomeAnswer : Type 0
-HasSomeAnswer = (told : Option Folder) (r : Request) → RunsNothing r → Surely ((x : Result Shown Refusal) × Answers told r x)
+HasSomeAnswer = (told : Option Folder) (r : Request) → Surely ((x : Result Shown Refusal) × Answers told r x)
+
+-- ---- what is accepted is answered
+
+-- What a request names is accepted: the specification is sound, and where an image is shown, there is one beside it.
+abbrev pub Accepts : Option Folder → Request → Type 0
+Accepts told (CheckSpec spec) = (c : Compiled) × Specifies told spec (Ok c)
+Accepts told (ShowImage t what) = (l : Loaded) × Then (Specifies told) (Loads told t) t.spec (Ok l)
+Accepts told (Generate size) = (c : Compiled) × Specifies (Some generated) (spec_of (Generate size)) (Ok c)
+
+pub record IsAccepted (told : Option Folder) (r : Request) : Type 0 where
+  pub is_told : IsTold told r
+  pub accepts : Accepts told r
+
+-- how a request may end that isn't refused: but for a run, which may stop, as done
+abbrev pub MayEnd : Request → Ending → Type 0
+MayEnd (CheckSpec spec) ending = ending ≡ Done
+MayEnd (ShowImage t Listing) ending = ending ≡ Done
+MayEnd (ShowImage t Operations) ending = ending ≡ Done
+MayEnd (ShowImage t (Run steps)) ending = ⊤
+MayEnd (Generate size) ending = ending ≡ Done
+
+-- It can't be that the request has no answer with an ending, and it has no other.
+pub record IsAnswered (told : Option Folder) (r : Request) : Type 0 where
+  pub some : Surely ((s : Shown) × Answers told r (Ok s))
+  pub endings : (s : Shown) → Answers told r (Ok s) → MayEnd r s.ending
+  pub no_refusal : (x : Refusal) → Answers told r (Err x) → ⊥
+
+abbrev pub AcceptedAreAnswered : Type 0
+AcceptedAreAnswered = (told : Option Folder) (r : Request) → IsAccepted told r → IsAnswered told r
+
+-- ---- the whole call
+
+-- a count before a call and after it
+pub record Counted : Type 0 where
+  pub before : ℕ
+  pub after : ℕ
+
+abbrev pub HasRisen : Counted → Type 0
+HasRisen c = Rose c.before c.after
+
+-- What the whole call says of its end, by the counts of faults of its files and its sink, and that of its runner.
+pub record EndsSo (told : Option Folder) (r : Request) (files sink runner : Counted) (old new : Option (List ℕ)) (status : Status) : Type 0 where
+  pub ends : Ends told (Some r) old new (Grew runner.before runner.after) status
+  pub reads : status ≡ ReadFault → HasRisen files
+  pub writes : status ≡ WriteFault → HasRisen sink
+
+-- The whole text of an answer that isn't refused was written, with its status, and the runner's count grew as it says.
+pub record WritesAnswer (told : Option Folder) (r : Request) (runner : Counted) (old new : Option (List ℕ)) (status : Status) : Type 0 where
+  pub shown : Shown
+  pub answers : Answers told r (Ok shown)
+  pub may_end : MayEnd r shown.ending
+  pub status_is : status ≡ ended shown.ending
+  pub written : Appends old new shown.text
+  pub grew : Grew runner.before runner.after shown.ran
+
+-- Where what a request names is accepted and no count of faults rose, that of the files left out where it reads none, the call
+-- writes a whole answer, unless memory runs out.
+abbrev pub IsComplete : Type 0
+IsComplete = (told : Option Folder) (r : Request) (files sink runner : Counted) (old new : Option (List ℕ)) (status : Status)
+    → EndsSo told r files sink runner old new status → IsAccepted told r → (ReadsFiles (Some r) → HasRisen files → ⊥) → (HasRisen sink → ⊥)
+    → (status ≡ NoMemory) ⊎ WritesAnswer told r runner old new status

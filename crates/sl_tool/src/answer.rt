@@ -1,8 +1,9 @@
 //! The answer to a request: the stages of each request, and then those of its kind.
 
-ghost use Rattle.std.specs.Prelude.{◌≡◌};
+ghost use Rattle.std.specs.Prelude.{◌≡◌, Some};
 ghost use Rattle.sl_outside.specs.Uses.{UsesSink};
 ghost use Rattle.sl_tool.specs.Answers.{Answers, AnswersFrom, AsksFor, AsksFrom, UsesFilesFor};
+ghost use Rattle.sl_tool.specs.Ends.{ReadsFiles, RunsNothing};
 ghost use Rattle.sl_tool.specs.Outcomes.{FailsToRead, FailsToWrite, Grew, IsEarly, Writes};
 ghost use Rattle.sl_tool.specs.Requests.{request as request_view};
 
@@ -33,8 +34,11 @@ pub fn answered<F: Files, K: Sink, R: Runner>(
     ensures files { UsesFilesFor F.told F.faults F.asked
         (AsksFor (F.told files.old) (request_view request.now)) files.old files.new
         (IsEarly result) (FailsToRead result) }
+    ensures reads { FailsToRead result → ReadsFiles (Some (request_view request.now)) }
     ensures sink { UsesSink K.faults K.calls out.old out.new (FailsToWrite result) }
     ensures unwritten { FailsToRead result → K.calls out.new ≡ K.calls out.old }
+    ensures unrun { RunsNothing (Some (request_view request.now))
+        → R.count runner.new ≡ R.count runner.old }
 {
     match request {
         Request::Generate(size) => generated(alloc, *size, out, runner),
@@ -58,6 +62,8 @@ pub fn answered_from<F: Files, K: Sink, R: Runner>(
         (IsEarly result) (FailsToRead result) }
     ensures sink { UsesSink K.faults K.calls out.old out.new (FailsToWrite result) }
     ensures unwritten { FailsToRead result → K.calls out.new ≡ K.calls out.old }
+    ensures unrun { RunsNothing (Some (request_view request.now))
+        → R.count runner.new ≡ R.count runner.old }
 {
     let source = Source::read(alloc, request.spec(), files)?;
     let tree = Tree::read(alloc, &source)?;

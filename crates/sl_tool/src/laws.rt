@@ -1,14 +1,26 @@
 //! Laws of the definitions.
 
-ghost use Rattle.sl_tool.specs.Laws.{HasOneAnswer, HasSomeAnswer};
+ghost use Rattle.sl_tool.specs.Laws.{AcceptedAreAnswered, HasOneAnswer, HasSomeAnswer, IsComplete};
 
-/// A request has one answer at most, where the folder is told: an ending and a text, or a refusal; but
-/// for the lists of operations that `pcode` prints, of which any may stand that does what is meant.
+/// A request has one answer at most, where the folder is told or it is a `gen`: an ending and a text, or
+/// a refusal; but for the lists of operations that `pcode` prints, of which any may stand that does what
+/// is meant.
 pub fn one_answer()
     ensures { HasOneAnswer }
 {}
 
-/// It can't be that a specification isn't judged, or an image not listed.
+/// It can't be that a request has no answer.
 pub fn some_answer()
     ensures { HasSomeAnswer }
+{}
+
+/// Where what a request names is accepted, it surely has an answer that is no refusal, and no other:
+/// it ends as done, or, where it runs an image, as done or as stopped.
+pub fn accepted_are_answered()
+    ensures { AcceptedAreAnswered }
+{}
+
+/// Where besides no count of faults rose, the whole call writes such an answer, or memory runs out.
+pub fn complete()
+    ensures { IsComplete }
 {}

@@ -38,6 +38,6 @@ mod tool;
 mod tree;
 mod writing;
 
-pub use laws::{one_answer, some_answer};
+pub use laws::{accepted_are_answered, complete, one_answer, some_answer};
 pub use status::Status;
 pub use tool::run_tool;

@@ -4,6 +4,8 @@ ghost use Rattle.std.specs.Prelude.{◌≡◌, [], ◌∷◌};
 ghost use Rattle.sl_outside.specs.Uses.{UsesFiles, UsesSink};
 ghost use Rattle.sl_request.specs.Views.{target as target_view};
 ghost use Rattle.sl_tool.specs.Answers.{Shows, shows_of};
+ghost use Rattle.sl_tool.specs.Ends.{IsStill};
+ghost use Rattle.sl_tool.specs.Halts.{listed};
 ghost use Rattle.sl_tool.specs.Inputs.{IsCompiled, IsLoaded};
 ghost use Rattle.sl_tool.specs.Outcomes.{FailsToRead, FailsToWrite, Grew, IsEarly, RanNone};
 ghost use Rattle.sl_tool.specs.Outcomes.{Streams, Writes};
@@ -46,6 +48,7 @@ pub fn show<F: Files, K: Sink, R: Runner>(
         (target.now.image.now ∷ []) (IsEarly result) (FailsToRead result) }
     ensures sink { UsesSink K.faults K.calls out.old out.new (FailsToWrite result) }
     ensures unwritten { FailsToRead result → K.calls out.new ≡ K.calls out.old }
+    ensures unrun { IsStill (show_of what) → R.count runner.new ≡ R.count runner.old }
 {
     let loaded = Loaded::read(alloc, target, compiled, files)?;
     show_image(alloc, what, &loaded, out, runner)
@@ -63,6 +66,7 @@ fn show_image<K: Sink, R: Runner>(
     ensures streams { Streams (shows_of (show_of what) (loaded_view loaded.now)) (K.taken out.old)
         (K.taken out.new) (Grew (R.count runner.old) (R.count runner.new)) result }
     ensures sink { UsesSink K.faults K.calls out.old out.new (FailsToWrite result) }
+    ensures unrun { IsStill (show_of what) → R.count runner.new ≡ R.count runner.old }
 {
     match what {
         Show::Listing => write_listing(alloc, loaded, out),
@@ -71,7 +75,18 @@ fn show_image<K: Sink, R: Runner>(
     }
 }
 
-/// Writes the listing of the image, line by line.
+/// The ending of a listing that is written line by line.
+fn listed(written: Result<(), ListError>) -> Result<Ending, Halt>
+    ensures { result ≡ listed written }
+{
+    match written {
+        Ok(()) => Ok(Ending::Done),
+        Err(ListError::WriteFault) => Err(Halt::WriteFault),
+        Err(ListError::NoMemory) => Err(Halt::NoMemory),
+    }
+}
+
+/// Writes the listing of the image.
 fn write_listing<K: Sink>(
     alloc: Global,
     loaded: &Loaded<'_, '_>,
@@ -85,14 +100,11 @@ fn write_listing<K: Sink>(
     let specification = &loaded.compiled.specification;
     let image = &loaded.image;
     let bytes = image.bytes.as_slice();
-    match list_image(alloc, specification, bytes, image.base, image.start, out) {
-        Ok(()) => Ok(Ending::Done),
-        Err(ListError::WriteFault) => Err(Halt::WriteFault),
-        Err(ListError::NoMemory) => Err(Halt::NoMemory),
-    }
+    let written = list_image(alloc, specification, bytes, image.base, image.start, out);
+    listed(written)
 }
 
-/// Writes the listing with the operations of each instruction, line by line.
+/// Writes the listing with the operations of each instruction.
 fn write_operations<K: Sink>(
     alloc: Global,
     loaded: &Loaded<'_, '_>,
@@ -106,11 +118,8 @@ fn write_operations<K: Sink>(
     let specification = &loaded.compiled.specification;
     let image = &loaded.image;
     let bytes = image.bytes.as_slice();
-    match list_pcode(alloc, specification, bytes, image.base, image.start, out) {
-        Ok(()) => Ok(Ending::Done),
-        Err(ListError::WriteFault) => Err(Halt::WriteFault),
-        Err(ListError::NoMemory) => Err(Halt::NoMemory),
-    }
+    let written = list_pcode(alloc, specification, bytes, image.base, image.start, out);
+    listed(written)
 }
 
 /// Writes the run of the image for at most so many steps.

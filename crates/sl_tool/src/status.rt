@@ -19,7 +19,7 @@ pub enum Status {
     WriteFault,
     /// Memory ran out. Nothing was written, or the first bytes of the text.
     NoMemory,
-    /// A run met a fault: no constructor matches where it would go on.
+    /// A run met a fault, which the last line of the text tells.
     Stopped,
 }
 

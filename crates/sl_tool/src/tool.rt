@@ -2,7 +2,7 @@
 
 ghost use Rattle.std.specs.Prelude.{◌≡◌, ◌≢◌, map, string_bytes};
 ghost use Rattle.sl_outside.specs.Uses.{UsesSink};
-ghost use Rattle.sl_tool.specs.Ends.{Ends, RunsFor};
+ghost use Rattle.sl_tool.specs.Ends.{Ends, RunsFor, RunsNothing};
 ghost use Rattle.sl_tool.specs.Outcomes.{Grew};
 ghost use Rattle.sl_tool.specs.Problems.{refusal_text};
 ghost use Rattle.sl_tool.specs.Request.{request_of as request_meant};
@@ -25,9 +25,11 @@ use std::alloc::Global;
 /// At `Done`, `Refused`, `Usage` and `Stopped` the whole text was written: the listing or the run, the
 /// lines that say why the specification or the image is refused, the usage line, or the run up to its
 /// fault. The runner's count grew by the operations of p-code that ran, which are none but at `run` and
-/// `gen`. At `ReadFault` nothing was written, and a fault of the files was counted in this call. At
-/// `WriteFault` the first bytes of the text were written, or none, and a fault of the sink was counted in
-/// this call. At `NoMemory` nothing was written, or the first bytes of the text.
+/// `gen`. At `ReadFault` nothing was written and nothing ran, and a fault of the files was counted in this
+/// call. At `WriteFault` the first bytes of the text were written, or none, the runner's count grew as for
+/// the whole text, and a fault of the sink was counted in this call. At `NoMemory` the same holds of the
+/// text and of the runner's count, or nothing was written. Whatever the status, the runner's count stays
+/// but at `run` and `gen`.
 pub fn run_tool<F: Files, K: Sink, R: Runner>(
     alloc: Global,
     words: &[String],
@@ -40,6 +42,8 @@ pub fn run_tool<F: Files, K: Sink, R: Runner>(
     ensures files { RunsFor F.told F.faults F.asked (request_meant (map string_bytes words.now)) files.old files.new result }
     ensures sink { UsesSink K.faults K.calls out.old out.new (result ≡ Status.WriteFault) }
     ensures unwritten { result ≡ Status.ReadFault → K.calls out.new ≡ K.calls out.old }
+    ensures unrun { RunsNothing (request_meant (map string_bytes words.now))
+        → R.count runner.new ≡ R.count runner.old }
 {
     let Ok(asked) = request_of(alloc, words) else {
         return Status::NoMemory;

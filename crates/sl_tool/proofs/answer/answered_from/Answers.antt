@@ -1,10 +1,11 @@
-use Rattle.std.proofs.Common.{ℕ, List, Option, Ok, Err, refl, subst, sym}
+use Rattle.std.proofs.Common.{ℕ, List, Option, Some, Ok, Err, refl, subst, sym}
 use Rattle.std.proofs.lemmas.Result.{err_from_is_err_and}
 use Rattle.sl_outside.specs.Folder.{Folder}
 use Rattle.sl_preproc.specs.Asks.{AsksFor as AsksForText}
 use Rattle.sl_request.specs.Views.{target}
 use Rattle.sl_tool.specs.Answers.{AnswersFrom, Follows, Shows, asked_after, counts_of, figures_of, shows_of}
 use Rattle.sl_outside.specs.Uses.{UsesFiles}
+use Rattle.sl_tool.specs.Ends.{RunsNothing}
 use Rattle.sl_tool.specs.Outcomes.{FailsToRead, Grew, IsEarly}
 use Rattle.sl_tool.specs.Request.{spec_of}
 use Rattle.sl_tool.specs.Requests.{request, show_of}
@@ -173,6 +174,9 @@ returns-in-Show-clause-files g c =
     (subst (λ (q : Request). UsesFiles g.F.Files.told g.F.Files.faults g.F.Files.asked c.read.new.files c.show.new.files (asked_after (request q))
     (IsEarly c.show.result) (FailsToRead c.show.result)) (sym c.in-Show.is) c.show.ensures.files)
 
+pub returns-in-Show-clause-unrun : goal.returns-in-Show-clause-unrun
+returns-in-Show-clause-unrun g c = λ still. c.show.ensures.unrun (subst (λ (q : Request). RunsNothing (Some (request q))) c.in-Show.is still)
+
 -- ---- a specification that was generated is listed and run
 
 pub returns-clause-writes : goal.returns-clause-writes
@@ -204,3 +208,6 @@ returns-clause-files g c =
 
 pub returns-clause-unwritten : goal.returns-clause-unwritten
 returns-clause-unwritten g c = show_unwritten (figures_of c.in-Generate.size (compiled_view c.in_ok-compiled.compiled)) _ _ _ c.figures.result c.figures.ensures.streams
+
+pub returns-clause-unrun : goal.returns-clause-unrun
+returns-clause-unrun g c = λ still. let runs : ⊥ = subst (λ (q : Request). RunsNothing (Some (request q))) c.in-Generate.is still in absurd runs

@@ -17,4 +17,4 @@ returns-in_err-write_all-clause-streams g c =
     let text = count_line (length t.tables) (length t.constructors) in
     let front = subst (λ (b : List ℕ). AppendsFront (g.K.Sink.taken c.args.out.now) (g.K.Sink.taken c.write_all.new.out) b) (c.as_slice.ensures.value ∙ c.in_ok-line.ensures) c.in_err-write_all.ensures.front in
     rw (p.1, p.2) (written_front (counts_of (compiled_view c.args.compiled.now)) _ _ RanNone (shown Done text 0) c.in_err-write_all.field-0.0
-    (told_so (λ l. l ≡ text) text refl) c.in_err-write_all.ensures.writing front)
+    (told_so (λ l. l ≡ text) text refl) refl c.in_err-write_all.ensures.writing front)

@@ -1,5 +1,6 @@
 use Rattle.std.proofs.Common.{subst, sym}
 use Rattle.sl_tool.specs.Answers.{shows_of}
+use Rattle.sl_tool.specs.Ends.{IsStill}
 use Rattle.sl_tool.specs.Outcomes.{Grew, Streams}
 use Rattle.sl_tool.specs.Request.{Listing, Operations}
 use Rattle.sl_tool.specs.Requests.{show_of}
@@ -27,3 +28,6 @@ returns-in-Run-clause-streams g c =
     let l = loaded_view c.args.loaded.now in
     subst (λ (w : Show). Streams (shows_of (show_of w) l) (g.K.Sink.taken c.args.out.now) (g.K.Sink.taken c.write_run.new.out)
     (Grew (g.R.Runner.count c.args.runner.now) (g.R.Runner.count c.write_run.new.runner)) c.write_run.result) (sym c.in-Run.is) c.write_run.ensures.streams
+
+pub returns-in-Run-clause-unrun : goal.returns-in-Run-clause-unrun
+returns-in-Run-clause-unrun g c = λ still. let runs : ⊥ = subst (λ (w : Show). IsStill (show_of w)) c.in-Run.is still in absurd runs

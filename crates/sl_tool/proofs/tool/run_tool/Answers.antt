@@ -3,7 +3,7 @@ use Rattle.std.proofs.KnownBytes.{Appends-nil}
 use Rattle.std.specs.Prelude.{string_bytes}
 use Rattle.std.specs.Option.{option_map}
 use Rattle.sl_tool.specs.Answers.{Answers, AsksFor, UsesFilesFor}
-use Rattle.sl_tool.specs.Ends.{Ends, Means, RunsFor}
+use Rattle.sl_tool.specs.Ends.{Ends, Means, ReadsFiles, RunsFor, RunsNothing}
 use Rattle.sl_tool.specs.Ends.Means.{usage, answer}
 use Rattle.sl_tool.specs.Outcomes.{Grew, IsReadFault, StopsEarly}
 use Rattle.sl_tool.specs.Problems.{refusal_text}
@@ -12,7 +12,7 @@ use Rattle.sl_tool.specs.Requests.{request}
 use Rattle.sl_tool.specs.declared.halt.Halt.{Halt}
 use Rattle.sl_tool.specs.declared.halt.Halt.TheVariants as halt
 use Rattle.sl_tool.specs.declared.status.Status.{Status}
-use Rattle.sl_tool.specs.declared.status.Status.TheVariants.{Usage, Refused, WriteFault, NoMemory}
+use Rattle.sl_tool.specs.declared.status.Status.TheVariants.{Usage, Refused, ReadFault, WriteFault, NoMemory}
 use Rattle.sl_tool.proofs.AnsweredLemmas.{grew_none}
 use Rattle.sl_tool.proofs.EndLemmas.{ends_ended, ends_fault, ends_memory, ends_written, refused_uses, unread, unused, writes_at, written_after, written_reads}
 use Rattle.sl_tool.proofs.tool.run_tool.Goals as goal
@@ -89,6 +89,18 @@ returns-in-Err-Refused-clause-files g c =
     (refused_uses g.F.Files.told g.F.Files.faults g.F.Files.asked files after r c.refused.result
     (written_reads (g.K.Sink.taken c.answered.new.out) (g.K.Sink.taken c.refused.new.out) (refusal_text x) Refused c.refused.result tt c.refused.ensures.whole) uses)
 
+pub returns-in-Err-ReadFault-clause-ends : goal.returns-in-Err-ReadFault-clause-ends
+returns-in-Err-ReadFault-clause-ends g c =
+    let told = g.F.Files.told c.args.files.now in
+    let old = g.K.Sink.taken c.args.out.now in
+    let new = g.K.Sink.taken c.answered.new.out in
+    let r = request c.in-Some.request in
+    let asked = sym c.in-Ok.ensures ∙ ap (option_map request) c.in-Some.is in
+    let grew = Grew (g.R.Runner.count c.args.runner.now) (g.R.Runner.count c.answered.new.runner) in
+    let w = writes_at (Answers told r) old new grew c.in-Err-ReadFault.field-0 halt.ReadFault c.in-Err-ReadFault.field-0-is c.in-Err-ReadFault.ensures.writes in
+    let reads = subst (λ (h : Halt). IsReadFault h → ReadsFiles (Some r)) c.in-Err-ReadFault.field-0-is c.in-Err-ReadFault.ensures.reads in
+    subst (λ (o : Option Request). Ends told o old new grew ReadFault) (sym asked) (reads tt, w.0, w.1)
+
 pub returns-in-Err-WriteFault-clause-ends : goal.returns-in-Err-WriteFault-clause-ends
 returns-in-Err-WriteFault-clause-ends g c =
     let told = g.F.Files.told c.args.files.now in
@@ -110,3 +122,20 @@ returns-clause-ends g c =
     let grew = Grew (g.R.Runner.count c.args.runner.now) (g.R.Runner.count c.answered.new.runner) in
     subst (λ (o : Option Request). Ends told o old new grew NoMemory) (sym asked)
     (ends_memory told r old new grew (writes_at (Answers told r) old new grew c.in-Err-NoMemory.field-0 halt.NoMemory c.in-Err-NoMemory.field-0-is c.in-Err-NoMemory.ensures.writes))
+
+-- ---- what was run
+
+pub returns-in-Ok-answered-clause-unrun : goal.returns-in-Ok-answered-clause-unrun
+returns-in-Ok-answered-clause-unrun g c = λ still. c.answered.ensures.unrun (subst RunsNothing (sym c.in-Ok.ensures ∙ ap (option_map request) c.in-Some.is) still)
+
+pub returns-in-Err-Refused-clause-unrun : goal.returns-in-Err-Refused-clause-unrun
+returns-in-Err-Refused-clause-unrun g c = λ still. c.answered.ensures.unrun (subst RunsNothing (sym c.in-Ok.ensures ∙ ap (option_map request) c.in-Some.is) still)
+
+pub returns-in-Err-ReadFault-clause-unrun : goal.returns-in-Err-ReadFault-clause-unrun
+returns-in-Err-ReadFault-clause-unrun g c = λ still. c.answered.ensures.unrun (subst RunsNothing (sym c.in-Ok.ensures ∙ ap (option_map request) c.in-Some.is) still)
+
+pub returns-in-Err-WriteFault-clause-unrun : goal.returns-in-Err-WriteFault-clause-unrun
+returns-in-Err-WriteFault-clause-unrun g c = λ still. c.answered.ensures.unrun (subst RunsNothing (sym c.in-Ok.ensures ∙ ap (option_map request) c.in-Some.is) still)
+
+pub returns-clause-unrun : goal.returns-clause-unrun
+returns-clause-unrun g c = λ still. c.answered.ensures.unrun (subst RunsNothing (sym c.in-Ok.ensures ∙ ap (option_map request) c.in-Some.is) still)
