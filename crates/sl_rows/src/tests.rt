@@ -6,6 +6,7 @@ mod contexts;
 mod faults;
 mod limits;
 mod listings;
+mod operations;
 mod options;
 mod parser;
 mod refusals;

@@ -16,16 +16,27 @@ pub fn command(alloc: Global, words: &[&str]) -> Result<Vec<String>, Fail> {
     Ok(all)
 }
 
-/// Calls the tool with these words, and says how it ended and what it wrote.
+/// Calls the tool with these words, and says how it ended, what it wrote, and how many operations of
+/// p-code it ran.
+pub fn counted(
+    alloc: Global,
+    files: &mut MemFiles,
+    words: &[&str],
+) -> Result<(Status, MemSink, u64), Fail> {
+    let all = command(alloc, words)?;
+    let mut out = MemSink::new(alloc);
+    let mut runner = Emu { count: 0 };
+    let status = run_tool(alloc, all.as_slice(), files, &mut out, &mut runner);
+    Ok((status, out, runner.count))
+}
+
+/// The same without the count.
 pub fn call(
     alloc: Global,
     files: &mut MemFiles,
     words: &[&str],
 ) -> Result<(Status, MemSink), Fail> {
-    let all = command(alloc, words)?;
-    let mut out = MemSink::new(alloc);
-    let mut runner = Emu { count: 0 };
-    let status = run_tool(alloc, all.as_slice(), files, &mut out, &mut runner);
+    let (status, out, _count) = counted(alloc, files, words)?;
     Ok((status, out))
 }
 
