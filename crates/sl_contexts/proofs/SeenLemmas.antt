@@ -1,12 +1,15 @@
--- What the runs tell at an address is the context there.
-use Rattle.std.proofs.Common.{◌≡◌, ℕ, ◌<◌, ◌≤◌, ◌+◌, ◌%◌, ◌==◌, ◌&&◌, Bool, true, false, cond, min, Option, Some, None, List, [], ◌∷◌, nat_le, nat_lt, refl, sym, ap, ◌∙◌, arith, subst, ◌⊎◌, inl, inr}
+-- What a tree of runs tells at an address is the context there.
+use Rattle.std.proofs.Common.{◌≡◌, ℕ, ◌<◌, ◌≤◌, ◌+◌, ◌%◌, ◌==◌, ◌&&◌, Bool, true, false, cond, min, max, Option, Some, None, List, nat_le, nat_lt, refl, sym, ap, ap₂, ◌∙◌, arith, subst, ◌⊎◌, inl, inr}
 use Rattle.std.proofs.lemmas.Bool.Decides.{nat_tests}
-use Rattle.std.proofs.lemmas.Nat.Bits.{bit_at_and, bit_at_xor, bit_at-lt}
+use Rattle.std.proofs.lemmas.Nat.Bits.{bit_at_and, bit_at_or, bit_at_xor, bit_at-lt}
 use Rattle.std.specs.Int.{bit_at}
 use Rattle.sl_contexts.specs.declared.commits.Commit.{Commit}
 use Rattle.sl_contexts.specs.declared.runs.Run.{Run}
-use Rattle.sl_contexts.specs.Commits.{latest, counts, Greatest, given, not_given}
-use Rattle.sl_contexts.specs.Runs.{is_here, flows_here, put, without, bit_of, flow_told, told, Keeps, merged, seen}
+use Rattle.sl_contexts.specs.declared.tree.Tree.{Tree, Leaf, Fork'}
+use Rattle.sl_contexts.specs.Commits.{latest, counts, Greatest, given, not_given, IsContextAt}
+use Rattle.sl_contexts.specs.AtAddress.{put, without, merged, passed}
+use Rattle.sl_contexts.specs.Runs.{is_here, flows_here, bit_of, flow_told, told, Tells, TellsAll}
+use Rattle.sl_contexts.specs.Trees.{first_of, last_of, fixed_of, flow_of, sum_of, onward, seen, run_at, IsSound}
 use Rattle.sl_contexts.proofs.LatestLemmas.{latest_holds, latest_alike, latest_same, latest_nothing, Among}
 
 pub bit_cases : (n i : ℕ) → (bit_at n i ≡ 0) ⊎ (bit_at n i ≡ 1)
@@ -59,23 +62,24 @@ bit_none i None h = refl
 bit_none i (Some d) h = absurd (cc)
 
 -- what a run tells, by the bits of its masks
-flow_some : (r : Run) (i : ℕ) → bit_at r.fixed i ≡ 1 → flow_told r i ≡ Some (bit_at r.flow i)
+flow_some : (r : Run) (i : ℕ) → bit_at r.fixed i ≡ 1 → flow_told i (Some r) ≡ Some (bit_at r.flow i)
 flow_some r i e = ap (λ f. cond (f == 1) (Some (bit_at r.flow i)) None) e
 
-flow_none : (r : Run) (i : ℕ) → bit_at r.fixed i ≡ 0 → flow_told r i ≡ None
+flow_none : (r : Run) (i : ℕ) → bit_at r.fixed i ≡ 0 → flow_told i (Some r) ≡ None
 flow_none r i e = ap (λ f. cond (f == 1) (Some (bit_at r.flow i)) None) e
 
-told_own : (r : Run) (i : ℕ) → bit_at r.own i ≡ 1 → told r i ≡ Some (bit_at r.own_value i)
-told_own r i e = ap (λ f. cond (f == 1) (Some (bit_at r.own_value i)) (flow_told r i)) e
+told_own : (r : Run) (i : ℕ) → bit_at r.own i ≡ 1 → told i (Some r) ≡ Some (bit_at r.own_value i)
+told_own r i e = ap (λ f. cond (f == 1) (Some (bit_at r.own_value i)) (flow_told i (Some r))) e
 
-told_flow : (r : Run) (i : ℕ) → bit_at r.own i ≡ 0 → told r i ≡ flow_told r i
-told_flow r i e = ap (λ f. cond (f == 1) (Some (bit_at r.own_value i)) (flow_told r i)) e
+told_flow : (r : Run) (i : ℕ) → bit_at r.own i ≡ 0 → told i (Some r) ≡ flow_told i (Some r)
+told_flow r i e = ap (λ f. cond (f == 1) (Some (bit_at r.own_value i)) (flow_told i (Some r))) e
 
-merged_own : (r : Run) (i : ℕ) → bit_at r.own i ≡ 1 → bit_at (merged r) i ≡ bit_at r.own_value i
-merged_own r i e = put_bit r.flow r.own r.own_value i ∙ ap (λ f. cond (f == 1) (bit_at r.own_value i) (bit_at r.flow i)) e
+-- the bits of a number that is put over another
+put_over : (o m n i : ℕ) → bit_at m i ≡ 1 → bit_at (put o m n) i ≡ bit_at n i
+put_over o m n i e = put_bit o m n i ∙ ap (λ f. cond (f == 1) (bit_at n i) (bit_at o i)) e
 
-merged_flow : (r : Run) (i : ℕ) → bit_at r.own i ≡ 0 → bit_at (merged r) i ≡ bit_at r.flow i
-merged_flow r i e = put_bit r.flow r.own r.own_value i ∙ ap (λ f. cond (f == 1) (bit_at r.own_value i) (bit_at r.flow i)) e
+put_under : (o m n i : ℕ) → bit_at m i ≡ 0 → bit_at (put o m n) i ≡ bit_at o i
+put_under o m n i e = put_bit o m n i ∙ ap (λ f. cond (f == 1) (bit_at n i) (bit_at o i)) e
 
 -- where no commit with the bit stands from the address on up to the other
 abbrev Empty : ℕ → List Commit → ℕ → ℕ → Type 0
@@ -160,20 +164,19 @@ joined i cs lo x empty n a h g =
       | inr k ↦ let e : a ≡ x = omega arith in rw e n
     ]
 
-before_run : (i : ℕ) (cs : List Commit) (start lo before : ℕ) (r : Run) → lo ≤ r.address → Empty i cs lo r.address
-    → told r i ≡ bit_of i (latest (is_here r.address i) cs) → flow_told r i ≡ bit_of i (latest (flows_here r.address i) cs)
-    → (bit_at r.fixed i ≡ 0 → bit_at r.flow i ≡ bit_at before i)
-    → Greatest (flows_under lo i) start cs i (bit_at before i) → Greatest (counts r.address i) start cs i (bit_at (merged r) i)
-before_run i cs start lo before r h empty t f same g =
+-- the context at a run's address
+before_run : (i : ℕ) (cs : List Commit) (start lo before : ℕ) (r : Run) → lo ≤ r.address → Empty i cs lo r.address → Tells i cs r.address (Some r)
+    → Greatest (flows_under lo i) start cs i (bit_at before i) → Greatest (counts r.address i) start cs i (bit_at (merged before r) i)
+before_run i cs start lo before r h empty t g =
     elim (bit_cases r.own i) [
-      | inr own ↦ let s = bit_some i (latest (is_here r.address i) cs) (bit_at r.own_value i) (sym (told_own r i own) ∙ t) in
-          at_run i cs start r.address (bit_at (merged r) i) s.0 s.1 (merged_own r i own ∙ s.2)
+      | inr own ↦ let s = bit_some i (latest (is_here r.address i) cs) (bit_at r.own_value i) (sym (told_own r i own) ∙ t.here) in
+          at_run i cs start r.address (bit_at (merged before r) i) s.0 s.1 (put_over (passed before r) r.own r.own_value i own ∙ s.2)
       | inl own ↦ elim (bit_cases r.fixed i) [
-        | inr fixed ↦ let s = bit_some i (latest (is_here r.address i) cs) (bit_at r.flow i) (sym (told_flow r i own ∙ flow_some r i fixed) ∙ t) in
-            at_run i cs start r.address (bit_at (merged r) i) s.0 s.1 (merged_flow r i own ∙ s.2)
+        | inr fixed ↦ let s = bit_some i (latest (is_here r.address i) cs) (bit_at r.flow i) (sym (told_flow r i own ∙ flow_some r i fixed) ∙ t.here) in
+            at_run i cs start r.address (bit_at (merged before r) i) s.0 s.1 (put_under (passed before r) r.own r.own_value i own ∙ put_over before r.fixed r.flow i fixed ∙ s.2)
         | inl fixed ↦
-            let n = bit_none i (latest (is_here r.address i) cs) (sym (told_flow r i own ∙ flow_none r i fixed) ∙ t) in
-            subst (Greatest (counts r.address i) start cs i) (sym (merged_flow r i own ∙ same fixed))
+            let n = bit_none i (latest (is_here r.address i) cs) (sym (told_flow r i own ∙ flow_none r i fixed) ∙ t.here) in
+            subst (Greatest (counts r.address i) start cs i) (sym (put_under (passed before r) r.own r.own_value i own ∙ put_under before r.fixed r.flow i fixed))
             (settled i cs start lo r.address (bit_at before i) h (joined i cs lo r.address empty n) g)
       ]
     ]
@@ -197,18 +200,16 @@ up_to i cs lo x c empty n m f e =
       ]
     ]
 
--- what flows behind a run
-behind_run : (i : ℕ) (cs : List Commit) (start lo before : ℕ) (r : Run) → lo ≤ r.address → Empty i cs lo r.address
-    → flow_told r i ≡ bit_of i (latest (flows_here r.address i) cs)
-    → (bit_at r.fixed i ≡ 0 → bit_at r.flow i ≡ bit_at before i)
-    → Greatest (flows_under lo i) start cs i (bit_at before i) → Greatest (flows_under (r.address + 1) i) start cs i (bit_at r.flow i)
-behind_run i cs start lo before r h empty f same g =
+-- what flows on from a run
+behind_run : (i : ℕ) (cs : List Commit) (start lo before : ℕ) (r : Run) → lo ≤ r.address → Empty i cs lo r.address → Tells i cs r.address (Some r)
+    → Greatest (flows_under lo i) start cs i (bit_at before i) → Greatest (flows_under (r.address + 1) i) start cs i (bit_at (passed before r) i)
+behind_run i cs start lo before r h empty t g =
     elim (bit_cases r.fixed i) [
-      | inr fixed ↦ let s = bit_some i (latest (flows_here r.address i) cs) (bit_at r.flow i) (sym (flow_some r i fixed) ∙ f) in
-          from_run i cs start r.address (bit_at r.flow i) s.0 s.1 s.2
+      | inr fixed ↦ let s = bit_some i (latest (flows_here r.address i) cs) (bit_at r.flow i) (sym (flow_some r i fixed) ∙ t.flow) in
+          from_run i cs start r.address (bit_at (passed before r) i) s.0 s.1 (put_over before r.fixed r.flow i fixed ∙ s.2)
       | inl fixed ↦
-          let n = bit_none i (latest (flows_here r.address i) cs) (sym (flow_none r i fixed) ∙ f) in
-          subst (Greatest (flows_under (r.address + 1) i) start cs i) (sym (same fixed))
+          let n = bit_none i (latest (flows_here r.address i) cs) (sym (flow_none r i fixed) ∙ t.flow) in
+          subst (Greatest (flows_under (r.address + 1) i) start cs i) (sym (put_under before r.fixed r.flow i fixed))
           (raised i cs start lo (r.address + 1) (bit_at before i) (omega arith) (λ c m fl e. up_to i cs lo r.address c empty n m fl e) g)
     ]
 
@@ -218,17 +219,170 @@ lt_true a b h = grind (arith, nat_tests)
 pub lt_false : (a b : ℕ) → b ≤ a → nat_lt a b ≡ false
 lt_false a b h = grind (arith, nat_tests)
 
--- what the runs tell at an address is the bit there
-pub seen_right : (i : ℕ) (cs : List Commit) (start : ℕ) (rs : List Run) (lo before a : ℕ) → Keeps i cs lo before rs → lo ≤ a
-    → Greatest (flows_under lo i) start cs i (bit_at before i) → Greatest (counts a i) start cs i (bit_at (seen before rs a) i)
-seen_right i cs start [] lo before a k h g = settled i cs start lo a (bit_at before i) h (λ x l u. k x l) g
-seen_right i cs start (r ∷ rs) lo before a k h g =
+pub eq_true : (a b : ℕ) → a ≡ b → (a == b) ≡ true
+eq_true a b h = grind (arith, nat_tests)
+
+pub eq_false : (a b : ℕ) → (a ≡ b → ⊥) → (a == b) ≡ false
+eq_false a b h = grind (arith, nat_tests)
+
+-- ---- trees
+
+-- from an address on up to another one the tree tells all
+abbrev TellsFrom : ℕ → List Commit → ℕ → ℕ → Tree → Type 0
+TellsFrom i cs lo up t = (a : ℕ) → lo ≤ a → a < up → Tells i cs a (run_at t a)
+
+-- a tree in order has no run below its first or above its last
+pub in_order : (t : Tree) → IsSound t → first_of t ≤ last_of t
+in_order (Leaf r) h = omega arith
+in_order (Fork' p l s q r) h =
+    let a = in_order l h.0 in
+    let b = in_order r h.1 in
+    let low = h.2 in
+    let high = h.3 in
+    rw (h.4) (omega (arith, a, b, low, high))
+
+pub none_below : (t : Tree) (a : ℕ) → IsSound t → a < first_of t → run_at t a ≡ None
+none_below (Leaf r) a h g = rw (eq_false r.address a (λ e. omega arith)) refl
+none_below (Fork' p l s q r) a h g =
+    let first : s.first ≡ first_of l = ap (λ x. x.first) h.4 in
+    let up = in_order l h.0 in
+    let low = h.2 in
+    let k : a < first_of l = omega (arith, first, g) in
+    rw (lt_true a s.split (omega (arith, k, up, low))) (none_below l a h.0 k)
+
+pub none_above_last : (t : Tree) (a : ℕ) → IsSound t → last_of t < a → run_at t a ≡ None
+none_above_last (Leaf r) a h g = rw (eq_false r.address a (λ e. omega arith)) refl
+none_above_last (Fork' p l s q r) a h g =
+    let last : s.last ≡ last_of r = ap (λ x. x.last) h.4 in
+    let up = in_order r h.1 in
+    let high = h.3 in
+    let k : last_of r < a = omega (arith, last, g) in
+    rw (lt_false a s.split (omega (arith, k, up, high))) (none_above_last r a h.1 k)
+
+-- where it has no run there are no commits
+no_commit : (i : ℕ) (cs : List Commit) (a : ℕ) (o : Option Run) → o ≡ None → Tells i cs a o → latest (is_here a i) cs ≡ None
+no_commit i cs a None e t = bit_none i (latest (is_here a i) cs) t.here
+no_commit i cs a (Some r) e t = absurd (cc)
+
+no_flow : (i : ℕ) (cs : List Commit) (a : ℕ) (c : Commit) → latest (is_here a i) cs ≡ None → Among c cs → c.address ≡ a → bit_at c.mask i ≡ 1 → ⊥
+no_flow i cs a c n m e b = absent c cs i m (subst (λ x. latest (is_here x i) cs ≡ None) (sym e) n) b
+
+-- what flows below an address flows below a greater one, where no commit stands between
+lifted : (i : ℕ) (cs : List Commit) (start lo up b : ℕ) → lo ≤ up → Empty i cs lo up → Greatest (flows_under lo i) start cs i b → Greatest (flows_under up i) start cs i b
+lifted i cs start lo up b h empty g = raised i cs start lo up b h (λ c m f e.
+    elim (below_or_not c.address lo) [
+      | inl k ↦ inl k
+      | inr k ↦ elim (below_or_not c.address up) [
+        | inl j ↦ absurd (absent c cs i m (empty c.address k j) e)
+        | inr j ↦ inr j
+      ]
+    ]) g
+
+-- the sum of a fork flows on as its sides do
+sum_bit : (b f g v w : ℕ) → f < 2 → g < 2 → cond (max f g == 1) (cond (g == 1) w v) b ≡ cond (g == 1) w (cond (f == 1) v b)
+sum_bit b f g v w h k = grind (arith, nat_tests)
+
+onward_both : (before : ℕ) (l r : Tree) (split i : ℕ)
+    → bit_at (put before (sum_of l split r).fixed (sum_of l split r).flow) i ≡ bit_at (onward (onward before l) r) i
+onward_both before l r split i =
+    put_bit before (sum_of l split r).fixed (sum_of l split r).flow i
+    ∙ ap₂ (λ m v. cond (m == 1) v (bit_at before i)) (bit_at_or (fixed_of l) (fixed_of r) i) (put_bit (flow_of l) (fixed_of r) (flow_of r) i)
+    ∙ sum_bit (bit_at before i) (bit_at (fixed_of l) i) (bit_at (fixed_of r) i) (bit_at (flow_of l) i) (bit_at (flow_of r) i) (bit_at-lt (fixed_of l) i) (bit_at-lt (fixed_of r) i)
+    ∙ sym (put_bit (onward before l) (fixed_of r) (flow_of r) i ∙ ap (λ b. cond (bit_at (fixed_of r) i == 1) (bit_at (flow_of r) i) b) (put_bit before (fixed_of l) (flow_of l) i))
+
+-- a side of a fork tells what the fork does
+left_tells : (i : ℕ) (cs : List Commit) (lo up : ℕ) (l r : Tree) (split : ℕ) → ((a : ℕ) → lo ≤ a → a < up → Tells i cs a (cond (nat_lt a split) (run_at l a) (run_at r a)))
+    → up ≤ split → TellsFrom i cs lo up l
+left_tells i cs lo up l r split t h a low high =
+    subst (λ b. Tells i cs a (cond b (run_at l a) (run_at r a))) (lt_true a split (omega arith)) (t a low high)
+
+right_tells : (i : ℕ) (cs : List Commit) (lo up : ℕ) (l r : Tree) (split : ℕ) → ((a : ℕ) → lo ≤ a → a < up → Tells i cs a (cond (nat_lt a split) (run_at l a) (run_at r a)))
+    → lo ≤ split → TellsFrom i cs split up r
+right_tells i cs lo up l r split t h a low high =
+    subst (λ b. Tells i cs a (cond b (run_at l a) (run_at r a))) (lt_false a split low) (t a (omega arith) high)
+
+empty_below : (i : ℕ) (cs : List Commit) (t : Tree) (lo up to : ℕ) → IsSound t → TellsFrom i cs lo up t → to ≤ first_of t → to ≤ up → Empty i cs lo to
+empty_below i cs t lo up to h tells g k a low high = no_commit i cs a (run_at t a) (none_below t a h (omega arith)) (tells a low (omega arith))
+
+empty_above : (i : ℕ) (cs : List Commit) (t : Tree) (lo up from : ℕ) → IsSound t → TellsFrom i cs lo up t → last_of t < from → lo ≤ from → Empty i cs from up
+empty_above i cs t lo up from h tells g k a low high = no_commit i cs a (run_at t a) (none_above_last t a h (omega arith)) (tells a (omega arith) high)
+
+-- what flows on from a tree, up to an address above it
+behind_tree : (i : ℕ) (cs : List Commit) (start : ℕ) (t : Tree) (lo up before : ℕ) → IsSound t → lo ≤ first_of t → last_of t < up → TellsFrom i cs lo up t
+    → Greatest (flows_under lo i) start cs i (bit_at before i) → Greatest (flows_under up i) start cs i (bit_at (onward before t) i)
+behind_tree i cs start (Leaf r) lo up before h low high tells g =
+    let here : Tells i cs r.address (Some r) = subst (λ b. Tells i cs r.address (cond b (Some r) None)) (eq_true r.address r.address refl) (tells r.address low high) in
+    let one = behind_run i cs start lo before r low (empty_below i cs (Leaf r) lo up r.address h tells (omega arith) (omega arith)) here g in
+    lifted i cs start (r.address + 1) up (bit_at (passed before r) i) (omega arith) (empty_above i cs (Leaf r) lo up (r.address + 1) h tells (omega arith) (omega arith)) one
+behind_tree i cs start (Fork' p l s q r) lo up before h low high tells g =
+    let first : s.first ≡ first_of l = ap (λ x. x.first) h.4 in
+    let last : s.last ≡ last_of r = ap (λ x. x.last) h.4 in
+    let a = in_order l h.0 in
+    let b = in_order r h.1 in
+    let under = h.2 in
+    let over = h.3 in
+    let from : lo ≤ first_of l = omega (arith, first, low) in
+    let to : last_of r < up = omega (arith, last, high) in
+    let one = behind_tree i cs start l lo s.split before h.0 from under (left_tells i cs lo s.split l r s.split (λ x j k. tells x j (omega (arith, k, over, b, to))) (omega arith)) g in
+    let two = behind_tree i cs start r s.split up (onward before l) h.1 over to (right_tells i cs lo up l r s.split tells (omega (arith, from, a, under))) one in
+    subst (Greatest (flows_under up i) start cs i) (sym (ap (λ x. bit_at (put before x.fixed x.flow) i) h.4 ∙ onward_both before l r s.split i)) two
+
+-- what the tree tells at an address is the bit there
+pub seen_right : (i : ℕ) (cs : List Commit) (start : ℕ) (t : Tree) (lo before a : ℕ) → IsSound t → lo ≤ first_of t → lo ≤ a → TellsFrom i cs lo (a + 1) t
+    → Greatest (flows_under lo i) start cs i (bit_at before i) → Greatest (counts a i) start cs i (bit_at (seen before t a) i)
+seen_right i cs start (Leaf r) lo before a h low at tells g =
     elim (below_or_not a r.address) [
-      | inl l ↦ rw (lt_true a r.address l) (settled i cs start lo a (bit_at before i) h (λ x lo_x u. k.1 x lo_x (omega arith)) g)
-      | inr l ↦ elim (below_or_not r.address a) [
-        | inl m ↦ let ne : (r.address == a) ≡ false = grind (arith, nat_tests) in
-            rw (lt_false a r.address l, ne) (seen_right i cs start rs (r.address + 1) r.flow a k.5 (omega arith) (behind_run i cs start lo before r k.0 k.1 k.2 k.4 g))
-        | inr m ↦ let e : r.address ≡ a = omega arith in let same : (r.address == a) ≡ true = grind (arith, nat_tests) in
-            rw (lt_false a r.address l, same) (subst (λ x. Greatest (counts x i) start cs i (bit_at (merged r) i)) e (before_run i cs start lo before r k.0 k.1 k.3 k.2 k.4 g))
+      | inl k ↦ rw (lt_true a r.address k) (settled i cs start lo a (bit_at before i) at (empty_below i cs (Leaf r) lo (a + 1) (a + 1) h tells (omega arith) (omega arith)) g)
+      | inr k ↦ elim (below_or_not r.address a) [
+        | inl m ↦
+            let one = behind_tree i cs start (Leaf r) lo (r.address + 1) before h low (omega arith) (λ x j n. tells x j (omega arith)) g in
+            rw (lt_false a r.address k, lt_true r.address a m)
+            (settled i cs start (r.address + 1) a (bit_at (passed before r) i) (omega arith) (empty_above i cs (Leaf r) lo (a + 1) (r.address + 1) h tells (omega arith) (omega arith)) one)
+        | inr m ↦
+            let e : r.address ≡ a = omega arith in
+            let here : Tells i cs r.address (Some r) = subst (λ b. Tells i cs r.address (cond b (Some r) None)) (eq_true r.address r.address refl) (tells r.address low (omega arith)) in
+            rw (lt_false a r.address k, lt_false r.address a m)
+            (subst (λ x. Greatest (counts x i) start cs i (bit_at (merged before r) i)) e
+            (before_run i cs start lo before r low (empty_below i cs (Leaf r) lo (a + 1) r.address h tells (omega arith) (omega arith)) here g))
       ]
     ]
+seen_right i cs start (Fork' p l s q r) lo before a h low at tells g =
+    let first : s.first ≡ first_of l = ap (λ x. x.first) h.4 in
+    let x = in_order l h.0 in
+    let under = h.2 in
+    let from : lo ≤ first_of l = omega (arith, first, low) in
+    elim (below_or_not a s.first) [
+      | inl k ↦ rw (lt_true a s.first k) (settled i cs start lo a (bit_at before i) at (empty_below i cs (Fork' p l s q r) lo (a + 1) (a + 1) h tells (omega arith) (omega arith)) g)
+      | inr k ↦ elim (below_or_not s.last a) [
+        | inl m ↦
+            let one = behind_tree i cs start (Fork' p l s q r) lo (s.last + 1) before h low (omega arith) (λ y j n. tells y j (omega arith)) g in
+            rw (lt_false a s.first k, lt_true s.last a m)
+            (settled i cs start (s.last + 1) a (bit_at (put before s.fixed s.flow) i) (omega arith)
+            (empty_above i cs (Fork' p l s q r) lo (a + 1) (s.last + 1) h tells (omega arith) (let y = in_order (Fork' p l s q r) h in omega (arith, y, low))) one)
+        | inr m ↦ elim (below_or_not a s.split) [
+          | inl n ↦ rw (lt_false a s.first k, lt_false s.last a m, lt_true a s.split n)
+              (seen_right i cs start l lo before a h.0 from at (left_tells i cs lo (a + 1) l r s.split tells (omega arith)) g)
+          | inr n ↦
+              let one = behind_tree i cs start l lo s.split before h.0 from under (left_tells i cs lo s.split l r s.split (λ y j o. tells y j (omega arith)) (omega arith)) g in
+              rw (lt_false a s.first k, lt_false s.last a m, lt_false a s.split n)
+              (seen_right i cs start r s.split (onward before l) a h.1 h.3 n (right_tells i cs lo (a + 1) l r s.split tells (omega (arith, from, x, under))) one)
+        ]
+      ]
+    ]
+
+none_under : (f : Bool) (m x : ℕ) → (f && ((m == 1) && nat_lt x 0)) ≡ false
+none_under true m x = grind (arith, nat_tests)
+none_under false m x = refl
+
+none_flows_under : (i : ℕ) (cs : List Commit) → latest (flows_under 0 i) cs ≡ None
+none_flows_under i cs = latest_alike (flows_under 0 i) (λ c. false) cs (λ c. none_under c.flows (bit_at c.mask i) c.address) ∙ latest_nothing cs
+
+-- what a tree that tells all tells at an address is the context there
+pub tree_right : (cs : List Commit) (start : ℕ) (t : Tree) (a : ℕ) → IsSound t → TellsAll cs (Some t) → IsContextAt start cs a (seen start t a)
+tree_right cs start t a h tells i low =
+    seen_right i cs start t 0 start a h (omega arith) (omega arith) (λ x j k. tells i low x) (not_given (none_flows_under i cs))
+
+-- without any run the context is the starting value
+pub nothing_right : (cs : List Commit) (start a : ℕ) → TellsAll cs None → IsContextAt start cs a start
+nothing_right cs start a tells i low =
+    settled i cs start 0 a (bit_at start i) (omega arith) (λ x j k. bit_none i (latest (is_here x i) cs) (tells i low x).here) (not_given (none_flows_under i cs))

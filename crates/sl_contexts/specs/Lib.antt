@@ -1,4 +1,5 @@
+pub mod AtAddress
 pub mod Commits
 pub mod Kept
-pub mod Places
 pub mod Runs
+pub mod Trees

@@ -1,7 +1,7 @@
 //! Bits of contexts.
 
 ghost use Rattle.std.specs.Prelude.{◌≡◌};
-ghost use Rattle.sl_contexts.specs.Runs.{put, without};
+ghost use Rattle.sl_contexts.specs.AtAddress.{put, without};
 
 /// The bits under the mask from `new`, the others from `old`.
 pub(crate) fn put_bits(old: u64, mask: u64, new: u64) -> u64

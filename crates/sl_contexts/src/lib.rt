@@ -5,9 +5,9 @@ mod bits;
 mod commits;
 pub mod laws;
 mod map;
-mod places;
 mod runs;
 mod several;
+mod tree;
 
 pub use commits::Commit;
 pub use map::ContextMap;

@@ -1,14 +1,21 @@
-use Rattle.std.proofs.Common.{◌≡◌, sym, drop, subst, lit<}
-use Rattle.sl_contexts.specs.Places.{flow_before, seen_here, IsPlace}
-use Rattle.sl_contexts.specs.Runs.{Stands}
-use Rattle.sl_contexts.proofs.PlaceLemmas.{rise, at_right}
+use Rattle.std.proofs.Common.{sym, ap, ◌∙◌, subst}
+use Rattle.sl_contexts.specs.Commits.{IsContextAt}
+use Rattle.sl_contexts.specs.Kept.{Kept}
+use Rattle.sl_contexts.specs.Runs.{AreSound, Stands, TellsAll}
+use Rattle.sl_contexts.specs.Trees.{seen}
+use Rattle.sl_contexts.proofs.SeenLemmas.{tree_right, nothing_right}
 use Rattle.sl_contexts.proofs.map.ContextMap.at.Goals as goal
 
-pub returns : goal.returns
-returns c start cs given =
-    let runs = c.self.inside.runs.items in
-    let stands : Stands (record { start = c.self.inside.start; runs = runs }) start cs = subst (λ k. Stands k start cs) (sym c.self.view_is) given in
-    let p : IsPlace runs c.args.address c.place-k.result = rw c.deref.ensures.value at (c.place-k.ensures.place (rw c.deref.ensures.value (rise 0 cs runs 0 start (stands.keeps 0 (lit< tt))))) in
-    let before : c.before-before.result ≡ flow_before c.self.inside.start runs c.place-k.result = subst (λ k. c.before-before.result ≡ flow_before k.start k.runs c.place-k.result) (sym c.self.view_is) c.before-before.ensures in
-    let v : c.seen_from.result ≡ seen_here (flow_before start runs c.place-k.result) (drop c.place-k.result runs) c.args.address = rw (← stands.start_is, ← before, ← c.deref-2.ensures.value, ← c.split_at.ensures.back) c.seen_from.ensures in
-    at_right runs start cs c.place-k.result c.args.address c.seen_from.result stands.keeps p v
+pub returns-in-Some : goal.returns-in-Some
+returns-in-Some c start cs stands =
+    let tree = c.in-Some.tree in
+    let kept : Kept = record { start = c.self.inside.start; runs = c.self.inside.runs } in
+    let s : Stands kept start cs = subst (λ k. Stands k start cs) (sym c.self.view_is) stands in
+    subst (IsContextAt start cs c.args.address) (ap (λ b. seen b tree c.args.address) (sym s.start_is) ∙ sym c.seen.ensures)
+    (tree_right cs start tree c.args.address (subst AreSound c.in-Some.is s.sound) (subst (TellsAll cs) c.in-Some.is s.tells))
+
+pub returns-in-None : goal.returns-in-None
+returns-in-None c start cs stands =
+    let kept : Kept = record { start = c.self.inside.start; runs = c.self.inside.runs } in
+    let s : Stands kept start cs = subst (λ k. Stands k start cs) (sym c.self.view_is) stands in
+    subst (IsContextAt start cs c.args.address) (sym s.start_is) (nothing_right cs start c.args.address (subst (TellsAll cs) c.in-None.is s.tells))

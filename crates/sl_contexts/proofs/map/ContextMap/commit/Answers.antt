@@ -1,15 +1,23 @@
-use Rattle.std.proofs.Common.{◌≡◌, ◌++◌, take, drop, sym, ap, subst, lit<, refl}
-use Rattle.sl_contexts.specs.Places.{renewed, IsPlace, Rise}
-use Rattle.sl_contexts.proofs.PlaceLemmas.{rise, commit_stands}
+use Rattle.std.proofs.Common.{sym, subst}
+use Rattle.std.proofs.lemmas.Result.{on_ok_weaker}
+use Rattle.sl_contexts.specs.Kept.{Kept}
+use Rattle.sl_contexts.specs.Runs.{Stands}
+use Rattle.sl_contexts.proofs.CommitLemmas.{commit_stands, first_stands}
 use Rattle.sl_contexts.proofs.map.ContextMap.commit.Goals as goal
 
-pub returns-clause-stands : goal.returns-clause-stands
-returns-clause-stands c start cs stands =
-    let k = c.place-k.result in
-    let x = c.args.c.now in
-    let rises : Rise c.self.inside.runs.items = subst (λ m. Rise m.runs) (sym c.self.view_is) (rise 0 cs c.args.self.now.runs 0 start (stands.keeps 0 (lit< tt))) in
-    let p : IsPlace c.self.inside.runs.items x.address k = rw c.deref.ensures.value at (c.place-k.ensures.place (rw c.deref.ensures.value rises)) in
-    let made = c.make_room.new.self in
-    let runs : c.renew.new.runs.items ≡ take k made.runs ++ renewed (drop k made.runs) x = subst (λ m. c.renew.new.runs.items ≡ take k m.runs ++ renewed (drop k m.runs) x) c.self-2.view_is c.renew.ensures in
-    commit_stands c.args.self.now made _ start cs x k stands (subst (λ m. IsPlace m.runs x.address k) c.self.view_is p)
-    c.make_room.ensures.start c.in_ok-make_room.ensures.front (c.in_ok-make_room.ensures.behind x refl) (ap (λ m. m.start) c.self-2.view_is) runs
+pub returns-in-Some-clause-stands : goal.returns-in-Some-clause-stands
+returns-in-Some-clause-stands c =
+    on_ok_weaker c.commit.result
+    (λ made start commits stands.
+    let kept : Kept = record { start = c.self.inside.start; runs = c.self.inside.runs } in
+    let s : Stands kept start commits = subst (λ k. Stands k start commits) (sym c.self.view_is) stands in
+    commit_stands c.in-Some.tree c.commit.new.self c.self.inside.start start commits c.args.c.now
+    (subst (λ r. Stands (record { start = c.self.inside.start; runs = r }) start commits) c.in-Some.is s) made)
+    c.commit.ensures.committed
+
+pub returns-in-None-clause-stands : goal.returns-in-None-clause-stands
+returns-in-None-clause-stands c start commits stands =
+    let kept : Kept = record { start = c.self.inside.start; runs = c.self.inside.runs } in
+    let s : Stands kept start commits = subst (λ k. Stands k start commits) (sym c.self.view_is) stands in
+    rw (c.given.ensures, c.fresh.ensures)
+    (first_stands c.self.inside.start start commits c.args.c.now (subst (λ r. Stands (record { start = c.self.inside.start; runs = r }) start commits) c.in-None.is s))
