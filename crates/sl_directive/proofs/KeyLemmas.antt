@@ -36,17 +36,27 @@ option_cond : {A B : Type 0} (f : A → B) (b : Bool) (x y : Option A) → optio
 option_cond f true x y = refl
 option_cond f false x y = refl
 
-abbrev held : {S : Type 0} → HashMap (Vec ℕ) (Vec ℕ) S → List ℕ → Option (List ℕ)
-held m name = option_map (λ (v : Vec ℕ). v.items) (at_bytes m name)
+module _ {X Y : Type 0} (view : X → Y) where
+  abbrev held : {S : Type 0} → HashMap (Vec ℕ) X S → List ℕ → Option Y
+  held m name = option_map view (at_bytes m name)
 
-abbrev changed : {S : Type 0} → HashMap (Vec ℕ) (Vec ℕ) S → List ℕ → Option (List ℕ) → List ℕ → Option (List ℕ)
-changed m bs w name = cond (bytes_eq bs name) w (held m name)
+  abbrev changed : {S : Type 0} → HashMap (Vec ℕ) X S → List ℕ → Option Y → List ℕ → Option Y
+  changed m bs w name = cond (bytes_eq bs name) w (held m name)
+
+  -- what is held after a change at a key
+  pub held_after : (bs : List ℕ) {S : Type 0} (m n : HashMap (Vec ℕ) X S) (w : Option X) → UpdatesBy (λ x y. bytes_eq x.items y.items) (λ k. bytes_eq bs k.items) m n w
+      → held n ≡ changed m bs (option_map view w)
+  held_after bs m n w h = fun_ext (λ name. ap (option_map view) (at_key bs m n w h name) ∙ option_cond view (bytes_eq bs name) w (at_bytes m name))
+
+  pub held_more : (bs : List ℕ) (value : Y) {S : Type 0} (m n : HashMap (Vec ℕ) X S) (k : Vec ℕ) (v : X) → k.items ≡ bs → view v ≡ value
+      → UpdatesBy (λ x y. bytes_eq x.items y.items) (λ x. bytes_eq k.items x.items) m n (Some v) → held n ≡ changed m bs (Some value)
+  held_more bs value m n k v e f h = held_after k.items m n (Some v) h ∙ ap₂ (λ (b : List ℕ) (w : Y). changed m b (Some w)) e f
 
 -- the values after a change at a key
 pub values_after : (bs : List ℕ) {S : Type 0} (m n : HashMap (Vec ℕ) (Vec ℕ) S) (w : Option (Vec ℕ)) → UpdatesBy (λ x y. bytes_eq x.items y.items) (λ k. bytes_eq bs k.items) m n w
-    → held n ≡ changed m bs (option_map (λ (v : Vec ℕ). v.items) w)
-values_after bs m n w h = fun_ext (λ name. ap (option_map (λ (v : Vec ℕ). v.items)) (at_key bs m n w h name) ∙ option_cond (λ (v : Vec ℕ). v.items) (bytes_eq bs name) w (at_bytes m name))
+    → held (λ (v : Vec ℕ). v.items) n ≡ changed (λ (v : Vec ℕ). v.items) m bs (option_map (λ (v : Vec ℕ). v.items) w)
+values_after bs m n w h = held_after (λ (v : Vec ℕ). v.items) bs m n w h
 
 pub values_defined : (bs value : List ℕ) {S : Type 0} (m n : HashMap (Vec ℕ) (Vec ℕ) S) (k v : Vec ℕ) → k.items ≡ bs → v.items ≡ value
-    → UpdatesBy (λ x y. bytes_eq x.items y.items) (λ x. bytes_eq k.items x.items) m n (Some v) → held n ≡ changed m bs (Some value)
-values_defined bs value m n k v e f h = values_after k.items m n (Some v) h ∙ ap₂ (λ (b w : List ℕ). changed m b (Some w)) e f
+    → UpdatesBy (λ x y. bytes_eq x.items y.items) (λ x. bytes_eq k.items x.items) m n (Some v) → held (λ (v : Vec ℕ). v.items) n ≡ changed (λ (v : Vec ℕ). v.items) m bs (Some value)
+values_defined bs value m n k v e f h = held_more (λ (v : Vec ℕ). v.items) bs value m n k v e f h

@@ -1,4 +1,5 @@
 pub mod RunLemmas
+pub mod WholeLemmas
 pub mod LineLemmas
 pub mod KeyLemmas
 pub mod LevelLemmas

@@ -8,5 +8,7 @@ pub mod Held
 pub mod Outcomes
 pub mod Directives
 pub mod Viewed
+pub mod Wholes
+pub mod HeldWholes
 pub mod Replacement
 pub mod Pages

@@ -9,6 +9,9 @@ pub mod fault;
 mod lines;
 pub mod page;
 pub mod parts;
-pub mod replace;
+mod replace;
+pub mod replacer;
+mod replacing;
+mod wholes;
 
 pub use lines::first_line;

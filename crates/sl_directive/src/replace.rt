@@ -1,16 +1,19 @@
 //! Replacement of `$(NAME)` in a line.
 
-ghost use Rattle.std.specs.Prelude.{◌≡◌};
+ghost use Rattle.std.specs.Prelude.{◌≡◌, ◌+◌, ◌-◌, ◌<◌, ◌^◌, Some, IfOk, IfSome};
 ghost use Rattle.sl_directive.specs.Parts.{Reads};
 ghost use Rattle.sl_directive.specs.Held.{values_of};
 ghost use Rattle.sl_directive.specs.Outcomes.{Gives};
 ghost use Rattle.sl_directive.specs.Replacement.{reference_at, stays, write_name, write_text};
 ghost use Rattle.sl_directive.specs.Pages.{page_of};
+ghost use Rattle.sl_directive.specs.Wholes.{AreWholes, IsWholeName, IsWholeValue, joined};
+ghost use Rattle.sl_directive.specs.HeldWholes.{wholes_of};
 
 use crate::definitions::Definitions;
 use crate::fault::{Cause, Fault};
 use crate::page::{LinePart, Page, put, put_all};
 use crate::parts::{Part, byte_at, name_at};
+use crate::wholes::Wholes;
 
 /// The name of `$(NAME)` at the front, and what stands behind it.
 #[tactic(auto, unfolding(crate::specs::Replacement::reference_at))]
@@ -40,33 +43,102 @@ fn stays(name: &[u8], page: &mut Page) -> Result<(), Fault>
     }
 }
 
-/// Writes the value of a name, where so many levels are left.
+/// How many levels of replacement the whole value takes; none where a name in it has no value.
+type Levels = Option<u32>;
+
+/// The levels that one piece more takes.
+fn joined(levels: Levels, more: Levels) -> Levels
+    ensures { result ≡ joined levels more }
+{
+    match (levels, more) {
+        (Some(levels), Some(more)) => Some(levels.max(more)),
+        _ => None,
+    }
+}
+
+/// Writes the value of a name, where so many levels are left, and comes to know it.
 #[cycle(replacement)]
-fn write_name(left: u32, defs: &Definitions, name: &[u8], page: &mut Page) -> Result<(), Fault>
-    ensures { Gives (λ _. page_of page.new) result (write_name left (values_of defs.now) name.now (page_of page.old)) }
+fn write_name(
+    left: u32,
+    defs: &Definitions,
+    known: &mut Wholes,
+    name: &[u8],
+    page: &mut Page,
+) -> Result<Levels, Fault>
+    requires { AreWholes (values_of defs.now) (wholes_of known.old) }
+    ensures known { AreWholes (values_of defs.now) (wholes_of known.new) }
+    ensures written { Gives (λ _. page_of page.new) result (write_name left (values_of defs.now) name.now (page_of page.old)) }
+    ensures whole { IfOk result (λ o. IfSome o (λ levels. IsWholeName (values_of defs.now) left name.now levels page.old.text.items page.new.text.items)) }
 {
     if left == 0 {
         return Err(Fault::Refused(Cause::ReplaceDepth));
     }
+    if let Some(whole) = known.get(name)
+        && whole.levels <= left
+    {
+        put_all(&whole.text, page)?;
+        return Ok(Some(whole.levels));
+    }
     match defs.value(name) {
-        Some(value) => write_text(left - 1, defs, value, page),
-        None => stays(name, page),
+        Some(value) => write_value(left - 1, defs, known, name, value, page),
+        None => {
+            stays(name, page)?;
+            Ok(None)
+        }
     }
 }
 
-/// Writes a text with the values of its names, where so many levels are left.
+/// Writes the value of a name, where so many levels are left for the names in it, and comes to know it.
 #[cycle(replacement)]
-pub fn write_text(left: u32, defs: &Definitions, text: &[u8], page: &mut Page) -> Result<(), Fault>
-    ensures { Gives (λ _. page_of page.new) result (write_text left (values_of defs.now) text.now (page_of page.old)) }
+fn write_value(
+    left: u32,
+    defs: &Definitions,
+    known: &mut Wholes,
+    name: &[u8],
+    value: &[u8],
+    page: &mut Page,
+) -> Result<Levels, Fault>
+    requires wholes { AreWholes (values_of defs.now) (wholes_of known.old) }
+    requires value { values_of defs.now name.now ≡ Some value.now }
+    requires room { left < 2 ^ 32 - 1 }
+    ensures known { AreWholes (values_of defs.now) (wholes_of known.new) }
+    ensures written { Gives (λ _. page_of page.new) result (write_text left (values_of defs.now) value.now (page_of page.old)) }
+    ensures whole { IfOk result (λ o. IfSome o (λ levels. IsWholeName (values_of defs.now) (left + 1) name.now levels page.old.text.items page.new.text.items)) }
+{
+    let start = page.text.as_slice().len();
+    let Some(levels) = write_pieces(left, defs, known, value, page)? else {
+        return Ok(None);
+    };
+    let levels = levels + 1;
+    let (_, text) = page.text.split_at(start);
+    known.add(*page.text.allocator(), name, levels, text)?;
+    Ok(Some(levels))
+}
+
+/// Writes a text with the values of its names, where so many levels are left, and comes to know them.
+#[cycle(replacement)]
+pub fn write_pieces(
+    left: u32,
+    defs: &Definitions,
+    known: &mut Wholes,
+    text: &[u8],
+    page: &mut Page,
+) -> Result<Levels, Fault>
+    requires { AreWholes (values_of defs.now) (wholes_of known.old) }
+    ensures known { AreWholes (values_of defs.now) (wholes_of known.new) }
+    ensures written { Gives (λ _. page_of page.new) result (write_text left (values_of defs.now) text.now (page_of page.old)) }
+    ensures whole { IfOk result (λ o. IfSome o (λ levels. IsWholeValue (values_of defs.now) left text.now levels page.old.text.items page.new.text.items)) }
 {
     let mut rest = text;
+    let mut levels = Some(0);
     'pieces: for _ in 0..text.len() {
         let [first, others @ ..] = rest else {
-            return Ok(());
+            return Ok(levels);
         };
         match reference_at(rest) {
             Some((name, behind)) => {
-                write_name(left, defs, name, page)?;
+                let more = write_name(left, defs, known, name, page)?;
+                levels = joined(levels, more);
                 rest = behind;
             }
             None => {
@@ -75,5 +147,5 @@ pub fn write_text(left: u32, defs: &Definitions, text: &[u8], page: &mut Page) -
             }
         }
     }
-    Ok(())
+    Ok(levels)
 }

@@ -17,7 +17,7 @@ abbrev pub names_of : List (String Global) → List (List ℕ)
 names_of files = map string_bytes files
 
 abbrev pub work_of : Work → spec.Work
-work_of w = record { defs = values_of w.defs; page = page_of w.page; files = names_of w.files.keys; places = w.places.items }
+work_of w = record { defs = values_of w.replacer.defs; page = page_of w.page; files = names_of w.files.keys; places = w.places.items }
 
 -- a name's number among the files, where it is entered if it is new; nothing but memory is wanting
 abbrev pub EntersAt : List ℕ → List (List ℕ) → List (List ℕ) → Result ℕ Fault → Type 0

@@ -22,10 +22,10 @@ use crate::naming::join;
 use crate::text::Expanded;
 use crate::work::{Work, read_line};
 use indexmap::IndexSet;
-use sl_directive::definitions::Definitions;
 use sl_directive::fault::{Cause, Fault};
 use sl_directive::first_line;
 use sl_directive::page::{LinePart, Page};
+use sl_directive::replacer::Replacer;
 use sl_outside::{FetchError, Files};
 use std::alloc::{AllocError, Global};
 
@@ -186,7 +186,7 @@ fn begin(alloc: Global, main: &str) -> Result<Work, AllocError>
         return Err(AllocError);
     }
     Ok(Work {
-        defs: Definitions::new(alloc),
+        replacer: Replacer::new(alloc),
         page: Page {
             text: Vec::new(alloc),
             part: LinePart::Plain,
@@ -201,7 +201,7 @@ fn finish(alloc: Global, work: Work) -> Result<Expanded, AllocError>
     ensures { IfOk result (λ e. seen e ≡ text_of (work_of work)) }
 {
     let Work {
-        defs: _,
+        replacer: _,
         page,
         files,
         places,

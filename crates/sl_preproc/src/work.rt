@@ -11,20 +11,19 @@ ghost use Rattle.sl_preproc.specs.Works.{work_of, names_of, EntersAt};
 use crate::groups::{Groups, is_conditional, is_live, turn};
 use crate::places::Place;
 use indexmap::IndexSet;
-use sl_directive::definitions::Definitions;
 use sl_directive::directive::{Directive, Keyword, directive_at, directive_line, keyword_at};
 use sl_directive::fault::{Cause, Fault};
 use sl_directive::page::{LinePart, Page, put};
-use sl_directive::replace::write_text;
+use sl_directive::replacer::Replacer;
 use std::alloc::Global;
 
 /// How deep replacements may stand within one another.
 const LEVELS: u32 = 16;
 
-/// The definitions in force, the text so far, the names of the files that give its lines, and the place of each line.
+/// The definitions in force with what is known of them, the text so far, the names of the files that give its lines, and the place of each line.
 #[derive(Drop)]
 pub struct Work {
-    pub defs: Definitions,
+    pub replacer: Replacer,
     pub page: Page,
     pub files: IndexSet<String>,
     pub places: Vec<Place>,
@@ -61,7 +60,7 @@ fn write_line(
     ensures { Gives (λ _. work_of work.new) result (text_line name.now line text.now (work_of work.old)) }
 {
     work.page.part = LinePart::Plain;
-    write_text(LEVELS, &work.defs, text, &mut work.page)?;
+    work.replacer.write_text(LEVELS, text, &mut work.page)?;
     put(b'\n', &mut work.page)?;
     let file = enter(alloc, name, &mut work.files)?;
     work.places.push(Place { file, line })?;
@@ -80,11 +79,11 @@ fn follow<'a>(
         None => Err(Fault::Refused(Cause::BadDirective)),
         Some(Directive::Include(name)) => Ok(Some(name)),
         Some(Directive::Define(name, value)) => {
-            work.defs.define(alloc, name, value)?;
+            work.replacer.define(alloc, name, value)?;
             Ok(None)
         }
         Some(Directive::Undef(name)) => {
-            work.defs.undefine(name);
+            work.replacer.undefine(name);
             Ok(None)
         }
     }
@@ -103,7 +102,7 @@ fn follow_line<'a>(
     ensures { Gives (λ o. (option_map (λ n. n.now) o, stack_of groups.new, work_of work.new)) result (directive_step line (keyword, rest.now) (stack_of groups.old) (work_of work.old)) }
 {
     if is_conditional(keyword) {
-        turn(alloc, &work.defs, line, keyword, rest, groups)?;
+        turn(alloc, &work.replacer.defs, line, keyword, rest, groups)?;
         return Ok(None);
     }
     if is_live(groups) {

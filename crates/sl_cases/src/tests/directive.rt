@@ -1,9 +1,9 @@
 //! Conditions and replacement, as tables.
 
-use sl_directive::definitions::Definitions;
 use sl_directive::directive::{Keyword, judge};
+use sl_directive::fault::Fault;
 use sl_directive::page::{LinePart, Page};
-use sl_directive::replace::write_text;
+use sl_directive::replacer::Replacer;
 use std::alloc::{AllocError, Global};
 use std::test::Fail;
 
@@ -33,18 +33,28 @@ static TEXTS: [(&str, &str); 4] = [
     ("# $(C)", "# $(C)"),
 ];
 
-fn definitions(alloc: Global) -> Result<Definitions, AllocError> {
-    let mut defs = Definitions::new(alloc);
-    defs.define(alloc, b"A", b"1")?;
-    defs.define(alloc, b"B", b"")?;
-    Ok(defs)
+fn definitions(alloc: Global) -> Result<Replacer, AllocError> {
+    let mut replacer = Replacer::new(alloc);
+    replacer.define(alloc, b"A", b"1")?;
+    replacer.define(alloc, b"B", b"")?;
+    Ok(replacer)
+}
+
+/// The text with the values of its names.
+fn replaced(alloc: Global, replacer: &mut Replacer, text: &str) -> Result<Vec<u8>, Fault> {
+    let mut page = Page {
+        text: Vec::new(alloc),
+        part: LinePart::Plain,
+    };
+    replacer.write_text(16, text.as_bytes(), &mut page)?;
+    Ok(page.text)
 }
 
 #[test]
 fn conditions(rt: HostRuntime) -> Result<(), Fail> {
-    let defs = definitions(rt.alloc())?;
+    let replacer = definitions(rt.alloc())?;
     for (text, wanted) in &CONDITIONS {
-        let holds = judge(rt.alloc(), &defs, Keyword::If, text.as_bytes())?;
+        let holds = judge(rt.alloc(), &replacer.defs, Keyword::If, text.as_bytes())?;
         assert_eq!(rt; holds, *wanted, "{text}");
     }
     Ok(())
@@ -52,14 +62,26 @@ fn conditions(rt: HostRuntime) -> Result<(), Fail> {
 
 #[test]
 fn texts(rt: HostRuntime) -> Result<(), Fail> {
-    let defs = definitions(rt.alloc())?;
+    let mut replacer = definitions(rt.alloc())?;
     for (text, wanted) in &TEXTS {
-        let mut page = Page {
-            text: Vec::new(rt.alloc()),
-            part: LinePart::Plain,
-        };
-        write_text(16, &defs, text.as_bytes(), &mut page)?;
-        assert_eq!(rt; page.text.as_slice(), wanted.as_bytes());
+        let text = replaced(rt.alloc(), &mut replacer, text)?;
+        assert_eq!(rt; text.as_slice(), wanted.as_bytes());
     }
+    Ok(())
+}
+
+#[test]
+fn a_value_that_names_what_is_defined_anew(rt: HostRuntime) -> Result<(), Fail> {
+    let alloc = rt.alloc();
+    let mut replacer = definitions(alloc)?;
+    replacer.define(alloc, b"C", b"$(A)$(B)$(A)")?;
+    assert_eq!(rt; replaced(alloc, &mut replacer, "$(C)$(C)")?.as_slice(), b"1111".as_slice());
+    replacer.define(alloc, b"A", b"2")?;
+    assert_eq!(rt; replaced(alloc, &mut replacer, "$(C)$(C)")?.as_slice(), b"2222".as_slice());
+    replacer.define(alloc, b"B", b"$(A)")?;
+    assert_eq!(rt; replaced(alloc, &mut replacer, "$(C)")?.as_slice(), b"222".as_slice());
+    replacer.undefine(b"A");
+    assert!(rt; replaced(alloc, &mut replacer, "$(C)").is_err());
+    assert_eq!(rt; replaced(alloc, &mut replacer, "#$(C)")?.as_slice(), b"#$(A)$(A)$(A)".as_slice());
     Ok(())
 }
