@@ -75,13 +75,25 @@ fn a_value_that_names_what_is_defined_anew(rt: HostRuntime) -> Result<(), Fail> 
     let alloc = rt.alloc();
     let mut replacer = definitions(alloc)?;
     replacer.define(alloc, b"C", b"$(A)$(B)$(A)")?;
-    assert_eq!(rt; replaced(alloc, &mut replacer, "$(C)$(C)")?.as_slice(), b"1111".as_slice());
+    assert_eq!(rt;
+        replaced(alloc, &mut replacer, "$(C)$(C)")?.as_slice(),
+        b"1111".as_slice()
+    );
     replacer.define(alloc, b"A", b"2")?;
-    assert_eq!(rt; replaced(alloc, &mut replacer, "$(C)$(C)")?.as_slice(), b"2222".as_slice());
+    assert_eq!(rt;
+        replaced(alloc, &mut replacer, "$(C)$(C)")?.as_slice(),
+        b"2222".as_slice()
+    );
     replacer.define(alloc, b"B", b"$(A)")?;
-    assert_eq!(rt; replaced(alloc, &mut replacer, "$(C)")?.as_slice(), b"222".as_slice());
+    assert_eq!(rt;
+        replaced(alloc, &mut replacer, "$(C)")?.as_slice(),
+        b"222".as_slice()
+    );
     replacer.undefine(b"A");
     assert!(rt; replaced(alloc, &mut replacer, "$(C)").is_err());
-    assert_eq!(rt; replaced(alloc, &mut replacer, "#$(C)")?.as_slice(), b"#$(A)$(A)$(A)".as_slice());
+    assert_eq!(rt;
+        replaced(alloc, &mut replacer, "#$(C)")?.as_slice(),
+        b"#$(A)$(A)$(A)".as_slice()
+    );
     Ok(())
 }
