@@ -1,5 +1,6 @@
 pub mod OrderLemmas
 pub mod SideLemmas
+pub mod SharedLemmas
 pub mod TreeLemmas
 pub mod ChooserLemmas
 pub mod EntryLemmas

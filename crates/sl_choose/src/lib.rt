@@ -5,6 +5,7 @@ mod chooser;
 mod entries;
 pub mod laws;
 mod order;
+mod shared;
 mod sides;
 mod tree;
 

@@ -3,8 +3,10 @@
 ghost use Rattle.std.specs.Prelude.{◌≡◌, ◌↔◌, ◌≤◌, IsTrue, IfOk, MatchOption, length};
 ghost use Rattle.sl_cube.specs.Search.{Lacks};
 ghost use Rattle.sl_choose.specs.Picked.{lacks};
+ghost use Rattle.sl_choose.specs.Shared.{IsShared};
 ghost use Rattle.sl_choose.specs.Sides.{SetsNone, Covers, IsPut, IsSides, IsForced, HasNoForced, HasNoForcedByte, HasNoForcedContext, IsDivided, AllCover, SomeClear, SomeSet};
 
+use super::shared::{Shared, may_differ, shared_by};
 use super::{Entry, Halves};
 use sl_cube::{Cube, Point};
 use std::alloc::{AllocError, Global};
@@ -103,7 +105,7 @@ fn some_set(entries: &[Entry], bits: &Point) -> bool
 }
 
 /// Whether all cubes fix the bits, and two of them differ in them.
-fn is_forced(entries: &[Entry], bits: &Point) -> bool
+fn differ(entries: &[Entry], bits: &Point) -> bool
     ensures { IsTrue result ↔ IsForced entries.now bits.now }
 {
     let cover = all_cover(entries, bits);
@@ -112,8 +114,19 @@ fn is_forced(entries: &[Entry], bits: &Point) -> bool
     cover && clear && set
 }
 
+/// The same, looked at only where it may be by what the cubes have in common.
+fn is_forced(shared: &Shared, entries: &[Entry], bits: &Point) -> bool
+    requires { IsShared entries.now shared.now }
+    ensures { IsTrue result ↔ IsForced entries.now bits.now }
+{
+    let _bytes = bits.bytes;
+    let _context = bits.context;
+    may_differ(shared, bits) && differ(entries, bits)
+}
+
 /// The least bit of the bytes that all cubes fix and in which two differ.
-fn forced_byte(entries: &[Entry]) -> Option<Point>
+fn forced_byte(shared: &Shared, entries: &[Entry]) -> Option<Point>
+    requires { IsShared entries.now shared.now }
     ensures { MatchOption result (HasNoForcedByte entries.now 128) (IsForced entries.now) }
 {
     for place in 0..128u32 {
@@ -121,7 +134,7 @@ fn forced_byte(entries: &[Entry]) -> Option<Point>
             bytes: 1 << place,
             context: 0,
         };
-        if is_forced(entries, &bits) {
+        if is_forced(shared, entries, &bits) {
             return Some(bits);
         }
     }
@@ -129,7 +142,8 @@ fn forced_byte(entries: &[Entry]) -> Option<Point>
 }
 
 /// The least bit of the context that all cubes fix and in which two differ.
-fn forced_context(entries: &[Entry]) -> Option<Point>
+fn forced_context(shared: &Shared, entries: &[Entry]) -> Option<Point>
+    requires { IsShared entries.now shared.now }
     ensures { MatchOption result (HasNoForcedContext entries.now 64) (IsForced entries.now) }
 {
     for place in 0..64u32 {
@@ -137,7 +151,7 @@ fn forced_context(entries: &[Entry]) -> Option<Point>
             bytes: 0,
             context: 1 << place,
         };
-        if is_forced(entries, &bits) {
+        if is_forced(shared, entries, &bits) {
             return Some(bits);
         }
     }
@@ -148,9 +162,10 @@ fn forced_context(entries: &[Entry]) -> Option<Point>
 pub fn forced(entries: &[Entry]) -> Option<Point>
     ensures { MatchOption result (HasNoForced entries.now) (IsForced entries.now) }
 {
-    let byte = forced_byte(entries);
+    let shared = shared_by(entries);
+    let byte = forced_byte(&shared, entries);
     let Some(bits) = byte else {
-        return forced_context(entries);
+        return forced_context(&shared, entries);
     };
     Some(bits)
 }

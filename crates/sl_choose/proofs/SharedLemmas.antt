@@ -1,0 +1,119 @@
+-- What the cubes of some first entries have in common.
+use Rattle.std.proofs.Common.{◌≡◌, ℕ, ◌+◌, ◌-◌, ◌<◌, ◌≤◌, ◌^◌, List, length, get_or, below_more, min, max, bit_and, bit_or, arith, sym, ◌∙◌, ap, subst}
+use Rattle.std.specs.Int.{bit_at}
+use Rattle.std.specs.Int.Bits.{and_zero_l, and_zero_r}
+use Rattle.std.specs.List.{HoldsAt}
+use Rattle.std.proofs.lemmas.Nat.{and-not, and_assoc, and_comm}
+use Rattle.std.proofs.lemmas.Nat.Bits.{bit_at_and, bit_at_or, bit_at-lt, bit_at-zero, same_from_bits}
+use Rattle.std.proofs.lemmas.List.Elements.{at_read}
+use Rattle.sl_cube.specs.declared.Cube.{Cube}
+use Rattle.sl_cube.specs.declared.Point.{Point}
+use Rattle.sl_choose.specs.declared.Entry.{Entry}
+use Rattle.sl_choose.specs.declared.shared.Shared.{Shared}
+use Rattle.sl_choose.specs.Shared.{HasAll, HasNone, IsShared, Joins}
+use Rattle.sl_choose.specs.Sides.{AllCover, SetsNone, SomeClear}
+use Rattle.sl_choose.proofs.SideLemmas.{none_set}
+
+-- ---- bits of two numbers
+
+and_all : (a m b : ℕ) → bit_and a b ≡ b → bit_and m b ≡ b → bit_and (bit_and a m) b ≡ b
+and_all a m b has also = and_assoc b a m ∙ ap (bit_and a) also ∙ has
+
+and_right : (a v b : ℕ) → bit_and v b ≡ 0 → bit_and (bit_and a v) b ≡ 0
+and_right a v b none = and_assoc b a v ∙ ap (bit_and a) none ∙ and_zero_r a
+
+and_left : (a v b : ℕ) → bit_and a b ≡ 0 → bit_and (bit_and a v) b ≡ 0
+and_left a v b none = ap (λ x. bit_and x b) (and_comm a v) ∙ and_right v a b none
+
+either_bit : (x y b : ℕ) → x < 2 → y < 2 → b < 2 → min (max x y) b ≡ 0 → (min x b ≡ 0) × (min y b ≡ 0)
+either_bit x y b hx hy hb none = (grind arith, grind arith)
+
+or_bit : (a v b i : ℕ) → bit_and (bit_or a v) b ≡ 0 → (min (bit_at a i) (bit_at b i) ≡ 0) × (min (bit_at v i) (bit_at b i) ≡ 0)
+or_bit a v b i none =
+    either_bit (bit_at a i) (bit_at v i) (bit_at b i) (bit_at-lt a i) (bit_at-lt v i) (bit_at-lt b i)
+    (ap (λ x. min x (bit_at b i)) (sym (bit_at_or a v i)) ∙ sym (bit_at_and (bit_or a v) b i) ∙ ap (λ n. bit_at n i) none ∙ bit_at-zero i)
+
+or_none : (a v b : ℕ) → bit_and (bit_or a v) b ≡ 0 → (bit_and a b ≡ 0) × (bit_and v b ≡ 0)
+or_none a v b none = (
+  same_from_bits _ _ (λ i. bit_at_and a b i ∙ (or_bit a v b i none).0 ∙ sym (bit_at-zero i)),
+  same_from_bits _ _ (λ i. bit_at_and v b i ∙ (or_bit a v b i none).1 ∙ sym (bit_at-zero i)),
+)
+
+all_in : (w n : ℕ) → n < 2 ^ w → bit_and (2 ^ w - 1) n ≡ n
+all_in w n within =
+    let whole : 2 ^ w - 1 - 0 ≡ 2 ^ w - 1 = omega arith in
+    let both : bit_and (2 ^ w - 1 - 0) n + bit_and 0 n ≡ n = and-not w 0 n (omega (arith, within)) within in
+    let none : bit_and 0 n ≡ 0 = and_zero_l n in
+    ap (λ x. bit_and x n) (sym whole) ∙ omega (arith, both, none)
+
+-- ---- one more entry
+
+pub record SharedFirst (entries : List Entry) (s : Shared) (n : ℕ) : Type 0 where
+  pub fixed : (bits : Point) → bits.bytes < 2 ^ 128 → bits.context < 2 ^ 64 → AllCover entries bits → HasAll s.fixed bits
+  pub some : (bits : Point) → HasNone s.some bits → (k : ℕ) → k < n → HoldsAt (λ (e : Entry). SetsNone e.cube bits) entries k
+  pub all : (bits : Point) (k : ℕ) → k < n → HoldsAt (λ (e : Entry). SetsNone e.cube bits → HasNone s.all bits) entries k
+
+abbrev pub nothing : Shared
+nothing = record {
+  fixed = record { bytes = 2 ^ 128 - 1; context = 2 ^ 64 - 1 };
+  some = record { bytes = 0; context = 0 };
+  all = record { bytes = 2 ^ 128 - 1; context = 2 ^ 64 - 1 };
+}
+
+pub shared_none : (entries : List Entry) (s : Shared) → s ≡ nothing → SharedFirst entries s 0
+shared_none entries s is = record {
+  fixed = λ bits bytes context cover. subst (λ (x : Shared). HasAll x.fixed bits) (sym is) (all_in 128 bits.bytes bytes, all_in 64 bits.context context);
+  some = λ bits none k below. absurd (omega arith);
+  all = λ bits k below. absurd (omega arith);
+}
+
+has_more : (s t : Shared) (c : Cube) (bits : Point) → Joins s c t → HasAll s.fixed bits
+    → (bit_and c.mask bits.bytes ≡ bits.bytes) × (bit_and c.ctx_mask bits.context ≡ bits.context) → HasAll t.fixed bits
+has_more s t c bits joins has covers = (
+  ap (λ x. bit_and x bits.bytes) joins.fixed.0 ∙ and_all s.fixed.bytes c.mask bits.bytes has.0 covers.0,
+  ap (λ x. bit_and x bits.context) joins.fixed.1 ∙ and_all s.fixed.context c.ctx_mask bits.context has.1 covers.1,
+)
+
+some_less : (s t : Shared) (c : Cube) (bits : Point) → Joins s c t → HasNone t.some bits → HasNone s.some bits × SetsNone c bits
+some_less s t c bits joins none =
+    let bytes = or_none s.some.bytes c.value bits.bytes (ap (λ x. bit_and x bits.bytes) (sym joins.some.0) ∙ none.0) in
+    let context = or_none s.some.context c.ctx_value bits.context (ap (λ x. bit_and x bits.context) (sym joins.some.1) ∙ none.1) in
+    ((bytes.0, context.0), (bytes.1, context.1))
+
+none_kept : (s t : Shared) (c : Cube) (bits : Point) → Joins s c t → HasNone s.all bits → HasNone t.all bits
+none_kept s t c bits joins none = (
+  ap (λ x. bit_and x bits.bytes) joins.all.0 ∙ and_left s.all.bytes c.value bits.bytes none.0,
+  ap (λ x. bit_and x bits.context) joins.all.1 ∙ and_left s.all.context c.ctx_value bits.context none.1,
+)
+
+none_come : (s t : Shared) (c : Cube) (bits : Point) → Joins s c t → SetsNone c bits → HasNone t.all bits
+none_come s t c bits joins none = (
+  ap (λ x. bit_and x bits.bytes) joins.all.0 ∙ and_right s.all.bytes c.value bits.bytes none.0,
+  ap (λ x. bit_and x bits.context) joins.all.1 ∙ and_right s.all.context c.ctx_value bits.context none.1,
+)
+
+pub shared_more : (entries : List Entry) (s t : Shared) (e : Entry) (n : ℕ) → n < length entries → e ≡ get_or entries n e → Joins s e.cube t
+    → SharedFirst entries s n → SharedFirst entries t (n + 1)
+shared_more entries s t e n below is joins first = record {
+  fixed = λ bits bytes context cover. has_more s t e.cube bits joins (first.fixed bits bytes context cover) (cover e (n, below, sym is));
+  some = λ bits none.
+      let less = some_less s t e.cube bits joins none in
+      below_more _ _ (first.some bits less.0) (at_read entries (λ (x : Entry). SetsNone x.cube bits) n e below is less.1);
+  all = λ bits.
+      below_more _ _ (λ k h d clear. none_kept s t e.cube bits joins (first.all bits k h d clear))
+      (at_read entries (λ (x : Entry). SetsNone x.cube bits → HasNone t.all bits) n e below is (none_come s t e.cube bits joins));
+}
+
+-- ---- all entries
+
+none_in_all : (entries : List Entry) (s : Shared) (bits : Point) (n : ℕ) → length entries ≤ n → SharedFirst entries s n → SomeClear entries bits → HasNone s.all bits
+none_in_all entries s bits n whole first clear =
+    let lt : clear.1.0 < n = omega (arith, clear.1.1) in
+    (subst (λ (x : Entry). SetsNone x.cube bits → HasNone s.all bits) clear.1.2 (first.all bits clear.1.0 lt clear.0)) clear.2
+
+pub shared_whole : (entries : List Entry) (s : Shared) (n : ℕ) → length entries ≤ n → SharedFirst entries s n → IsShared entries s
+shared_whole entries s n whole first = record {
+  fixed = first.fixed;
+  some = λ bits set none. none_set entries bits n whole (first.some bits none) set;
+  all = λ bits clear. none_in_all entries s bits n whole first clear;
+}
