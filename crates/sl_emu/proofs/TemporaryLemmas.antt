@@ -1,16 +1,18 @@
--- Temporary bytes as those of a space whose addresses have four bytes.
-use Rattle.std.proofs.Common.{◌≡◌, ℕ, zero, suc, ◌+◌, ◌-◌, ◌*◌, ◌%◌, ◌^◌, ◌<◌, ◌≤◌, List, length, get_or, refl, sym, ap, ◌∙◌, inl, inr, arith}
-use mathlib.Core.Path.{fun_ext}
+-- Temporary bytes in blocks.
+use Rattle.std.specs.declared.alloc.Global.{Global}
+use Rattle.std.proofs.Common.{◌≡◌, ◌≢◌, ℕ, zero, suc, ◌+◌, ◌-◌, ◌*◌, ◌/◌, ◌%◌, ◌^◌, ◌<◌, ◌≤◌, List, [], ◌∷◌, ◌++◌, Vec, Some, length, get_or, set, below_more, refl, subst, sym, ap, ◌∙◌, inl, inr, arith}
 use Rattle.std.specs.Prelude.{if◌then◌else◌, ◌&&◌, nat_lt, nat_le}
+use Rattle.std.specs.List.{HoldsAt, slice_get}
 use Rattle.std.proofs.lemmas.Bool.{cases_lt}
 use Rattle.std.proofs.lemmas.Bool.Decides.{nat_tests}
-use Rattle.std.proofs.lemmas.List.{get_or_past, places}
+use Rattle.std.proofs.lemmas.List.{get_or-set_other, get_or-set_same, length-set, places}
+use Rattle.std.proofs.lemmas.Option.{slice_get_cases, slice_get-get_or}
 use borrow.Rule.Slice.PartMut.{put_mid}
-use Rattle.std.proofs.Math.Nat.{mod-eq_of_lt}
-use Rattle.sl_word.specs.Layout.{Puts, big_endian, little_endian, number_of}
+use Rattle.sl_word.specs.Layout.{big_endian, little_endian, number_of}
 use Rattle.sl_word.specs.declared.word.Endian.{Endian}
 use Rattle.sl_word.specs.declared.word.Endian.TheVariants.{Little, Big}
 use Rattle.sl_pcode.specs.Machine.{with_temporaries}
+use Rattle.sl_emu.specs.Temporaries.{byte_in, bytes_in}
 
 little_along : (f g : ℕ → ℕ) (n : ℕ) → ((i : ℕ) → i < n → f i ≡ g i) → little_endian f n ≡ little_endian g n
 little_along f g zero same = refl
@@ -27,14 +29,6 @@ pub number_along : (endian : Endian) (f g : ℕ → ℕ) (n : ℕ) → ((i : ℕ
 number_along Little f g n same = little_along f g n same
 number_along Big f g n same = big_along f g n same
 
--- where nothing goes round the end
-straight : (offset i n m : ℕ) → i < n → offset + n ≤ m → (offset + i) % m ≡ offset + i
-straight offset i n m inside room = mod-eq_of_lt (omega arith)
-
-pub number_straight : (endian : Endian) (bytes : ℕ → ℕ) (offset n m : ℕ) → offset + n ≤ m → number_of endian (λ i. bytes ((offset + i) % m)) n ≡ number_of endian (λ i. bytes (offset + i)) n
-number_straight endian bytes offset n m room =
-    number_along endian (λ i. bytes ((offset + i) % m)) (λ i. bytes (offset + i)) n (λ i h. ap bytes (straight offset i n m h room))
-
 here : (offset o n x y : ℕ) → offset ≤ o → o < offset + n → (if nat_le offset o && nat_lt o (offset + n) then x else y) ≡ x
 here offset o n x y from below = grind (arith, nat_tests)
 
@@ -43,40 +37,6 @@ before offset o n x y less = grind (arith, nat_tests)
 
 behind : (offset o n x y : ℕ) → offset + n ≤ o → (if nat_le offset o && nat_lt o (offset + n) then x else y) ≡ y
 behind offset o n x y more = grind (arith, nat_tests)
-
-put_at : (offset n m : ℕ) (byte old new : ℕ → ℕ) → offset + n ≤ m → Puts m offset n byte old new → (o : ℕ) → new o ≡ with_temporaries offset n byte old o
-put_at offset n m byte old new room puts o =
-    elim (cases_lt o offset) [
-      | inl less ↦
-          puts.kept o (λ i h e. let at = straight offset i n m h room in absurd (omega arith))
-          ∙ sym (before offset o n (byte (o - offset)) (old o) less)
-      | inr from ↦
-          elim (cases_lt o (offset + n)) [
-            | inl below ↦
-                let inside : o - offset < n = omega arith in
-                let at : (offset + (o - offset)) % m ≡ o = straight offset (o - offset) n m inside room ∙ (let e : offset + (o - offset) ≡ o = omega arith in e) in
-                ap new (sym at) ∙ puts.put (o - offset) inside ∙ sym (here offset o n (byte (o - offset)) (old o) from below)
-            | inr more ↦
-                puts.kept o (λ i h e. let at = straight offset i n m h room in absurd (omega arith))
-                ∙ sym (behind offset o n (byte (o - offset)) (old o) more)
-          ]
-    ]
-
--- Bytes that are put are the old ones with these.
-pub put_straight : (offset n m : ℕ) (byte old new : ℕ → ℕ) → offset + n ≤ m → Puts m offset n byte old new → new ≡ with_temporaries offset n byte old
-put_straight offset n m byte old new room puts = fun_ext (λ o. put_at offset n m byte old new room puts o)
-
--- Bytes that are put at 0 among zeros are all there is.
-pub held_from_0 : (m : ℕ) (bytes : List ℕ) (old new : ℕ → ℕ) → length bytes ≤ m → ((o : ℕ) → old o ≡ 0) → Puts m 0 (length bytes) (λ i. get_or bytes i 0) old new → new ≡ (λ o. get_or bytes o 0)
-held_from_0 m bytes old new short zeros puts =
-    fun_ext (λ o. elim (cases_lt o (length bytes)) [
-      | inl inside ↦
-          let at : (0 + o) % m ≡ o = straight 0 o (length bytes) m inside (omega arith) ∙ (let e : 0 + o ≡ o = omega arith in e) in
-          ap new (sym at) ∙ puts.put o inside
-      | inr behind ↦
-          puts.kept o (λ i h e. let at = straight 0 i (length bytes) m h (omega arith) in absurd (omega arith))
-          ∙ zeros o ∙ sym (get_or_past bytes o 0 behind)
-    ])
 
 -- a list of bytes with others over a part of it
 pub overwritten : (offset n k : ℕ) (bytes ys : List ℕ) (byte : ℕ → ℕ) → k ≡ n → offset + n ≤ length bytes → length ys ≡ n → ((i : ℕ) → i < n → get_or ys i 0 ≡ byte i) → (o : ℕ)
@@ -95,5 +55,101 @@ overwritten offset n k bytes ys byte same room whole is o =
             | inr more ↦
                 (let e : get_or (put_mid offset k bytes ys) o 0 ≡ get_or bytes o 0 = grind (arith, places) in e)
                 ∙ sym (behind offset o n (byte (o - offset)) (get_or bytes o 0) more)
+          ]
+    ]
+
+-- ---- blocks of 2^20 bytes
+
+parts : (o : ℕ) → (o ≡ o / 1048576 * 1048576 + o % 1048576) × (o % 1048576 < 1048576)
+parts o = (omega arith, omega arith)
+
+-- ---- lists of blocks
+
+abbrev pub Block : Type 0
+Block = Vec ℕ Global
+
+abbrev pub IsEmpty : Block → Type 0
+IsEmpty block = block.items ≡ []
+
+pub emptied : (blocks : List Block) (n : ℕ) (b : Block) → n < length blocks → IsEmpty b → ((k : ℕ) → k < n → HoldsAt IsEmpty blocks k)
+    → (k : ℕ) → k < n + 1 → HoldsAt IsEmpty (set blocks n b) k
+emptied blocks n b inside empty before =
+    below_more _ _
+    (λ k h d. let other : k ≢ n = omega arith in rw get_or-set_other (before k h d))
+    (λ d. rw get_or-set_same empty)
+
+pub all_empty : (blocks : List Block) (n : ℕ) → length blocks ≤ n → ((k : ℕ) → k < n → HoldsAt IsEmpty blocks k) → (o : ℕ) → bytes_in blocks o ≡ 0
+all_empty blocks n whole empty o =
+    elim ((slice_get_cases blocks (o / 1048576)).1) [
+      | inl found ↦
+          ap (λ x. byte_in x (o % 1048576)) found.2
+          ∙ ap (λ l. get_or l (o % 1048576) 0) (subst (λ (b : Block). b.items ≡ []) found.3 (empty (o / 1048576) (omega (arith, found.1, whole)) found.0))
+      | inr past ↦ ap (λ x. byte_in x (o % 1048576)) past.1
+    ]
+
+added_at : (blocks : List Block) (b : Block) (j p : ℕ) → IsEmpty b → byte_in (slice_get (blocks ++ b ∷ []) j) p ≡ byte_in (slice_get blocks j) p
+added_at [] b zero p empty = ap (λ l. get_or l p 0) empty
+added_at [] b (suc j) p empty = refl
+added_at (x ∷ blocks) b zero p empty = refl
+added_at (x ∷ blocks) b (suc j) p empty = added_at blocks b j p empty
+
+pub added : (blocks : List Block) (b : Block) → IsEmpty b → (o : ℕ) → bytes_in (blocks ++ b ∷ []) o ≡ bytes_in blocks o
+added blocks b empty o = added_at blocks b (o / 1048576) (o % 1048576) empty
+
+-- ---- bytes that are put
+
+moved : (offset n q p o : ℕ) (byte f g : ℕ → ℕ) → o + q ≡ offset + p → f p ≡ g o → with_temporaries q n byte f p ≡ with_temporaries offset n byte g o
+moved offset n q p o byte f g shift same =
+    elim (cases_lt p q) [
+      | inl less ↦ before q p n (byte (p - q)) (f p) less ∙ same ∙ sym (before offset o n (byte (o - offset)) (g o) (omega arith))
+      | inr from ↦
+          elim (cases_lt p (q + n)) [
+            | inl below ↦
+                let at : p - q ≡ o - offset = omega arith in
+                here q p n (byte (p - q)) (f p) from below ∙ ap byte at
+                ∙ sym (here offset o n (byte (o - offset)) (g o) (omega arith) (omega arith))
+            | inr more ↦ behind q p n (byte (p - q)) (f p) more ∙ same ∙ sym (behind offset o n (byte (o - offset)) (g o) (omega arith))
+          ]
+    ]
+
+set_other : (blocks : List Block) (k j : ℕ) (b : Block) → (j ≡ k → ⊥) → slice_get (set blocks k b) j ≡ slice_get blocks j
+set_other [] k j b other = refl
+set_other (x ∷ blocks) zero zero b other = absurd (other refl)
+set_other (x ∷ blocks) zero (suc j) b other = refl
+set_other (x ∷ blocks) (suc k) zero b other = refl
+set_other (x ∷ blocks) (suc k) (suc j) b other = set_other blocks k j b (λ e. other (ap suc e))
+
+set_same : (blocks : List Block) (k : ℕ) (b : Block) → k < length blocks → slice_get (set blocks k b) k ≡ Some b
+set_same blocks k b inside =
+    let within : k < length (set blocks k b) = rw length-set inside in
+    slice_get-get_or (set blocks k b) k b within ∙ ap (λ x. Some x) (get_or-set_same blocks k b b inside)
+
+-- Bytes that are put into a block are put among all.
+pub put_at_block : (before_it blocks : List Block) (old new : Block) (offset n : ℕ) (byte : ℕ → ℕ) → offset / 1048576 < length blocks → old ≡ get_or blocks (offset / 1048576) old
+    → ((o : ℕ) → bytes_in blocks o ≡ bytes_in before_it o) → offset % 1048576 + n ≤ 1048576
+    → ((p : ℕ) → get_or new.items p 0 ≡ with_temporaries (offset % 1048576) n byte (λ i. get_or old.items i 0) p)
+    → (o : ℕ) → bytes_in (set blocks (offset / 1048576) new) o ≡ with_temporaries offset n byte (bytes_in before_it) o
+put_at_block before_it blocks old new offset n byte inside is same room put o =
+    let k : ℕ = offset / 1048576 in
+    let j : ℕ = o / 1048576 in
+    let p : ℕ = o % 1048576 in
+    let ours = parts o in
+    let theirs = parts offset in
+    elim (cases_lt (o / 1048576) (offset / 1048576)) [
+      | inl less ↦
+          ap (λ x. byte_in x p) (set_other blocks k j new (λ e. omega (arith, less, e))) ∙ same o
+          ∙ sym (before offset o n (byte (o - offset)) (bytes_in before_it o) (omega (arith, less, ours, theirs, room)))
+      | inr from ↦
+          elim (cases_lt (offset / 1048576) (o / 1048576)) [
+            | inl more ↦
+                ap (λ x. byte_in x p) (set_other blocks k j new (λ e. omega (arith, more, e))) ∙ same o
+                ∙ sym (behind offset o n (byte (o - offset)) (bytes_in before_it o) (omega (arith, more, ours, theirs, room)))
+            | inr up ↦
+                let e : o / 1048576 ≡ offset / 1048576 = omega (arith, from, up) in
+                let was : get_or old.items p 0 ≡ bytes_in before_it o =
+                sym (ap (λ x. byte_in (slice_get blocks x) p) e ∙ ap (λ y. byte_in y p) (slice_get-get_or blocks k old inside ∙ ap (λ x. Some x) (sym is))) ∙ same o
+                in
+                ap (λ x. byte_in (slice_get (set blocks k new) x) p) e ∙ ap (λ y. byte_in y p) (set_same blocks k new inside) ∙ put p
+                ∙ moved offset n (offset % 1048576) p o byte (λ i. get_or old.items i 0) (bytes_in before_it) (omega (arith, e, ours, theirs)) was
           ]
     ]

@@ -3,7 +3,6 @@
 
 mod emu;
 mod laws;
-mod paged;
 mod run;
 mod step;
 mod temporaries;

@@ -1,30 +1,30 @@
 //! The temporary bytes of runs.
 
-ghost use Rattle.std.specs.Prelude.{◌≡◌, ℕ, ◌+◌, ◌^◌, ◌≤◌, length, slice_index, vec_len, ◌<◌, OnOk};
-ghost use Rattle.std.specs.Option.{ForSome};
+ghost use Rattle.std.specs.Prelude.{◌≡◌, ℕ, ◌+◌, ◌/◌, ◌%◌, ◌^◌, ◌<◌, ◌≤◌, [], length, slice_get, slice_index, OnOk};
+ghost use Rattle.std.specs.Prelude.{IfSome, Some, Vec};
 ghost use Rattle.sl_word.specs.Layout.{byte_of, number_of};
 ghost use Rattle.sl_pcode.specs.Machine.{with_temporaries};
-ghost use Rattle.sl_emu.specs.Paged.{paged_bytes, paged_order};
+ghost use Rattle.sl_emu.specs.Temporaries.{bytes_in};
 
-use crate::paged::Paged;
 use sl_word::{Endian, Size, Word};
 use std::alloc::{AllocError, Global};
 
-// Up to this offset temporary bytes lie in the buffer.
-const BUFFER_END: usize = 65_536;
+// So many offsets have a buffer of their own.
+const BLOCK: u64 = 1 << 20;
+
+// So many buffers keep their memory from one run to the next.
+const KEPT: usize = 64;
 
 /// Temporary bytes by their offsets, which are below 2^32, all 0 at first.
 ///
-/// They lie in one buffer that grows as it is written, and in pages from the first write on that ends
-/// past 65,536. The buffer's memory is kept from one run to the next.
+/// Each 2^20 offsets have a buffer that grows as it is written, since a list has those of each node
+/// of its instruction from a multiple of 2^20 on. The memory of the first 64 buffers is kept from one
+/// run to the next.
 #[derive(Drop)]
 pub struct Temporaries {
     alloc: Global,
     endian: Endian,
-    buffer: Vec<u8>,
-    pages: Option<Paged>,
-    ghost short: { vec_len buffer ≤ 65536 },
-    ghost order: { ForSome pages (λ p. paged_order p ≡ endian) },
+    blocks: Vec<Vec<u8>>,
 }
 
 #[tactic(auto, unfolding(crate::specs::Temporaries::temporary_bytes, crate::specs::Temporaries::order_of))]
@@ -38,8 +38,7 @@ impl Temporaries {
         Temporaries {
             alloc,
             endian: Endian::Little,
-            buffer: Vec::new(alloc),
-            pages: None,
+            blocks: Vec::new(alloc),
         }
     }
 
@@ -48,9 +47,9 @@ impl Temporaries {
         ensures order { order_of self.new ≡ endian }
         ensures zero { temporary_bytes self.new ≡ λ offset. 0 }
     {
-        self.pages = None;
         self.endian = endian;
-        self.buffer.clear();
+        self.blocks.truncate(KEPT);
+        clear_all(&mut self.blocks);
     }
 
     // The number that the bytes from an offset on make.
@@ -59,10 +58,7 @@ impl Temporaries {
         ensures size { result.size ≡ size }
         ensures value { result.bits ≡ number_of (order_of self.now) (λ i. temporary_bytes self.now (offset + i)) size.bytes }
     {
-        match &self.pages {
-            Some(pages) => pages.read(offset, size),
-            None => word_at(&self.buffer, self.endian, offset, size),
-        }
+        word_at(&self.blocks, self.endian, offset, size)
     }
 
     // Puts the bytes of a word from an offset on.
@@ -72,88 +68,180 @@ impl Temporaries {
         ensures put { OnOk result (temporary_bytes self.new
             ≡ with_temporaries offset word.size.bytes (byte_of (order_of self.old) word.size.bytes word.bits) (temporary_bytes self.old)) }
     {
-        let end = offset as usize + usize::from(word.size.get());
-        if self.pages.is_none() && end > BUFFER_END {
-            self.pages = Some(Paged::holding(self.alloc, self.endian, &self.buffer)?);
-        }
-        match &mut self.pages {
-            Some(pages) => pages.write(offset, word),
-            None => put_word(&mut self.buffer, self.endian, offset, word),
-        }
+        put_word(self.alloc, &mut self.blocks, self.endian, offset, word)
     }
 }
 
-// The word that bytes of a buffer make from an offset on. Behind the buffer they are 0.
-fn word_at(buffer: &[u8], endian: Endian, offset: u64, size: Size) -> Word
+// Makes all blocks empty.
+fn clear_all(blocks: &mut [Vec<u8>])
+    ensures { (offset : ℕ) → bytes_in blocks.new offset ≡ 0 }
+{
+    'blocks: for index in 0..blocks.len() {
+        blocks[index].clear();
+    }
+}
+
+fn byte_at(blocks: &[Vec<u8>], offset: u64) -> u8
+    ensures { result ≡ bytes_in blocks.now offset }
+{
+    match blocks.get((offset / BLOCK) as usize) {
+        Some(block) => block.get((offset % BLOCK) as usize).copied().unwrap_or(0),
+        None => 0,
+    }
+}
+
+// The word that the bytes from an offset on make.
+fn word_at(blocks: &[Vec<u8>], endian: Endian, offset: u64, size: Size) -> Word
     requires { offset + size.bytes ≤ 2 ^ 32 }
     ensures size { result.size ≡ size }
-    ensures value { result.bits ≡ number_of endian (λ i. slice_index buffer.now (offset + i)) size.bytes }
+    ensures value { result.bits ≡ number_of endian (λ i. bytes_in blocks.now (offset + i)) size.bytes }
 {
-    let start = offset as usize;
-    let end = start + usize::from(size.get());
-    if end <= buffer.len() {
-        Word::from_bytes(endian, size, &buffer[start..end])
-    } else {
-        let whole = front_of(rest_from(buffer, start));
-        Word::from_bytes(endian, size, &whole[..usize::from(size.get())])
+    let count = usize::from(size.get());
+    match in_block(blocks, offset, count) {
+        Some(bytes) => Word::from_bytes(endian, size, bytes),
+        None => {
+            let whole = front_of(blocks, offset);
+            Word::from_bytes(endian, size, &whole[..count])
+        }
     }
 }
 
-// What lies behind a place of a buffer.
-fn rest_from(buffer: &[u8], start: usize) -> &[u8]
-    ensures { (i : ℕ) → slice_index result.now i ≡ slice_index buffer.now (start + i) }
+// The bytes from an offset on, where all of them are there in one block.
+fn in_block(blocks: &[Vec<u8>], offset: u64, count: usize) -> Option<&[u8]>
+    requires { count ≤ 16 }
+    ensures { IfSome result (λ bytes. (length bytes.now ≡ count)
+        × ((i : ℕ) → i < count → slice_index bytes.now i ≡ bytes_in blocks.now (offset + i))) }
 {
-    match buffer.get(start..) {
-        Some(rest) => rest,
-        None => &[],
+    let block = blocks.get((offset / BLOCK) as usize)?;
+    let place = (offset % BLOCK) as usize;
+    if place + count > BLOCK as usize {
+        return None;
     }
+    block.get(place..place + count)
 }
 
-// The first 16 bytes, with zeros behind them.
-fn front_of(bytes: &[u8]) -> [u8; 16]
-    ensures { (i : ℕ) → i < 16 → slice_index result i ≡ slice_index bytes.now i }
+// The 16 bytes from an offset on.
+fn front_of(blocks: &[Vec<u8>], offset: u64) -> [u8; 16]
+    requires { offset ≤ 2 ^ 32 }
+    ensures { (i : ℕ) → i < 16 → slice_index result i ≡ bytes_in blocks.now (offset + i) }
 {
     let mut whole = [0; 16];
-    let count = bytes.len().min(16);
-    whole[..count].copy_from_slice(&bytes[..count]);
+    'bytes: for place in 0..16usize {
+        whole[place] = byte_at(blocks, offset + place as u64);
+    }
     whole
 }
 
-// Puts the bytes of a word into a buffer, which grows to hold them.
-fn put_word(buffer: &mut Vec<u8>, endian: Endian, offset: u64, word: Word) -> Result<(), AllocError>
-    requires room { offset + word.size.bytes ≤ 65536 }
-    requires short { vec_len buffer.old ≤ 65536 }
-    ensures short { vec_len buffer.new ≤ 65536 }
-    ensures put { OnOk result ((o : ℕ) → slice_index buffer.new.items o
-        ≡ with_temporaries offset word.size.bytes (byte_of endian word.size.bytes word.bits) (slice_index buffer.old.items) o) }
+// Puts the bytes of a word from an offset on.
+fn put_word(
+    alloc: Global,
+    blocks: &mut Vec<Vec<u8>>,
+    endian: Endian,
+    offset: u64,
+    word: Word,
+) -> Result<(), AllocError>
+    requires { offset + word.size.bytes ≤ 2 ^ 32 }
+    ensures { OnOk result ((o : ℕ) → bytes_in blocks.new.items o
+        ≡ with_temporaries offset word.size.bytes (byte_of endian word.size.bytes word.bits) (bytes_in blocks.old.items) o) }
 {
-    reach(buffer, offset as usize + usize::from(word.size.get()))?;
-    overwrite(buffer.as_mut_slice(), endian, offset, word);
+    let whole = bytes_of(endian, word);
+    put_run(
+        alloc,
+        blocks,
+        offset,
+        &whole[..usize::from(word.size.get())],
+    )
+}
+
+// The bytes of a word in memory order, and zeros behind them.
+fn bytes_of(endian: Endian, word: Word) -> [u8; 16]
+    ensures { (i : ℕ) → i < word.size.bytes → slice_index result i ≡ byte_of endian word.size.bytes word.bits i }
+{
+    let mut whole = [0; 16];
+    word.put_into(endian, &mut whole[..usize::from(word.size.get())]);
+    whole
+}
+
+// Puts bytes from an offset on.
+fn put_run(
+    alloc: Global,
+    blocks: &mut Vec<Vec<u8>>,
+    offset: u64,
+    bytes: &[u8],
+) -> Result<(), AllocError>
+    requires few { length bytes.now ≤ 16 }
+    requires near { offset + length bytes.now ≤ 2 ^ 32 }
+    ensures { OnOk result ((o : ℕ) → bytes_in blocks.new.items o
+        ≡ with_temporaries offset (length bytes.now) (slice_index bytes.now) (bytes_in blocks.old.items) o) }
+{
+    let room = (BLOCK - offset % BLOCK) as usize;
+    if bytes.len() <= room {
+        return put_in_block(alloc, blocks, offset, bytes);
+    }
+    let (front, back) = bytes.split_at(room);
+    put_in_block(alloc, blocks, offset, front)?;
+    put_in_block(alloc, blocks, offset + room as u64, back)?;
     Ok(())
 }
 
-// Puts the bytes of a word over others.
-fn overwrite(bytes: &mut [u8], endian: Endian, offset: u64, word: Word)
-    requires { offset + word.size.bytes ≤ length bytes.old }
-    ensures length { length bytes.new ≡ length bytes.old }
-    ensures put { (o : ℕ) → slice_index bytes.new o
-        ≡ with_temporaries offset word.size.bytes (byte_of endian word.size.bytes word.bits) (slice_index bytes.old) o }
+// Puts bytes that end in the block of the first.
+fn put_in_block(
+    alloc: Global,
+    blocks: &mut Vec<Vec<u8>>,
+    offset: u64,
+    bytes: &[u8],
+) -> Result<(), AllocError>
+    requires near { offset ≤ 2 ^ 32 }
+    requires room { offset % 1048576 + length bytes.now ≤ 1048576 }
+    ensures { OnOk result ((o : ℕ) → bytes_in blocks.new.items o
+        ≡ with_temporaries offset (length bytes.now) (slice_index bytes.now) (bytes_in blocks.old.items) o) }
 {
-    let start = offset as usize;
-    let end = start + usize::from(word.size.get());
-    word.put_into(endian, &mut bytes[start..end]);
+    let number = (offset / BLOCK) as usize;
+    add_blocks(alloc, blocks, number)?;
+    put_bytes(&mut blocks[number], (offset % BLOCK) as usize, bytes)
 }
 
-// Makes a buffer at least `end` bytes long, with zeros.
-fn reach(buffer: &mut Vec<u8>, end: usize) -> Result<(), AllocError>
-    requires near { end ≤ 65536 }
-    requires short { vec_len buffer.old ≤ 65536 }
-    ensures short { vec_len buffer.new ≤ 65536 }
-    ensures long { OnOk result (end ≤ vec_len buffer.new) }
-    ensures same { (o : ℕ) → slice_index buffer.new.items o ≡ slice_index buffer.old.items o }
+// Makes a block of this number, and those before it, where there are fewer.
+fn add_blocks(alloc: Global, blocks: &mut Vec<Vec<u8>>, number: usize) -> Result<(), AllocError>
+    requires { number ≤ 4096 }
+    ensures there { OnOk result (number < length blocks.new.items) }
+    ensures same { (o : ℕ) → bytes_in blocks.new.items o ≡ bytes_in blocks.old.items o }
 {
-    if buffer.len() < end {
-        buffer.resize((2 * end).min(BUFFER_END), 0)?;
+    while blocks.len() <= number {
+        blocks.push(Vec::new(alloc))?;
+    }
+    Ok(())
+}
+
+// Puts bytes at a place of a block, which grows to hold them.
+fn put_bytes(block: &mut Vec<u8>, place: usize, bytes: &[u8]) -> Result<(), AllocError>
+    requires { place + length bytes.now ≤ 1048576 }
+    ensures { OnOk result ((o : ℕ) → slice_index block.new.items o
+        ≡ with_temporaries place (length bytes.now) (slice_index bytes.now) (slice_index block.old.items) o) }
+{
+    reach(block, place + bytes.len())?;
+    overwrite(block.as_mut_slice(), place, bytes);
+    Ok(())
+}
+
+// Puts bytes over others.
+fn overwrite(block: &mut [u8], place: usize, bytes: &[u8])
+    requires { place + length bytes.now ≤ length block.old }
+    ensures length { length block.new ≡ length block.old }
+    ensures put { (o : ℕ) → slice_index block.new o
+        ≡ with_temporaries place (length bytes.now) (slice_index bytes.now) (slice_index block.old) o }
+{
+    block[place..place + bytes.len()].copy_from_slice(bytes);
+}
+
+// Makes a block at least `end` bytes long, with zeros.
+fn reach(block: &mut Vec<u8>, end: usize) -> Result<(), AllocError>
+    requires near { end ≤ 1048576 }
+    ensures long { OnOk result (end ≤ length block.new.items) }
+    ensures same { (o : ℕ) → slice_index block.new.items o ≡ slice_index block.old.items o }
+{
+    if block.len() < end {
+        block.resize((2 * end).min(BLOCK as usize), 0)?;
     }
     Ok(())
 }
