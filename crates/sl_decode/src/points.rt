@@ -7,11 +7,24 @@ ghost use Rattle.sl_spec.specs.FieldValues.{token_integer};
 use sl_cube::Point;
 use sl_word::Endian;
 
-/// The number that bytes stand for, the first the most significant.
+/// The number that 16 bytes stand for, the first the most significant.
+fn whole_number(bytes: &[u8]) -> u128
+    requires { length bytes.now ≡ 16 }
+    ensures { result ≡ token_integer Endian.Big bytes.now }
+{
+    let mut whole = [0; 16];
+    whole.copy_from_slice(bytes);
+    u128::from_be_bytes(whole)
+}
+
+/// The same of so many bytes at most.
 fn number_of(bytes: &[u8]) -> u128
     requires { length bytes.now ≤ 16 }
     ensures { result ≡ token_integer Endian.Big bytes.now }
 {
+    if bytes.len() == 16 {
+        return whole_number(bytes);
+    }
     let mut number = 0;
     'bytes: for index in 0..bytes.len() {
         number = number * 256 + u128::from(bytes[index]);
