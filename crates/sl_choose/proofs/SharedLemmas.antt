@@ -1,17 +1,20 @@
 -- What the cubes of some first entries have in common.
-use Rattle.std.proofs.Common.{◌≡◌, ℕ, ◌+◌, ◌-◌, ◌<◌, ◌≤◌, ◌^◌, List, length, get_or, below_more, min, max, bit_and, bit_or, arith, sym, ◌∙◌, ap, subst}
-use Rattle.std.specs.Int.{bit_at}
+use Rattle.std.proofs.Common.{◌≡◌, ◌≢◌, inl, inr, ℕ, ◌+◌, ◌-◌, ◌<◌, ◌≤◌, ◌^◌, List, length, get_or, below_more, min, max, bit_and, bit_or, arith, sym, ◌∙◌, ap, subst}
+use mir.Val.{bits as width_of}
+use Rattle.std.specs.Int.{Width, bit_at, trailing_zeros}
 use Rattle.std.specs.Int.Bits.{and_zero_l, and_zero_r}
 use Rattle.std.specs.List.{HoldsAt}
-use Rattle.std.proofs.lemmas.Nat.{and-not, and_assoc, and_comm}
-use Rattle.std.proofs.lemmas.Nat.Bits.{bit_at_and, bit_at_or, bit_at-lt, bit_at-zero, same_from_bits}
+use Rattle.std.proofs.Math.Pow.{pow-lt}
+use Rattle.std.proofs.lemmas.Nat.{and-not, and_assoc, and_comm, and_le_l}
+use Rattle.std.proofs.lemmas.Nat.Bits.{bit_at_and, bit_at_or, bit_at-lt, bit_at-pow_other, bit_at-pow_same, bit_at-trailing_zeros, bit_at-zero, same_from_bits}
+use Rattle.std.proofs.lemmas.Bool.{cases_lt}
 use Rattle.std.proofs.lemmas.List.Elements.{at_read}
 use Rattle.sl_cube.specs.declared.Cube.{Cube}
 use Rattle.sl_cube.specs.declared.Point.{Point}
 use Rattle.sl_choose.specs.declared.Entry.{Entry}
 use Rattle.sl_choose.specs.declared.shared.Shared.{Shared}
-use Rattle.sl_choose.specs.Shared.{HasAll, HasNone, IsShared, Joins}
-use Rattle.sl_choose.specs.Sides.{AllCover, SetsNone, SomeClear}
+use Rattle.sl_choose.specs.Shared.{HasAll, HasNone, HasNoneBefore, IsShared, Joins}
+use Rattle.sl_choose.specs.Sides.{AllCover, IsForced, SetsNone, SomeClear, byte_bit, context_bit}
 use Rattle.sl_choose.proofs.SideLemmas.{none_set}
 
 -- ---- bits of two numbers
@@ -117,3 +120,64 @@ shared_whole entries s n whole first = record {
   some = λ bits set none. none_set entries bits n whole (first.some bits none) set;
   all = λ bits clear. none_in_all entries s bits n whole first clear;
 }
+
+-- ---- bits one by one
+
+first_open : (w : Width) (n k : ℕ) → n < 2 ^ width_of w → k < trailing_zeros w n → bit_at n k ≡ 0
+first_open w n k within below =
+    elim (cases_lt 0 n) [
+      | inl some ↦ (bit_at-trailing_zeros w n some within).2 k below
+      | inr none ↦ let e : n ≡ 0 = omega arith in ap (λ x. bit_at x k) e ∙ bit_at-zero k
+    ]
+
+bit_in : (n k : ℕ) → bit_and n (2 ^ k) ≡ 2 ^ k → bit_at n k ≡ 1
+bit_in n k has =
+    let one : bit_at (2 ^ k) k ≡ 1 = bit_at-pow_same k in
+    let both : min (bit_at n k) (bit_at (2 ^ k) k) ≡ bit_at (2 ^ k) k = sym (bit_at_and n (2 ^ k) k) ∙ ap (λ x. bit_at x k) has in
+    let small : bit_at n k < 2 = bit_at-lt n k in
+    omega (arith, one, both, small)
+
+out_other : (n k i : ℕ) → i ≢ k → bit_at (bit_and n (2 ^ k)) i ≡ bit_at 0 i
+out_other n k i other =
+    let none : bit_at (2 ^ k) i ≡ 0 = bit_at-pow_other k i other in
+    bit_at_and n (2 ^ k) i ∙ (let e : min (bit_at n i) (bit_at (2 ^ k) i) ≡ 0 = omega (arith, none) in e) ∙ sym (bit_at-zero i)
+
+bit_out : (n k : ℕ) → bit_at n k ≡ 0 → bit_and n (2 ^ k) ≡ 0
+bit_out n k out = same_from_bits _ _ (λ i.
+    elim (cases_lt i k) [
+      | inl less ↦ out_other n k i (omega arith)
+      | inr from ↦ elim (cases_lt k i) [
+        | inl more ↦ out_other n k i (omega arith)
+        | inr up ↦
+            let e : i ≡ k = omega arith in
+            bit_at_and n (2 ^ k) i ∙ (let none : bit_at n i ≡ 0 = ap (bit_at n) e ∙ out in let m : min (bit_at n i) (bit_at (2 ^ k) i) ≡ 0 = omega (arith, none) in m) ∙ sym (bit_at-zero i)
+      ]
+    ])
+
+-- Below the least bit that all cubes fix and some cube fixes to 1 no cubes differ.
+pub none_below : (w : Width) (f s k : ℕ) → f < 2 ^ width_of w → k < trailing_zeros w (bit_and f s) → bit_and f (2 ^ k) ≡ 2 ^ k → (bit_and s (2 ^ k) ≡ 0 → ⊥) → ⊥
+none_below w f s k within below fixed some =
+    let less : bit_and f s ≤ f = and_le_l f s in
+    let out : bit_at (bit_and f s) k ≡ 0 = first_open w (bit_and f s) k (omega (arith, less, within)) below in
+    let both : min (bit_at f k) (bit_at s k) ≡ 0 = sym (bit_at_and f s k) ∙ out in
+    let has : bit_at f k ≡ 1 = bit_in f k fixed in
+    some (bit_out s k (let small = bit_at-lt s k in omega (arith, both, has, small)))
+
+bit_fits : (k w : ℕ) → k < w → 2 ^ k < 2 ^ w
+bit_fits k w below = pow-lt below
+
+pub none_byte : (entries : List Entry) (s : Shared) (n k : ℕ) → n ≤ 128 → IsShared entries s → HasNoneBefore byte_bit s n → k < n → IsForced entries (byte_bit k) → ⊥
+none_byte entries s n k most shared none below forced =
+    none k below (record {
+      fixed = shared.fixed (byte_bit k) (bit_fits k 128 (omega arith)) (omega arith) forced.all;
+      some = shared.some (byte_bit k) forced.set;
+      all = shared.all (byte_bit k) forced.clear;
+    })
+
+pub none_context : (entries : List Entry) (s : Shared) (n k : ℕ) → n ≤ 64 → IsShared entries s → HasNoneBefore context_bit s n → k < n → IsForced entries (context_bit k) → ⊥
+none_context entries s n k most shared none below forced =
+    none k below (record {
+      fixed = shared.fixed (context_bit k) (omega arith) (bit_fits k 64 (omega arith)) forced.all;
+      some = shared.some (context_bit k) forced.set;
+      all = shared.all (context_bit k) forced.clear;
+    })

@@ -1,5 +1,5 @@
 -- step: what the cubes of entries have in common, and what it tells of bits.
-use Rattle.std.specs.Prelude.{◌≡◌, ◌<◌, ◌^◌, List, bit_and, bit_or}
+use Rattle.std.specs.Prelude.{◌≡◌, ℕ, ◌<◌, ◌^◌, List, bit_and, bit_or}
 use Rattle.sl_cube.specs.declared.Cube.{Cube}
 use Rattle.sl_cube.specs.declared.Point.{Point}
 use Rattle.sl_choose.specs.declared.Entry.{Entry}
@@ -29,3 +29,7 @@ pub record MayDiffer (s : Shared) (bits : Point) : Type 0 where
   pub fixed : HasAll s.fixed bits
   pub some : HasNone s.some bits → ⊥
   pub all : HasNone s.all bits
+
+-- In no bit before this one two cubes may differ.
+abbrev pub HasNoneBefore : (ℕ → Point) → Shared → ℕ → Type 0
+HasNoneBefore bit s n = (k : ℕ) → k < n → MayDiffer s (bit k) → ⊥

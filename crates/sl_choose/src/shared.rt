@@ -1,7 +1,8 @@
 //! What the cubes of entries have in common.
 
-ghost use Rattle.std.specs.Prelude.{◌≡◌, ◌↔◌, ◌-◌, ◌^◌, IsTrue};
-ghost use Rattle.sl_choose.specs.Shared.{HasAll, HasNone, IsShared, Joins, MayDiffer};
+ghost use Rattle.std.specs.Prelude.{◌≡◌, ◌↔◌, ◌-◌, ◌^◌, ◌≤◌, IsTrue};
+ghost use Rattle.sl_choose.specs.Shared.{HasAll, HasNone, HasNoneBefore, IsShared, Joins, MayDiffer};
+ghost use Rattle.sl_choose.specs.Sides.{byte_bit, context_bit};
 
 use super::Entry;
 use sl_cube::{Cube, Point};
@@ -90,4 +91,21 @@ pub fn may_differ(shared: &Shared, bits: &Point) -> bool
     let none = has_none(&shared.some, bits);
     let all = has_none(&shared.all, bits);
     fixed && !none && all
+}
+
+/// The place of the least bit of the bytes that all cubes fix and some cube fixes to 1; 128 where
+/// there is none.
+pub fn first_byte_bit(shared: &Shared) -> u32
+    ensures none { HasNoneBefore byte_bit shared.now result }
+    ensures most { result ≤ 128 }
+{
+    (shared.fixed.bytes & shared.some.bytes).trailing_zeros()
+}
+
+/// The same of the context; 64 where there is none.
+pub fn first_context_bit(shared: &Shared) -> u32
+    ensures none { HasNoneBefore context_bit shared.now result }
+    ensures most { result ≤ 64 }
+{
+    (shared.fixed.context & shared.some.context).trailing_zeros()
 }

@@ -6,7 +6,7 @@ ghost use Rattle.sl_choose.specs.Picked.{lacks};
 ghost use Rattle.sl_choose.specs.Shared.{IsShared};
 ghost use Rattle.sl_choose.specs.Sides.{SetsNone, Covers, IsPut, IsSides, IsForced, HasNoForced, HasNoForcedByte, HasNoForcedContext, IsDivided, AllCover, SomeClear, SomeSet};
 
-use super::shared::{Shared, may_differ, shared_by};
+use super::shared::{Shared, first_byte_bit, first_context_bit, may_differ, shared_by};
 use super::{Entry, Halves};
 use sl_cube::{Cube, Point};
 use std::alloc::{AllocError, Global};
@@ -129,7 +129,7 @@ fn forced_byte(shared: &Shared, entries: &[Entry]) -> Option<Point>
     requires { IsShared entries.now shared.now }
     ensures { MatchOption result (HasNoForcedByte entries.now 128) (IsForced entries.now) }
 {
-    for place in 0..128u32 {
+    for place in first_byte_bit(shared)..128 {
         let bits = Point {
             bytes: 1 << place,
             context: 0,
@@ -146,7 +146,7 @@ fn forced_context(shared: &Shared, entries: &[Entry]) -> Option<Point>
     requires { IsShared entries.now shared.now }
     ensures { MatchOption result (HasNoForcedContext entries.now 64) (IsForced entries.now) }
 {
-    for place in 0..64u32 {
+    for place in first_context_bit(shared)..64 {
         let bits = Point {
             bytes: 0,
             context: 1 << place,

@@ -3,6 +3,7 @@ use Rattle.std.proofs.lemmas.Bool.{false≢true}
 use Rattle.std.proofs.lemmas.Nat.{one_shl}
 use Rattle.sl_cube.specs.declared.Point.{Point}
 use Rattle.sl_choose.specs.Sides.{IsForced}
+use Rattle.sl_choose.proofs.SharedLemmas.{none_byte}
 use Rattle.sl_choose.proofs.sides.forced_byte.Goals as goal
 
 abbrev bits_of : ℕ → Point
@@ -17,3 +18,6 @@ loop-place-preserved c =
 
 pub returns : goal.returns
 returns c = λ k lt. c.loop-place.invariant k (omega (arith, lt, c.loop-place-test.false))
+
+pub loop-place-init : goal.loop-place-init
+loop-place-init c = λ k below forced. none_byte c.args.entries.now c.args.shared.now c.first_byte_bit-place.result k c.first_byte_bit-place.ensures.most c.requires c.first_byte_bit-place.ensures.none below forced
