@@ -44,3 +44,10 @@ window_is n image at count copied is are =
 pub shown_bytes : (n : ℕ) (image : List ℕ) (at count : ℕ) → count ≤ n → take count (bytes_at image at n) ≡ bytes_at image at count
 shown_bytes n image at count fits =
     take-take count n (drop at image ++ replicate n 0) fits ∙ enough_zeros count n (drop at image) fits
+
+pub whole_window : (n : ℕ) (image : List ℕ) (at : ℕ) → n ≤ length (take (length image - at) (drop at image))
+    → take n (take (length image - at) (drop at image)) ≡ bytes_at image at n
+whole_window n image at long =
+    let rest : take (length image - at) (drop at image) ≡ drop at image = take_all _ _ (omega (arith, length-drop at image)) in
+    ap (λ (xs : List ℕ). take n xs) rest
+    ∙ sym (take-append-le n (drop at image) (replicate n 0) (subst (λ (xs : List ℕ). n ≤ length xs) rest long))

@@ -1,6 +1,8 @@
 //! `list`: instructions, or the marks of what doesn't decode.
 
-ghost use Rattle.std.specs.Prelude.{◌≡◌, ◌+◌, ◌^◌, ◌≤◌, IfOk, OnOk, length};
+ghost use Rattle.std.specs.Prelude.{◌≡◌, ◌+◌, ◌^◌, ◌<◌, ◌≤◌, List, IfOk, OnOk, length};
+ghost use Rattle.sl_contexts.specs.Runs.{Stands};
+ghost use Rattle.sl_contexts.specs.declared.commits.Commit.{Commit as CommitOf};
 ghost use Rattle.sl_list.specs.Instructions.{Listed, Tells, mark_of, told_by, window};
 ghost use Rattle.sl_list.specs.Lines.{bytes_at, listed_line};
 
@@ -128,6 +130,65 @@ pub fn put_line(
     push_listed(line, size, address, shown, text)
 }
 
+impl<D: Decoder> Listing<'_, D> {
+    /// Puts the text of a position and its commits in the place of what the buffers hold, by the bytes
+    /// from there on. The result is the number of bytes that it covers.
+    fn show_from(
+        &self,
+        at: usize,
+        bytes: &[u8],
+        contexts: &ContextMap,
+        buffers: &mut ListBuffers<D::Buffers>,
+        text: &mut Vec<u8>,
+        commits: &mut Vec<Commit>,
+    ) -> Result<usize, AllocError>
+        requires ready { D.ready self.now.decoder.now }
+        requires within { at < length self.now.image.now }
+        requires bytes { bytes.now ≡ bytes_at self.now.image.now at window }
+        requires whole { length bytes.now ≡ window }
+        ensures some { IfOk result (λ n. (1 ≤ n) × (n ≤ 255)) }
+        ensures shown { IfOk result (λ n. (cs : List CommitOf)
+            → Stands contexts.now self.now.start cs
+            → Listed (record {
+              tells = D.tells self.now.decoder.now;
+              image = self.now.image.now;
+              base = self.now.base;
+              address_bytes = self.now.address_size.bytes;
+              alignment = self.now.alignment;
+              start = self.now.start;
+            }) at cs text.new.items n commits.new.items) }
+    {
+        let size = self.address_size;
+        let alignment = usize::from(self.alignment);
+        let address = self.base + at as u64;
+        let beyond = (address % u64::from(self.alignment)) as usize;
+        if beyond > 0 {
+            let count = alignment - beyond;
+            commits.clear();
+            put_line(text, size, address, &bytes[..count], b"?align")?;
+            return Ok(count);
+        }
+        let context = contexts.at(address);
+        let inner = &mut buffers.decoder;
+        let shown = &mut buffers.text;
+        match self
+            .decoder
+            .tell(bytes, address, context, inner, shown, commits)?
+        {
+            Ok(length) => {
+                let count = count_of(length)?;
+                put_line(text, size, address, &bytes[..count], shown.as_slice())?;
+                Ok(count)
+            }
+            Err(fault) => {
+                commits.clear();
+                put_line(text, size, address, &bytes[..alignment], mark_of(fault))?;
+                Ok(alignment)
+            }
+        }
+    }
+}
+
 impl<'l, D: Decoder> Lister for Listing<'l, D> {
     type Buffers = ListBuffers<D::Buffers>;
 
@@ -162,34 +223,11 @@ impl<'l, D: Decoder> Lister for Listing<'l, D> {
         text: &mut Vec<u8>,
         commits: &mut Vec<Commit>,
     ) -> Result<usize, AllocError> {
-        let size = self.address_size;
-        let alignment = usize::from(self.alignment);
-        let address = self.base + at as u64;
+        let rest = &self.image[at..];
+        if rest.len() >= WINDOW {
+            return self.show_from(at, &rest[..WINDOW], contexts, buffers, text, commits);
+        }
         let window = window_at(self.image, at);
-        let beyond = (address % u64::from(self.alignment)) as usize;
-        if beyond > 0 {
-            let count = alignment - beyond;
-            commits.clear();
-            put_line(text, size, address, &window[..count], b"?align")?;
-            return Ok(count);
-        }
-        let context = contexts.at(address);
-        let inner = &mut buffers.decoder;
-        let shown = &mut buffers.text;
-        match self
-            .decoder
-            .tell(&window, address, context, inner, shown, commits)?
-        {
-            Ok(length) => {
-                let count = count_of(length)?;
-                put_line(text, size, address, &window[..count], shown.as_slice())?;
-                Ok(count)
-            }
-            Err(fault) => {
-                commits.clear();
-                put_line(text, size, address, &window[..alignment], mark_of(fault))?;
-                Ok(alignment)
-            }
-        }
+        self.show_from(at, &window, contexts, buffers, text, commits)
     }
 }

@@ -10,8 +10,22 @@ use std::alloc::AllocError;
 /// The most bytes that a line shows.
 pub const MOST_BYTES: usize = 255;
 
-/// Appends the bytes in hexadecimal, two digits each.
-pub fn push_hex(out: &mut Vec<u8>, bytes: &[u8]) -> Result<(), AllocError>
+/// A buffer for the digits of so many bytes is enough for most lines.
+const FEW_BYTES: usize = 16;
+
+/// Appends a few bytes in hexadecimal, two digits each.
+fn push_few(out: &mut Vec<u8>, bytes: &[u8]) -> Result<(), AllocError>
+    requires { length bytes.now ≤ FEW_BYTES }
+    ensures { OnOk result (out.new.items ≡ out.old.items ++ encode_lower bytes.now) }
+{
+    let mut buffer = [0; 2 * FEW_BYTES];
+    let digits = &mut buffer[..2 * bytes.len()];
+    hex::encode_to_slice(bytes, digits).unwrap();
+    out.extend_from_slice(digits)
+}
+
+/// The same of as many bytes as a line shows.
+fn push_many(out: &mut Vec<u8>, bytes: &[u8]) -> Result<(), AllocError>
     requires { length bytes.now ≤ MOST_BYTES }
     ensures { OnOk result (out.new.items ≡ out.old.items ++ encode_lower bytes.now) }
 {
@@ -19,6 +33,18 @@ pub fn push_hex(out: &mut Vec<u8>, bytes: &[u8]) -> Result<(), AllocError>
     let digits = &mut buffer[..2 * bytes.len()];
     hex::encode_to_slice(bytes, digits).unwrap();
     out.extend_from_slice(digits)
+}
+
+/// Appends the bytes in hexadecimal, two digits each.
+pub fn push_hex(out: &mut Vec<u8>, bytes: &[u8]) -> Result<(), AllocError>
+    requires { length bytes.now ≤ MOST_BYTES }
+    ensures { OnOk result (out.new.items ≡ out.old.items ++ encode_lower bytes.now) }
+{
+    if bytes.len() <= FEW_BYTES {
+        push_few(out, bytes)
+    } else {
+        push_many(out, bytes)
+    }
 }
 
 /// Appends an address in hexadecimal, with two digits for each of its bytes.
