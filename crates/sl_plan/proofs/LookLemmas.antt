@@ -1,10 +1,12 @@
 -- A field that nothing is attached to has what it needs.
-use Rattle.std.proofs.Common.{◌≡◌, ℕ, List, Option, None, Some, Result, Ok, Err, refl, ap, cond, slice_get}
-use Rattle.sl_decoding.specs.Lookups.{has_entry_by, number_at, shown, shown_if}
+use Rattle.std.proofs.Common.{◌≡◌, ℕ, List, Option, None, Some, Result, Ok, Err, refl, sym, ap, cond, slice_get}
+use Rattle.sl_decoding.specs.Lookups.{given, given_if, has_entry_by, number_at, number_by, shown, shown_if}
+use Rattle.sl_decoding.specs.Outcomes.{or_fault}
 use Rattle.sl_decoding.specs.declared.faults.Fault.{Fault}
 use Rattle.sl_decoding.specs.declared.faults.Fault.TheVariants.{NoEntry}
 use Rattle.sl_spec.specs.Attachments.{attached_to}
-use Rattle.sl_spec.specs.FieldValues.{bits_of}
+use Rattle.sl_spec.specs.FieldValues.{bits_of, value_of}
+use Rattle.sl_plan.specs.Values.{own_if}
 use Rattle.sl_spec.specs.Tables.{Attached, Field}
 use Rattle.sl_spec.specs.declared.tables.Tables.{Tables}
 
@@ -24,3 +26,14 @@ shown_so t id (Some f) bytes at context h =
 pub unattached : (t : Tables) (id : ℕ) (bytes : List ℕ) (at context : ℕ)
     → attached_to id t.attached ≡ None → shown t id bytes at context ≡ Ok tt
 unattached t id bytes at context h = shown_so t id (slice_get t.fields id) bytes at context h
+
+given_so : (t : Tables) (id : ℕ) (f : Option Field) (bytes : List ℕ) (at context : ℕ)
+    → attached_to id t.attached ≡ None → own_if t f bytes at context ≡ given_if t id f bytes at context
+given_so t id None bytes at context h = refl
+given_so t id (Some f) bytes at context h =
+    ap (λ (a : Option Attached). or_fault (NoEntry id (bits_of f.low f.high (number_at t f bytes at context)))
+    (number_by a (bits_of f.low f.high (number_at t f bytes at context)) (value_of f (number_at t f bytes at context)))) (sym h)
+
+pub plain : (t : Tables) (id : ℕ) (bytes : List ℕ) (at context : ℕ)
+    → attached_to id t.attached ≡ None → own_if t (slice_get t.fields id) bytes at context ≡ given t id bytes at context
+plain t id bytes at context h = given_so t id (slice_get t.fields id) bytes at context h

@@ -1,7 +1,7 @@
 -- view: values of actions, and what they hang on, as the program keeps them.
-use Rattle.std.specs.Prelude.{◌+◌, ℤ, pos, Result, Ok, Err, slice_get}
+use Rattle.std.specs.Prelude.{◌+◌, ℕ, ℤ, pos, List, Option, None, Some, Result, Ok, Err, slice_get}
 use Rattle.sl_operators.specs.Operators.{wrapped}
-use Rattle.sl_decoding.specs.Lookups.{given}
+use Rattle.sl_decoding.specs.Lookups.{given, number_at}
 use Rattle.sl_decoding.specs.Values.{Site, operated, prefixed, value_or_zero}
 use Rattle.sl_decoding.specs.declared.faults.Fault.{Fault}
 use Rattle.sl_decoding.specs.declared.faults.Fault.TheVariants.{ActionDivide}
@@ -9,6 +9,8 @@ use Rattle.sl_plan.specs.Extents.{extent}
 use Rattle.sl_plan.specs.declared.values.Scope.{Scope}
 use Rattle.sl_plan.specs.declared.values.Value.{Value}
 use Rattle.sl_plan.specs.declared.values.Value.TheVariants as v
+use Rattle.sl_spec.specs.FieldValues.{value_of}
+use Rattle.sl_spec.specs.Tables.{Field}
 use Rattle.sl_spec.specs.declared.tables.Tables.{Tables}
 
 abbrev pub site_of : Scope → Site
@@ -23,6 +25,11 @@ site_of s = record {
   values = s.values.now;
 }
 
+-- What a field gives by its own value, whatever is attached to it.
+abbrev pub own_if : Tables → Option Field → List ℕ → ℕ → ℕ → Result ℤ Fault
+own_if t None bytes at context = Ok (pos 0)
+own_if t (Some f) bytes at context = Ok (value_of f (number_at t f bytes at context))
+
 abbrev pub value_in : Tables → Site → Value → Result ℤ Fault
 value_in t s (v.Number n) = Ok n
 value_in t s v.Start = Ok (wrapped (pos s.start))
@@ -30,6 +37,8 @@ value_in t s v.Next = Ok (wrapped (pos s.next))
 value_in t s (v.Named number) = Ok (value_or_zero (slice_get s.values number))
 value_in t s (v.Field id place) =
     given t id s.bytes (s.at + extent place s.lengths) s.context
+value_in t s (v.Plain id place) =
+    own_if t (slice_get t.fields id) s.bytes (s.at + extent place s.lengths) s.context
 value_in t s (v.Prefix' op p a) = prefixed s.ctor op (value_in t s a)
 value_in t s (v.Binary' op p a q b) = operated s.ctor op (value_in t s a) (value_in t s b)
 value_in t s v.Undefined = Err (ActionDivide s.ctor)

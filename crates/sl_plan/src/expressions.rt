@@ -1,11 +1,12 @@
 //! Expressions of actions as values.
 
-ghost use Rattle.std.specs.Prelude.{◌≡◌, ℕ, IfOk, Some, Ok};
+ghost use Rattle.std.specs.Prelude.{◌≡◌, ◌+◌, ℕ, IfOk, Some, Ok};
 ghost use Rattle.sl_ast.specs.Views.{expression_of, operand_of_address};
 ghost use Rattle.sl_decoding.specs.Actions.{address_value};
 ghost use Rattle.sl_decoding.specs.Kinds.{kind_of};
+ghost use Rattle.sl_decoding.specs.Lookups.{given};
 ghost use Rattle.sl_decoding.specs.Values.{Site, expression_value, operated, prefixed, reads};
-ghost use Rattle.sl_plan.specs.Extents.{leaves_at};
+ghost use Rattle.sl_plan.specs.Extents.{extent, leaves_at};
 ghost use Rattle.sl_plan.specs.Values.{value_in};
 ghost use Rattle.sl_spec.specs.declared.tables.Tables.{Tables as TablesOf};
 
@@ -17,8 +18,20 @@ use sl_ast::expressions::{BinaryOp, Expr, PrefixOp};
 use sl_ast::patterns::Address;
 use sl_decoding::Kind;
 use sl_operators::{literal, prefix_value, value_of};
-use sl_spec::{Operand, Tables};
+use sl_spec::{FieldId, Operand, Tables};
 use std::alloc::{AllocError, Global};
+
+/// What a field gives whose token stands at the place.
+#[tactic(auto, using(crate::proofs::LookLemmas::plain))]
+fn read_field(t: &Tables, id: FieldId, place: Extent) -> Value
+    ensures { (s : Site) → value_in t.now s result
+        ≡ given t.now id s.bytes (s.at + extent place s.lengths) s.context }
+{
+    if t.attached.get(id).is_none() {
+        return Value::Plain(id, place);
+    }
+    Value::Field(id, place)
+}
 
 /// What a name gives.
 fn read_name(
@@ -34,7 +47,7 @@ fn read_name(
     match kind_of(t, operands, name)? {
         Kind::Field(id) => {
             let place = place_of(alloc, leaves, name)?;
-            Ok(Value::Field(id, place))
+            Ok(read_field(t, id, place))
         }
         Kind::Action(number) => Ok(Value::Named(number)),
         Kind::Start => Ok(Value::Start),

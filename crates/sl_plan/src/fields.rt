@@ -5,6 +5,7 @@ ghost use Rattle.std.specs.Prelude.{if◌then◌else◌, option_copied, slice_ge
 ghost use Rattle.sl_decoding.specs.Lookups as spec;
 ghost use Rattle.sl_decoding.specs.Lookups.{entry_at, given_by, has_entry, number_at, number_for};
 ghost use Rattle.sl_decoding.specs.Lookups.{shown_by};
+ghost use Rattle.sl_plan.specs.Values.{own_if};
 ghost use Rattle.sl_spec.specs.FieldValues.{token_integer, token_of};
 ghost use Rattle.sl_spec.specs.Views.{entries_of};
 
@@ -106,6 +107,17 @@ pub fn given(t: &Tables, id: FieldId, bytes: &[u8], at: u64, context: u64) -> Re
     match t.fields.at(id.number() as usize) {
         Some(of) => given_by(t, id, of, number_at(t, of, bytes, at, context)),
         None => Ok(0),
+    }
+}
+
+/// What a field gives by its own value, whatever is attached to it. A token's field is read at the
+/// place, in bytes from the front.
+pub(crate) fn own(t: &Tables, id: FieldId, bytes: &[u8], at: u64, context: u64) -> i64
+    ensures { Ok result ≡ own_if t.now (slice_get t.now.fields id) bytes.now at context }
+{
+    match t.fields.at(id.number() as usize) {
+        Some(of) => of.value_of(number_at(t, of, bytes, at, context)),
+        None => 0,
     }
 }
 

@@ -5,7 +5,7 @@ ghost use Rattle.sl_decoding.specs.Values.{operated, prefixed};
 ghost use Rattle.sl_plan.specs.Values.{site_of, value_in};
 
 use crate::extents::{Extent, extent_of};
-use crate::fields::given;
+use crate::fields::{given, own};
 use sl_ast::expressions::{BinaryOp, PrefixOp};
 use sl_decoding::Fault;
 use sl_operators::{literal, prefix_value, value_of};
@@ -23,6 +23,8 @@ pub enum Value {
     Named(u32),
     /// A field, and the place of its token in bytes from the node's own.
     Field(FieldId, Extent),
+    /// The same of a field that nothing is attached to.
+    Plain(FieldId, Extent),
     Prefix(PrefixOp, Box<Value>),
     Binary(BinaryOp, Box<Value>, Box<Value>),
     /// An expression of a form that actions lack.
@@ -79,6 +81,10 @@ pub fn reckon(t: &Tables, scope: &Scope, v: &Value) -> Result<i64, Fault>
         Value::Field(id, place) => {
             let at = u64::from(scope.at).saturating_add(extent_of(place, scope.lengths));
             given(t, *id, scope.bytes, at, scope.context)
+        }
+        Value::Plain(id, place) => {
+            let at = u64::from(scope.at).saturating_add(extent_of(place, scope.lengths));
+            Ok(own(t, *id, scope.bytes, at, scope.context))
         }
         Value::Prefix(op, inner) => {
             let inner = reckon(t, scope, inner)?;
