@@ -23,7 +23,7 @@ fault_of : {A : Type 0} → Fault → Result A Fault → Fault
 fault_of d (Ok a) = d
 fault_of d (Err e) = e
 
-same_error : {A : Type 0} (d e : Fault) → ◌≡◌ {A = Result A Fault} (Err d) (Err e) → d ≡ e
+pub same_error : {A : Type 0} (d e : Fault) → ◌≡◌ {A = Result A Fault} (Err d) (Err e) → d ≡ e
 unfolding fault_of
 same_error d e g = ap (fault_of d) g
 

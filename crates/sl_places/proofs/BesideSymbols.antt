@@ -65,7 +65,7 @@ Usual k.InstNext2 = ⊥
 Usual k.WordSize = ⊥
 Usual k = Unit {0}
 
-lacking_not : (l : Keyword) → Usual l → is_keyword l (Some (keyword k.InstNext2)) ≡ false
+pub lacking_not : (l : Keyword) → Usual l → is_keyword l (Some (keyword k.InstNext2)) ≡ false
 unfolding same_keyword
 lacking_not k.InstNext2 usual = absurd usual
 lacking_not l usual = refl

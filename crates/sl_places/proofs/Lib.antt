@@ -24,4 +24,10 @@ pub mod Rules
 pub mod MendStatements
 pub mod MendDefinitions
 pub mod MendItems
+pub mod Quiet
+pub mod Features
+pub mod Fronts
+pub mod Renamed
+pub mod Begins
+pub mod Constraints
 pub mod Places

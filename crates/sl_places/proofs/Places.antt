@@ -1,10 +1,9 @@
 -- The fault that the reader finds stands where the definition says.
 use Rattle.std.proofs.Common.{◌≡◌, ℕ, zero, suc, ◌+◌, ◌<◌, ◌≤◌, ◌⊎◌, inl, inr, Bool, true, false, nat_le, List, [], ◌∷◌, ◌++◌, length, Some, Ok, Err, Result, refl, ap, sym, ◌∙◌, subst, arith, append_assoc, append-nil, length-append}
-use Rattle.std.proofs.lemmas.Bool.Decides.{nat_tests}
-use Rattle.sl_ast.specs.Spelling.{name, keyword, spell, spell_item, spell_all}
+use Rattle.sl_ast.specs.Spelling.{name, keyword, spell}
 use Rattle.sl_ast.specs.Symbols.{Sym, number, mark}
 use Rattle.sl_ast.specs.Trees.{Item}
-use Rattle.sl_ast.specs.Validity.{AreItems, AreItemsWithin, heaviest, deepest}
+use Rattle.sl_ast.specs.Validity.{AreItems, heaviest, deepest}
 use Rattle.sl_ast.specs.declared.symbols.Feature.{Feature}
 use Rattle.sl_ast.specs.declared.symbols.Feature.TheVariants as f
 use Rattle.sl_ast.specs.declared.symbols.Keyword.TheVariants as k
@@ -13,72 +12,19 @@ use Rattle.sl_grammar.specs.Faults.{Reason, no_spelling, too_deep, left_out, rea
 use Rattle.sl_grammar.specs.Items.{item, is_there, specification_within, specification}
 use Rattle.sl_grammar.specs.Lists.{many}
 use Rattle.sl_grammar.specs.Reader.{Form, syntax, nesting, unsupported, Fault, fault, at, first}
-use Rattle.sl_grammar.proofs.Faults.{refused, none_begins_within, complete, sound}
+use Rattle.sl_grammar.proofs.Faults.{refused, complete, sound}
 use Rattle.sl_grammar.proofs.Steps.{le_is}
+use Rattle.sl_places.proofs.Begins.{split, Finds, never, none_within, begun, shorter, begins_up_to, reaches}
 use Rattle.sl_places.proofs.BesideForms.{floating_named, lacking_named, address_named, constraint_named, width_named, statement_named, function_named, leading_named, word_size_named, named_in_tree}
-use Rattle.sl_places.proofs.Closes.{Mended}
-use Rattle.sl_places.proofs.Goes.{Goes, at_place, there, hint, known_as, Stands, StandsAt, place}
-use Rattle.sl_places.proofs.MendItems.{whole_items}
+use Rattle.sl_places.proofs.Constraints.{none_other, elsewhere}
+use Rattle.sl_places.proofs.Features.{one_form}
+use Rattle.sl_places.proofs.Fronts.{head_or, front_of, behind, gt_is}
+use Rattle.sl_places.proofs.Goes.{known_as, Stands, place}
 use Rattle.sl_places.proofs.Named.{IsEarlyOrNamed, NamesForm}
-use Rattle.sl_places.proofs.RaisedItems.{more_room}
-use Rattle.sl_places.proofs.Wider.{wider_items}
+use Rattle.sl_places.proofs.Quiet.{name_there}
 use Rattle.sl_places.specs.Causes.{Causes, form, symbol, ending, limit, IsOut, ComesFirst, IsFault}
-use Rattle.sl_places.specs.Forms.{BeginsWithin, BeginsATree, BeginsAnyTree, StandsFor, other, IsLeftOut, floating_mark, lacking_word, function, statement, address, leading, constraint, width, word_size}
-use Rattle.sl_places.specs.Laws.{AnyHaveTreeOrFault, FaultsAreOne, IsNesting, IsSpelled, SameReason, TreesHaveNoFault}
-
--- ---- symbols in two parts at a place
-
--- what goes together, in parts
-record Split (extra : ℕ) (g : Form) (n : ℕ) (xs ys : List Sym) : Type 0 where
-  before : List Sym
-  after : List Sym
-  parts : xs ≡ before ++ after
-  counted : length after ≡ n
-  rest : List Sym
-  goes : ys ≡ before ++ (hint extra g after ++ rest)
-  stands : StandsAt extra g after
-
-split : {extra : ℕ} {g : Form} {n : ℕ} {xs ys : List Sym} → Goes extra g n xs ys → Split extra g n xs ys
-split {xs = xs} (at_place counted starts stands) = record { before = []; after = xs; parts = refl; counted = counted; rest = starts.0; goes = starts.1; stands = stands }
-split (there {x = x} h) =
-    let s = split h in
-    record { before = x ∷ s.before; after = s.after; parts = ap (λ ys. x ∷ ys) s.parts; counted = s.counted; rest = s.rest; goes = ap (λ ys. x ∷ ys) s.goes; stands = s.stands }
-
-head_or : Sym → List Sym → Sym
-head_or d [] = d
-head_or d (x ∷ xs) = x
-
-tail_of : List Sym → List Sym
-tail_of [] = []
-tail_of (x ∷ xs) = xs
-
--- ---- no tree goes on past a fault
-
-abbrev Finds : List Sym → Form → ℕ → Type 0
-Finds symbols g n = specification_within heaviest deepest symbols ≡ Err (fault g n)
-
-is_no_limit : (symbols : List Sym) (g : Form) (n : ℕ) → Finds symbols g n → (g ≡ nesting → ⊥) → IsNesting (specification_within heaviest deepest symbols) → ⊥
-is_no_limit symbols g n finds other_form h = other_form (subst IsNesting finds h)
-
-never : (symbols : List Sym) (g : Form) (n : ℕ) → Finds symbols g n → (g ≡ nesting → ⊥) → (x : Sym) (xs ys : List Sym) → symbols ≡ xs ++ x ∷ ys → n ≡ suc (length ys) → BeginsAnyTree (xs ++ x ∷ []) → ⊥
-never symbols g n finds other_form x xs ys parts counted begins =
-    let most = begins.0 in
-    let deep = begins.1 in
-    let b = begins.2 in
-    elim (more_room heaviest deepest most deep symbols) [
-      | inl h ↦ is_no_limit symbols g n finds other_form h
-      | inr same ↦
-          let found : specification_within (most + heaviest) (deep + deepest) (xs ++ x ∷ ys) ≡ Err (fault g (suc (length ys))) =
-          ap (specification_within (most + heaviest) (deep + deepest)) (sym parts) ∙ sym same ∙ finds ∙ ap (λ l. Err (fault g l)) counted in
-          none_begins_within (most + heaviest) (deep + deepest) g x xs ys b.rest b.items found (wider_items most (most + heaviest) deep (deep + deepest) b.items (omega arith) (omega arith) b.good)
-          (b.spells ∙ append_assoc xs (x ∷ []) b.rest)
-    ]
-
-none_within : (symbols : List Sym) (g : Form) (n : ℕ) → Finds symbols g n → (x : Sym) (xs ys : List Sym) → symbols ≡ xs ++ x ∷ ys → n ≡ suc (length ys) → BeginsATree (xs ++ x ∷ []) → ⊥
-none_within symbols g n finds x xs ys parts counted b =
-    let found : specification_within heaviest deepest (xs ++ x ∷ ys) ≡ Err (fault g (suc (length ys))) =
-    ap (specification_within heaviest deepest) (sym parts) ∙ finds ∙ ap (λ l. Err (fault g l)) counted in
-    none_begins_within heaviest deepest g x xs ys b.rest b.items found b.good (b.spells ∙ append_assoc xs (x ∷ []) b.rest)
+use Rattle.sl_places.specs.Forms.{BeginsATree, BeginsAnyTree, StandsFor, other, IsLeftOut, floating_mark, lacking_word, function, statement, address, leading, constraint, width, word_size}
+use Rattle.sl_places.specs.Laws.{AnyHaveTreeOrFault, FaultsAreOne, IsSpelled, TreesHaveNoFault}
 
 -- the same, where the symbol is the last of several
 moved : (before front : List Sym) (x : Sym) → BeginsAnyTree (before ++ (front ++ x ∷ [])) → BeginsAnyTree ((before ++ front) ++ x ∷ [])
@@ -138,9 +84,32 @@ module _ (symbols : List Sym) (feature : Feature) (n : ℕ) (before after : List
   instead : (x : Sym) → first after ≡ Some x → (known_symbols : List Sym) → BeginsAnyTree (before ++ known_symbols) → StandsFor before (x ∷ []) known_symbols
   instead x is known_symbols fits = record { fits = fits; never = never_here x is }
 
+constraint_here : (symbols : List Sym) (n : ℕ) (before after : List Sym) → Known symbols name_there n before after → Causes before (left_out f.NameInConstraint) after
+constraint_here symbols n before after known =
+    let x = known.stands.0 in
+    let is = known.stands.1 in
+    let parts = first_parts after x is in
+    let whole : symbols ≡ before ++ x ∷ parts.0 = known.parts ∙ ap (λ xs. before ++ xs) parts.1 in
+    let counted = known.counted in
+    let long = ap length parts.1 in
+    placed symbols f.NameInConstraint n before after known x is (λ ys. constraint known.stands.2 (never_here symbols f.NameInConstraint n before after known x is) (record {
+      fits = known.fits;
+      never = none_other symbols before parts.0 x known.stands.2 n whole (omega (arith, counted, long)) known.finds;
+    }))
+
+lacking_here : (symbols : List Sym) (n : ℕ) (before after : List Sym) → Known symbols (unsupported f.InstNext2 0) n before after → Causes before (left_out f.InstNext2) after
+lacking_here symbols n before after known =
+    let x = keyword k.InstNext2 in
+    let parts = first_parts after x known.stands in
+    let whole : symbols ≡ before ++ x ∷ parts.0 = known.parts ∙ ap (λ xs. before ++ xs) parts.1 in
+    let counted = known.counted in
+    let long = ap length parts.1 in
+    placed symbols f.InstNext2 n before after known x known.stands
+    (λ ys. lacking_word (never_here symbols f.InstNext2 n before after known x known.stands) (elsewhere symbols before parts.0 n whole (omega (arith, counted, long)) known.finds))
+
 form_here : (symbols : List Sym) (feature : Feature) (n : ℕ) (before after : List Sym) → Known symbols (unsupported feature 0) n before after → Causes before (left_out feature) after
 form_here symbols f.FloatingPoint n before after known = placed symbols f.FloatingPoint n before after known (mark m.Floating) known.stands (λ ys. floating_mark (never_here symbols f.FloatingPoint n before after known (mark m.Floating) known.stands))
-form_here symbols f.InstNext2 n before after known = placed symbols f.InstNext2 n before after known (keyword k.InstNext2) known.stands (λ ys. lacking_word (never_here symbols f.InstNext2 n before after known (keyword k.InstNext2) known.stands))
+form_here symbols f.InstNext2 n before after known = lacking_here symbols n before after known
 form_here symbols f.Crossbuild n before after known =
     let w = known.stands.0 in
     let is = known.stands.1 in
@@ -151,10 +120,7 @@ form_here symbols f.DelaySlot n before after known =
     placed symbols f.DelaySlot n before after known (name w) is (λ ys. statement known.stands.2 (instead symbols f.DelaySlot n before after known (name w) is (name other ∷ []) known.fits))
 form_here symbols f.AddressOf n before after known =
     placed symbols f.AddressOf n before after known (mark m.Ampersand) known.stands (λ ys. address (instead symbols f.AddressOf n before after known (mark m.Ampersand) known.stands (mark m.Tilde ∷ []) known.fits))
-form_here symbols f.NameInConstraint n before after known =
-    let x = known.stands.0 in
-    let is = known.stands.1 in
-    placed symbols f.NameInConstraint n before after known x is (λ ys. constraint known.stands.2 (instead symbols f.NameInConstraint n before after known x is (mark m.Tilde ∷ []) known.fits))
+form_here symbols f.NameInConstraint n before after known = constraint_here symbols n before after known
 form_here symbols f.LeadingEllipsis n before after known =
     placed symbols f.LeadingEllipsis n before after known (mark m.Ellipsis) known.stands
     (λ ys. leading (instead symbols f.LeadingEllipsis n before after known (mark m.Ellipsis) known.stands (name other ∷ mark m.Ellipsis ∷ []) known.fits))
@@ -206,44 +172,6 @@ cause symbols (unsupported feature zero) n before after known = form_here symbol
 cause symbols (unsupported feature (suc zero)) n before after known = form_before symbols feature n before after known
 cause symbols (unsupported feature (suc (suc c))) n before after known = form_long_before symbols feature c n before after known
 
--- ---- faults of symbols
-
--- a tree of a whole list
-begun : (extra : ℕ) (xs : List Sym) (e : Fault) → many is_there (item heaviest deepest) (at xs 0) ≡ Err e → Mended extra (spell_all spell_item) (AreItemsWithin (extra + heaviest) (extra + deepest)) xs e
-begun extra xs e h = (whole_items extra heaviest deepest).mends (at xs 0) tt e h
-
--- what begins a tree begins one with fewer symbols
-shorter : (most deep : ℕ) (xs ys : List Sym) → BeginsWithin most deep (xs ++ ys) → BeginsWithin most deep xs
-shorter most deep xs ys b = record { items = b.items; good = b.good; rest = ys ++ b.rest; spells = b.spells ∙ append_assoc xs ys b.rest }
-
--- the symbols before the one where the fault was found begin a tree
-pub begins_up_to : (symbols : List Sym) (e : Fault) → specification symbols ≡ Err e → (xs : List Sym) × (ys : List Sym) × (symbols ≡ xs ++ ys) × (length ys ≡ e.left) × BeginsATree xs
-unfolding specification specification_within
-begins_up_to symbols e h =
-    let plain = begun 0 symbols e (refused (many is_there (item heaviest deepest) (at symbols 0)) e h) in
-    let s = split (plain.goes []) in (
-      s.before,
-      s.after,
-      s.parts,
-      s.counted,
-      record {
-        items = plain.tree;
-        good = wider_items (0 + heaviest) heaviest (0 + deepest) deepest plain.tree (omega arith) (omega arith) plain.good;
-        rest = s.rest;
-        spells = s.goes;
-      },
-    )
-
--- the longer front of two
-front_of : (xs ys zs ws : List Sym) → xs ++ ys ≡ zs ++ ws → length ys ≤ length ws → (more : List Sym) × (xs ≡ zs ++ more)
-unfolding tail_of head_or
-front_of xs ys [] ws e less = (xs, refl)
-front_of [] ys (z ∷ zs) ws e less = let long = ap length e in let count = length-append zs ws in absurd (omega (arith, long, count, less))
-front_of (x ∷ xs) ys (z ∷ zs) ws e less =
-    let same : x ≡ z = ap (head_or z) e in
-    let later = front_of xs ys zs ws (ap tail_of e) less in
-    (later.0, ap (λ v. v ∷ xs) same ∙ ap (λ vs. z ∷ vs) later.1)
-
 -- ---- no form that is left out comes before
 
 -- a single symbol in the middle
@@ -269,31 +197,15 @@ stands_out symbols front known written rest names stands = record {
 
 out_is : (symbols front back : List Sym) (feature : Feature) → IsLeftOut front feature back → Out symbols front back
 out_is symbols front _ _ (floating_mark {ys = ys} none) = record { written = mark m.Floating ∷ []; rest = ys; is = refl; never = none; named = λ e errs less. floating_named heaviest deepest front ys e (straight front (mark m.Floating) ys e errs) less }
-out_is symbols front _ _ (lacking_word {ys = ys} none) = record { written = keyword k.InstNext2 ∷ []; rest = ys; is = refl; never = none; named = λ e errs less. lacking_named heaviest deepest front ys e (straight front (keyword k.InstNext2) ys e errs) less }
+out_is symbols front _ _ (lacking_word {ys = ys} none elsewhere_too) = record { written = keyword k.InstNext2 ∷ []; rest = ys; is = refl; never = none; named = λ e errs less. lacking_named heaviest deepest front ys e (straight front (keyword k.InstNext2) ys e errs) less }
 out_is symbols front _ _ (function {feature = g} {w = w} {ys = ys} missing stands) = stands_out symbols front _ _ ys (function_named w g missing) stands
 out_is symbols front _ _ (statement {feature = g} {w = w} {ys = ys} missing stands) = stands_out symbols front _ _ ys (statement_named w g missing) stands
 out_is symbols front _ _ (address {ys = ys} stands) = stands_out symbols front _ _ ys address_named stands
 out_is symbols front _ _ (leading {ys = ys} stands) = stands_out symbols front _ _ ys leading_named stands
-out_is symbols front _ _ (constraint {x = x} {ys = ys} like stands) = stands_out symbols front _ _ ys (constraint_named x like) stands
+out_is symbols front _ _ (constraint {x = x} {ys = ys} like none inside) =
+    stands_out symbols front _ _ ys (constraint_named x like) (record { fits = inside.fits; never = none })
 out_is symbols front _ _ (width {n = n} {ys = ys} stands) = stands_out symbols front _ _ ys (width_named n) stands
 out_is symbols front _ _ (word_size {n = n} {ys = ys} stands) = stands_out symbols front _ _ ys (word_size_named n) stands
-
-gt_is : (a b : ℕ) → nat_le a b ≡ false → b < a
-gt_is a b h = grind (arith, nat_tests)
-
--- Symbols that begin no tree go on to where the fault was found.
-reaches : (symbols : List Sym) (e : Fault) → specification symbols ≡ Err e → (front written rest : List Sym) → symbols ≡ (front ++ written) ++ rest → (BeginsAnyTree (front ++ written) → ⊥)
-    → length rest < e.left
-reaches symbols e h front written rest parts never = by_order (nat_le e.left (length rest)) refl
-  where
-    by_order : (b : Bool) → nat_le e.left (length rest) ≡ b → length rest < e.left
-    by_order false is = gt_is e.left (length rest) is
-    by_order true is =
-        let less = le_is e.left (length rest) is in
-        let up = begins_up_to symbols e h in
-        let counted = up.3 in
-        let more = front_of up.0 up.1 (front ++ written) rest (sym up.2 ∙ parts) (omega (arith, counted, less)) in
-        absurd (never (heaviest, deepest, shorter heaviest deepest (front ++ written) more.0 (subst BeginsATree more.1 up.4)))
 
 told_here : (symbols front : List Sym) (g : Form) (left : ℕ) (reason : Reason) (at_index : ℕ) → reason_of g ≡ reason → at_index + (back_of g + left) ≡ length symbols → (feature : Feature) (c : ℕ)
     → g ≡ unsupported feature c → length symbols ≡ length front + (c + left) → (at_index < length front) ⊎ ((at_index ≡ length front) × IsOut reason)
@@ -419,11 +331,6 @@ trees_have_none symbols reason at_index tree h = no_tree symbols h.before h.afte
 
 -- ---- faults are one
 
-behind : (xs ys zs : List Sym) → xs ++ ys ≡ xs ++ zs → ys ≡ zs
-unfolding tail_of
-behind [] ys zs e = e
-behind (x ∷ xs) ys zs e = behind xs ys zs (ap tail_of e)
-
 -- no fault stands before another
 module _ (symbols : List Sym) (r q : Reason) (k l : ℕ) (a : IsFault symbols r k) (b : IsFault symbols q l) where
   -- what the second has before it, behind the first
@@ -487,6 +394,10 @@ module _ (symbols : List Sym) (r q : Reason) (k l : ℕ) (a : IsFault symbols r 
   same_cause : k ≡ l → Causes a.before q a.after
   same_cause equal = subst (λ ys. Causes a.before q ys) (same_after equal) (subst (λ xs. Causes xs q b.after) (same_before equal) b.cause)
 
+-- the form, where that is the reason
+is_out : (before after : List Sym) (feature : Feature) → Causes before (left_out feature) after → IsLeftOut before feature after
+is_out before _ _ (form is) = is
+
 -- a symbol with which trees go on
 goes_on : (before after : List Sym) → Causes before too_deep after → (x : Sym) × (ys : List Sym) × (after ≡ x ∷ ys) × BeginsAnyTree (before ++ x ∷ [])
 goes_on before _ (limit {x = x} {after = ys} fits none) = (x, ys, refl, fits)
@@ -500,16 +411,17 @@ ends_or_stops before _ (ending none) x ys same begins = absurd (cc)
 clash : (before after : List Sym) → Causes before no_spelling after → Causes before too_deep after → ⊥
 clash before after a b = let g = goes_on before after b in ends_or_stops before after a g.0 g.1 g.2 g.3
 
-same_reason : (before after : List Sym) (r q : Reason) → Causes before r after → Causes before q after → (IsOut r → IsOut q) → (IsOut q → IsOut r) → SameReason r q
-same_reason before after no_spelling no_spelling a b first_out second_out = tt
+-- two causes at one place are one, but that a form is told wherever one begins
+same_reason : (before after : List Sym) (r q : Reason) → Causes before r after → Causes before q after → (IsOut r → IsOut q) → (IsOut q → IsOut r) → r ≡ q
+same_reason before after no_spelling no_spelling a b first_out second_out = refl
 same_reason before after no_spelling too_deep a b first_out second_out = absurd (clash before after a b)
 same_reason before after no_spelling (left_out g) a b first_out second_out = absurd (second_out tt)
 same_reason before after too_deep no_spelling a b first_out second_out = absurd (clash before after b a)
-same_reason before after too_deep too_deep a b first_out second_out = tt
+same_reason before after too_deep too_deep a b first_out second_out = refl
 same_reason before after too_deep (left_out g) a b first_out second_out = absurd (second_out tt)
-same_reason before after (left_out f) no_spelling a b first_out second_out = absurd (first_out tt)
-same_reason before after (left_out f) too_deep a b first_out second_out = absurd (first_out tt)
-same_reason before after (left_out f) (left_out g) a b first_out second_out = tt
+same_reason before after (left_out g) no_spelling a b first_out second_out = absurd (first_out tt)
+same_reason before after (left_out g) too_deep a b first_out second_out = absurd (first_out tt)
+same_reason before after (left_out g) (left_out h) a b first_out second_out = ap left_out (one_form before after g h (is_out before after g a) (is_out before after h b))
 
 same_place : (k l : ℕ) → (k < l → ⊥) → (l < k → ⊥) → k ≡ l
 same_place k l less more = by_order (nat_le k l) refl (nat_le l k) refl

@@ -5,7 +5,7 @@ use Rattle.sl_ast.specs.Symbols.{Sym}
 use Rattle.sl_ast.specs.Trees.{Item}
 use Rattle.sl_ast.specs.Validity.{AreItems}
 use Rattle.sl_ast.specs.declared.symbols.Feature.{Feature}
-use Rattle.sl_grammar.specs.Faults.{Reason, no_spelling, too_deep, left_out}
+pub use Rattle.sl_grammar.specs.Faults.{Reason, no_spelling, too_deep, left_out}
 use Rattle.sl_places.specs.Forms.{BeginsATree, BeginsAnyTree, IsLeftOut}
 
 -- Behind `before` stands what can be in no tree.

@@ -45,12 +45,17 @@ IsNameLike (word (plain w)) = Unit {0}
 IsNameLike (word (quoted k.InstNext2)) = Unit {0}
 IsNameLike x = ⊥
 
+-- Behind `before` an operand of a constraint is due: it may begin with `~`, and no name may stand.
+abbrev pub IsInConstraint : List Sym → Type 0
+IsInConstraint before = StandsFor before (name other ∷ []) (mark m.Tilde ∷ [])
+
 -- Behind `before` a form of this feature begins, with these symbols.
 pub data IsLeftOut (before : List Sym) : Feature → List Sym → Type 0 where
   -- a floating mark, which stands in no tree
   floating_mark : {ys : List Sym} → (BeginsAnyTree (before ++ mark m.Floating ∷ []) → ⊥) → IsLeftOut before f.FloatingPoint (mark m.Floating ∷ ys)
-  -- the word `inst_next2`, but for displays
-  lacking_word : {ys : List Sym} → (BeginsAnyTree (before ++ keyword k.InstNext2 ∷ []) → ⊥) → IsLeftOut before f.InstNext2 (keyword k.InstNext2 ∷ ys)
+  -- the word `inst_next2`, but for displays and constraints
+  lacking_word : {ys : List Sym} → (BeginsAnyTree (before ++ keyword k.InstNext2 ∷ []) → ⊥) → (IsInConstraint before → ⊥)
+      → IsLeftOut before f.InstNext2 (keyword k.InstNext2 ∷ ys)
   -- a call of a function, in a section where another could be called
   function : {feature : Feature} {w : Name} {ys : List Sym} → missing_function w ≡ Some feature
       → StandsFor before (name w ∷ mark m.Open ∷ []) (name other ∷ mark m.Open ∷ []) → IsLeftOut before feature (name w ∷ mark m.Open ∷ ys)
@@ -61,8 +66,9 @@ pub data IsLeftOut (before : List Sym) : Feature → List Sym → Type 0 where
   address : {ys : List Sym} → StandsFor before (mark m.Ampersand ∷ []) (mark m.Tilde ∷ []) → IsLeftOut before f.AddressOf (mark m.Ampersand ∷ ys)
   -- `...` where a part of a pattern is due, which may be a name with `...` behind it
   leading : {ys : List Sym} → StandsFor before (mark m.Ellipsis ∷ []) (name other ∷ mark m.Ellipsis ∷ []) → IsLeftOut before f.LeadingEllipsis (mark m.Ellipsis ∷ ys)
-  -- a name where an operand is due and none may stand
-  constraint : {x : Sym} {ys : List Sym} → IsNameLike x → StandsFor before (x ∷ []) (mark m.Tilde ∷ []) → IsLeftOut before f.NameInConstraint (x ∷ ys)
+  -- a name, or that word, in a constraint
+  constraint : {x : Sym} {ys : List Sym} → IsNameLike x → (BeginsAnyTree (before ++ x ∷ []) → ⊥) → IsInConstraint before
+      → IsLeftOut before f.NameInConstraint (x ∷ ys)
   -- a size that is too wide, where another could stand
   width : {n : ℕ} {ys : List Sym} → StandsFor before (number n ∷ []) (number 0 ∷ []) → IsLeftOut before f.WideValue (number n ∷ ys)
   -- another word size than 1

@@ -4,7 +4,7 @@ use Rattle.sl_ast.specs.Spelling.{spell}
 use Rattle.sl_ast.specs.Symbols.{Sym}
 use Rattle.sl_ast.specs.Trees.{Item}
 use Rattle.sl_ast.specs.Validity.{AreItems}
-use Rattle.sl_grammar.specs.Faults.{Reason, no_spelling, too_deep, left_out, HasFault}
+use Rattle.sl_grammar.specs.Faults.{Reason, HasFault}
 use Rattle.sl_grammar.specs.Items.{specification_within}
 use Rattle.sl_grammar.specs.Reader.{Fault, nesting}
 use Rattle.sl_places.specs.Causes.{IsFault}
@@ -35,13 +35,6 @@ AnyHaveTreeOrFault = (symbols : List Sym) → IsSpelled symbols ⊎ ((reason : R
 abbrev pub TreesHaveNoFault : Type 0
 TreesHaveNoFault = (symbols : List Sym) (reason : Reason) (place : ℕ) → IsSpelled symbols → IsFault symbols reason place → ⊥
 
--- the same reason, but perhaps for another form that begins at the same symbol
-abbrev pub SameReason : Reason → Reason → Type 0
-SameReason no_spelling no_spelling = Unit {0}
-SameReason too_deep too_deep = Unit {0}
-SameReason (left_out f) (left_out g) = Unit {0}
-SameReason r q = ⊥
-
 -- Symbols have one fault at most.
 abbrev pub FaultsAreOne : Type 0
-FaultsAreOne = (symbols : List Sym) (r q : Reason) (k l : ℕ) → IsFault symbols r k → IsFault symbols q l → (k ≡ l) × SameReason r q
+FaultsAreOne = (symbols : List Sym) (r q : Reason) (k l : ℕ) → IsFault symbols r k → IsFault symbols q l → (k ≡ l) × (r ≡ q)
