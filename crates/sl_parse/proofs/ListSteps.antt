@@ -4,12 +4,17 @@ use Rattle.sl_ast.specs.Symbols.{Sym}
 use Rattle.sl_ast.specs.declared.symbols.Mark.TheVariants as m
 use Rattle.sl_grammar.specs.Lists.{many_from, separated_from}
 use Rattle.sl_grammar.specs.Reader.{Fault, Input, Outcome, Reader, first, next, is_mark, refuse}
-use Rattle.sl_phrases.specs.Reads.{IsFault, Stops}
+use Rattle.sl_phrases.specs.Reads.{IsFault, Refuses, Stops}
 use Rattle.sl_phrases.specs.declared.stop.Stop as s
 use Rattle.sl_phrases.specs.declared.stop.Stop.TheVariants as sv
 
 pub stops_along : {A : Type 0} (o p : Outcome A) (e : s.Stop) → o ≡ p → Stops p e → Stops o e
 stops_along o p e same h = let P : Outcome _ → Type 0 = λ x. Stops x e in subst P (sym same) h
+
+-- a refusal is a stop
+pub refused_stops : {A : Type 0} (o : Outcome A) (e : s.Stop) → Refuses o e → Stops o e
+refused_stops o sv.NoMemory h = absurd h
+refused_stops o (sv.At form left) h = h
 
 pub many_stops : {A : Type 0} (goes : Option Sym → Bool) (p : Reader A) (n : ℕ) (found : List A) (i : Input) (e : s.Stop) → goes (first i.rest) ≡ true
     → Stops (p i) e → Stops (many_from goes p (suc n) found i) e

@@ -6,7 +6,7 @@ ghost use Rattle.sl_ast.specs.Views.{action_of};
 ghost use Rattle.sl_ast.specs.declared.symbols.Mark.TheVariants as m;
 ghost use Rattle.sl_grammar.specs.Reader.{is_mark, optional};
 ghost use Rattle.sl_grammar.specs.Statements as reader;
-ghost use Rattle.sl_phrases.specs.Reads.{Reads, seen_by};
+ghost use Rattle.sl_phrases.specs.Reads.{Reads, ReadsAll, seen_by};
 
 use crate::lists::{Part, Repeated, many};
 use crate::parts::operand;
@@ -22,7 +22,7 @@ use std::alloc::Global;
 /// `globalset(address, field);`.
 #[tactic(auto, unfolding(sl_grammar::specs::Statements::global_set_here))]
 fn global_set_here<'a>(symbols: &mut Symbols<'_, 'a>) -> Result<Action<'a>, Stop>
-    ensures { Reads action_of (reader.global_set_here symbols.old) result symbols.new }
+    ensures { ReadsAll action_of (reader.global_set_here symbols.old) result symbols.new }
 {
     symbols.expect_keyword(Keyword::GlobalSet)?;
     symbols.expect(Mark::Open)?;

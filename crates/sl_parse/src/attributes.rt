@@ -7,7 +7,7 @@ ghost use Rattle.sl_ast.specs.declared.symbols.Mark.TheVariants as m;
 ghost use Rattle.sl_grammar.specs.Definitions as reader;
 ghost use Rattle.sl_grammar.specs.Reader.{first, is_keyword, optional};
 ghost use Rattle.sl_grammar.specs.Statements.{until};
-ghost use Rattle.sl_phrases.specs.Reads.{Plain, Reads};
+ghost use Rattle.sl_phrases.specs.Reads.{Plain, ReadsAll};
 
 use crate::lists::{Part, Repeated};
 use sl_ast::definitions::{ByteOrder, FieldAttribute, SpaceAttribute};
@@ -19,7 +19,7 @@ use std::alloc::Global;
 
 /// The word for a byte order.
 fn order_word(symbols: &mut Symbols) -> Result<ByteOrder, Stop>
-    ensures { Reads Plain (reader.order_by (first symbols.old.rest) symbols.old) result symbols.new }
+    ensures { ReadsAll Plain (reader.order_by (first symbols.old.rest) symbols.old) result symbols.new }
 {
     match symbols.peek() {
         Some(Symbol::Quoted(Keyword::Big, _)) => {
@@ -37,7 +37,7 @@ fn order_word(symbols: &mut Symbols) -> Result<ByteOrder, Stop>
 /// `endian=` with a byte order.
 #[tactic(auto, unfolding(sl_grammar::specs::Definitions::order))]
 pub fn order(symbols: &mut Symbols) -> Result<ByteOrder, Stop>
-    ensures { Reads Plain (reader.order symbols.old) result symbols.new }
+    ensures { ReadsAll Plain (reader.order symbols.old) result symbols.new }
 {
     symbols.expect_keyword(Keyword::Endian)?;
     symbols.expect(Mark::Equals)?;
@@ -47,7 +47,7 @@ pub fn order(symbols: &mut Symbols) -> Result<ByteOrder, Stop>
 
 /// `endian=` with a byte order, which may lack.
 pub fn order_option(symbols: &mut Symbols) -> Result<Option<ByteOrder>, Stop>
-    ensures { Reads Plain (optional (is_keyword k.Endian) reader.order symbols.old) result symbols.new }
+    ensures { ReadsAll Plain (optional (is_keyword k.Endian) reader.order symbols.old) result symbols.new }
 {
     if symbols.is_keyword(Keyword::Endian) {
         let written = order(symbols)?;
@@ -60,7 +60,7 @@ pub fn order_option(symbols: &mut Symbols) -> Result<Option<ByteOrder>, Stop>
 /// `type=name`.
 #[tactic(auto, unfolding(sl_grammar::specs::Definitions::type_here))]
 fn type_here<'a>(symbols: &mut Symbols<'_, 'a>) -> Result<SpaceAttribute<'a>, Stop>
-    ensures { Reads space_attribute_of (reader.type_here symbols.old) result symbols.new }
+    ensures { ReadsAll space_attribute_of (reader.type_here symbols.old) result symbols.new }
 {
     symbols.expect_keyword(Keyword::Type)?;
     symbols.expect(Mark::Equals)?;
@@ -71,7 +71,7 @@ fn type_here<'a>(symbols: &mut Symbols<'_, 'a>) -> Result<SpaceAttribute<'a>, St
 /// `size=n`.
 #[tactic(auto, unfolding(sl_grammar::specs::Definitions::size_attribute))]
 fn size_attribute<'a>(symbols: &mut Symbols<'_, 'a>) -> Result<SpaceAttribute<'a>, Stop>
-    ensures { Reads space_attribute_of (reader.size_attribute symbols.old) result symbols.new }
+    ensures { ReadsAll space_attribute_of (reader.size_attribute symbols.old) result symbols.new }
 {
     symbols.expect_keyword(Keyword::Size)?;
     symbols.expect(Mark::Equals)?;
@@ -82,7 +82,7 @@ fn size_attribute<'a>(symbols: &mut Symbols<'_, 'a>) -> Result<SpaceAttribute<'a
 /// A word size, which is 1.
 #[tactic(auto, unfolding(sl_grammar::specs::Definitions::checked_size))]
 fn word_size<'a>(symbols: &mut Symbols<'_, 'a>) -> Result<SpaceAttribute<'a>, Stop>
-    ensures { Reads space_attribute_of (reader.word_size_by (first symbols.old.rest) symbols.old) result symbols.new }
+    ensures { ReadsAll space_attribute_of (reader.word_size_by (first symbols.old.rest) symbols.old) result symbols.new }
 {
     match symbols.peek() {
         Some(Symbol::Number(size)) => {
@@ -99,7 +99,7 @@ fn word_size<'a>(symbols: &mut Symbols<'_, 'a>) -> Result<SpaceAttribute<'a>, St
 /// `wordsize=1`.
 #[tactic(auto, unfolding(sl_grammar::specs::Definitions::word_size_here))]
 fn word_size_here<'a>(symbols: &mut Symbols<'_, 'a>) -> Result<SpaceAttribute<'a>, Stop>
-    ensures { Reads space_attribute_of (reader.word_size_here symbols.old) result symbols.new }
+    ensures { ReadsAll space_attribute_of (reader.word_size_here symbols.old) result symbols.new }
 {
     symbols.expect_keyword(Keyword::WordSize)?;
     symbols.expect(Mark::Equals)?;

@@ -7,7 +7,7 @@ ghost use Rattle.sl_ast.specs.declared.symbols.Keyword.TheVariants as k;
 ghost use Rattle.sl_grammar.specs.Items as reader;
 ghost use Rattle.sl_grammar.specs.Patterns.{whole_pattern};
 ghost use Rattle.sl_grammar.specs.Reader.{first, is_keyword, name_here, optional};
-ghost use Rattle.sl_phrases.specs.Reads.{Reads};
+ghost use Rattle.sl_phrases.specs.Reads.{Reads, ReadsAll};
 
 use crate::actions::actions_option;
 use crate::lists::{Part, Repeated, many};
@@ -64,7 +64,7 @@ fn is_name(symbols: &Symbols) -> bool
 
 /// The name of a table, which may lack.
 fn table_option<'a>(symbols: &mut Symbols<'_, 'a>) -> Result<Option<&'a [u8]>, Stop>
-    ensures { Reads (option_map bytes) (optional reader.is_name name_here symbols.old) result symbols.new }
+    ensures { ReadsAll (option_map bytes) (optional reader.is_name name_here symbols.old) result symbols.new }
 {
     if is_name(symbols) {
         let name = symbols.name()?;

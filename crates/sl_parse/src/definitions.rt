@@ -7,7 +7,7 @@ ghost use Rattle.sl_ast.specs.declared.symbols.Mark.TheVariants as m;
 ghost use Rattle.sl_grammar.specs.Definitions as reader;
 ghost use Rattle.sl_grammar.specs.Reader.{is_keyword, name_here, optional};
 ghost use Rattle.sl_grammar.specs.Statements.{until};
-ghost use Rattle.sl_phrases.specs.Reads.{Plain, Reads};
+ghost use Rattle.sl_phrases.specs.Reads.{Plain, Reads, ReadsAll};
 
 use crate::attributes::{order, order_option};
 use crate::lists::{Part, Repeated, many};
@@ -142,7 +142,7 @@ pub fn names<'a>(alloc: Global, symbols: &mut Symbols<'_, 'a>) -> Result<Names<'
 /// `alignment=n`.
 #[tactic(auto, unfolding(sl_grammar::specs::Definitions::alignment_here))]
 fn alignment_here<'a>(symbols: &mut Symbols<'_, 'a>) -> Result<Definition<'a>, Stop>
-    ensures { Reads definition_of (reader.alignment_here symbols.old) result symbols.new }
+    ensures { ReadsAll definition_of (reader.alignment_here symbols.old) result symbols.new }
 {
     symbols.expect_keyword(Keyword::Alignment)?;
     symbols.expect(Mark::Equals)?;
@@ -247,7 +247,7 @@ pub fn definition<'a>(alloc: Global, symbols: &mut Symbols<'_, 'a>) -> Result<De
 /// What is attached.
 #[tactic(auto, unfolding(sl_grammar::specs::Definitions::attach_kind))]
 pub fn attach_kind(symbols: &mut Symbols) -> Result<AttachKind, Stop>
-    ensures { Reads Plain (reader.attach_kind symbols.old) result symbols.new }
+    ensures { ReadsAll Plain (reader.attach_kind symbols.old) result symbols.new }
 {
     let kind = match symbols.peek() {
         Some(Symbol::Quoted(Keyword::Variables, _)) => AttachKind::Variables,
@@ -261,7 +261,7 @@ pub fn attach_kind(symbols: &mut Symbols) -> Result<AttachKind, Stop>
 
 /// `-n`.
 fn negative<'a>(symbols: &mut Symbols<'_, 'a>) -> Result<Member<'a>, Stop>
-    ensures { Reads member_of (reader.negative symbols.old) result symbols.new }
+    ensures { ReadsAll member_of (reader.negative symbols.old) result symbols.new }
 {
     symbols.skip();
     let value = symbols.integer()?;

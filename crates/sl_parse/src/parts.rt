@@ -5,7 +5,7 @@ ghost use Rattle.sl_ast.specs.Views.{bytes, direct_of, exported_of, operand_of_a
 ghost use Rattle.sl_ast.specs.declared.symbols.Mark.TheVariants as m;
 ghost use Rattle.sl_grammar.specs.Reader.{is_mark, optional};
 ghost use Rattle.sl_grammar.specs.Statements as reader;
-ghost use Rattle.sl_phrases.specs.Reads.{Reads};
+ghost use Rattle.sl_phrases.specs.Reads.{ReadsAll};
 
 use sl_ast::patterns::Address;
 use sl_ast::statements::{Direct, Exported, Pointer, Star, Stmt};
@@ -17,7 +17,7 @@ use sl_symbols::Symbol;
 /// A name or an integer.
 #[tactic(auto, unfolding(sl_grammar::specs::Statements::operand))]
 pub fn operand<'a>(symbols: &mut Symbols<'_, 'a>) -> Result<Address<'a>, Stop>
-    ensures { Reads operand_of_address (reader.operand symbols.old) result symbols.new }
+    ensures { ReadsAll operand_of_address (reader.operand symbols.old) result symbols.new }
 {
     match symbols.peek() {
         Some(Symbol::Number(value)) => {
@@ -34,7 +34,7 @@ pub fn operand<'a>(symbols: &mut Symbols<'_, 'a>) -> Result<Address<'a>, Stop>
 
 /// A name or an integer that points to memory.
 fn pointer<'a>(symbols: &mut Symbols<'_, 'a>) -> Result<Pointer<'a>, Stop>
-    ensures { Reads operand_of_pointer (reader.operand symbols.old) result symbols.new }
+    ensures { ReadsAll operand_of_pointer (reader.operand symbols.old) result symbols.new }
 {
     match operand(symbols)? {
         Address::Name(name) => Ok(Pointer::Name(name)),
@@ -45,7 +45,7 @@ fn pointer<'a>(symbols: &mut Symbols<'_, 'a>) -> Result<Pointer<'a>, Stop>
 /// `[space]`.
 #[tactic(auto, unfolding(sl_grammar::specs::Statements::space_name))]
 fn space_name<'a>(symbols: &mut Symbols<'_, 'a>) -> Result<&'a [u8], Stop>
-    ensures { Reads bytes (reader.space_name symbols.old) result symbols.new }
+    ensures { ReadsAll bytes (reader.space_name symbols.old) result symbols.new }
 {
     symbols.expect(Mark::OpenBracket)?;
     let name = symbols.name()?;
@@ -55,7 +55,7 @@ fn space_name<'a>(symbols: &mut Symbols<'_, 'a>) -> Result<&'a [u8], Stop>
 
 /// `[space]`, which may lack.
 fn space_option<'a>(symbols: &mut Symbols<'_, 'a>) -> Result<Option<&'a [u8]>, Stop>
-    ensures { Reads (option_map bytes) (optional (is_mark m.OpenBracket) reader.space_name symbols.old) result symbols.new }
+    ensures { ReadsAll (option_map bytes) (optional (is_mark m.OpenBracket) reader.space_name symbols.old) result symbols.new }
 {
     if symbols.is_mark(Mark::OpenBracket) {
         let name = space_name(symbols)?;
@@ -68,7 +68,7 @@ fn space_option<'a>(symbols: &mut Symbols<'_, 'a>) -> Result<Option<&'a [u8]>, S
 /// `*[space]:n`.
 #[tactic(auto, unfolding(sl_grammar::specs::Statements::star_form))]
 pub fn star_form<'a>(symbols: &mut Symbols<'_, 'a>) -> Result<Star<'a>, Stop>
-    ensures { Reads star_of (reader.star_form symbols.old) result symbols.new }
+    ensures { ReadsAll star_of (reader.star_form symbols.old) result symbols.new }
 {
     symbols.expect(Mark::Star)?;
     let space = space_option(symbols)?;
@@ -79,7 +79,7 @@ pub fn star_form<'a>(symbols: &mut Symbols<'_, 'a>) -> Result<Star<'a>, Stop>
 /// `<name>`.
 #[tactic(auto, unfolding(sl_grammar::specs::Statements::label_here))]
 pub fn label_here<'a>(symbols: &mut Symbols<'_, 'a>) -> Result<&'a [u8], Stop>
-    ensures { Reads bytes (reader.label_here symbols.old) result symbols.new }
+    ensures { ReadsAll bytes (reader.label_here symbols.old) result symbols.new }
 {
     symbols.expect(Mark::Less)?;
     let name = symbols.name()?;
@@ -90,7 +90,7 @@ pub fn label_here<'a>(symbols: &mut Symbols<'_, 'a>) -> Result<&'a [u8], Stop>
 /// A target that is written out.
 #[tactic(auto, unfolding(sl_grammar::specs::Statements::direct_here))]
 pub fn direct_here<'a>(symbols: &mut Symbols<'_, 'a>) -> Result<Direct<'a>, Stop>
-    ensures { Reads direct_of (reader.direct_here symbols.old) result symbols.new }
+    ensures { ReadsAll direct_of (reader.direct_here symbols.old) result symbols.new }
 {
     match symbols.peek() {
         Some(Symbol::Mark(Mark::Less)) => {
@@ -107,7 +107,7 @@ pub fn direct_here<'a>(symbols: &mut Symbols<'_, 'a>) -> Result<Direct<'a>, Stop
 /// What a section exports.
 #[tactic(auto, unfolding(sl_grammar::specs::Statements::exported))]
 fn exported<'a>(symbols: &mut Symbols<'_, 'a>) -> Result<Exported<'a>, Stop>
-    ensures { Reads exported_of (reader.exported symbols.old) result symbols.new }
+    ensures { ReadsAll exported_of (reader.exported symbols.old) result symbols.new }
 {
     match symbols.peek() {
         Some(Symbol::Mark(Mark::Star)) => {
@@ -125,7 +125,7 @@ fn exported<'a>(symbols: &mut Symbols<'_, 'a>) -> Result<Exported<'a>, Stop>
 /// `build name;`.
 #[tactic(auto, unfolding(sl_grammar::specs::Statements::build_here))]
 pub fn build_here<'a>(symbols: &mut Symbols<'_, 'a>) -> Result<Stmt<'a>, Stop>
-    ensures { Reads statement_of (reader.build_here symbols.old) result symbols.new }
+    ensures { ReadsAll statement_of (reader.build_here symbols.old) result symbols.new }
 {
     symbols.expect_keyword(Keyword::Build)?;
     let name = symbols.name()?;
@@ -136,7 +136,7 @@ pub fn build_here<'a>(symbols: &mut Symbols<'_, 'a>) -> Result<Stmt<'a>, Stop>
 /// `export value;`.
 #[tactic(auto, unfolding(sl_grammar::specs::Statements::export_here))]
 pub fn export_here<'a>(symbols: &mut Symbols<'_, 'a>) -> Result<Stmt<'a>, Stop>
-    ensures { Reads statement_of (reader.export_here symbols.old) result symbols.new }
+    ensures { ReadsAll statement_of (reader.export_here symbols.old) result symbols.new }
 {
     symbols.expect_keyword(Keyword::Export)?;
     let what = exported(symbols)?;

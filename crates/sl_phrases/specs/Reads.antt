@@ -1,4 +1,5 @@
--- What a reading function ensures: the outcome of the reader of the definitions, unless memory fails.
+-- What a reading function ensures: the outcome of the reader of the definitions; where it takes memory, unless that runs
+-- out.
 use Rattle.std.specs.Prelude.{◌≡◌, List, map, Result, Ok, Err, Vec}
 use Rattle.std.specs.List.{All}
 use Rattle.std.specs.declared.alloc.Global.{Global}
@@ -36,11 +37,22 @@ IsFault e (sv.At form n) = fault (form_of form) n ≡ e
 abbrev pub Plain : {A : Type 0} → A → A
 Plain a = a
 
+-- the reader refuses so
+abbrev pub Refuses : {A : Type 0} → Outcome A → s.Stop → Type 0
+Refuses outcome sv.NoMemory = ⊥
+Refuses outcome (sv.At form n) = outcome ≡ Err (fault (form_of form) n)
+
+-- it does, or memory ran out
 abbrev pub Stops : {A : Type 0} → Outcome A → s.Stop → Type 0
 Stops outcome sv.NoMemory = Unit {0}
 Stops outcome (sv.At form n) = outcome ≡ Err (fault (form_of form) n)
 
--- what was read, seen by `view`, is what the reader gives
+-- What was read, seen by `view`, is what the reader gives, and what was refused is what it refuses: no memory is taken.
+abbrev pub ReadsAll : {A B : Type 0} → (B → A) → Outcome A → Result B s.Stop → Input → Type 0
+ReadsAll view outcome (Ok b) new = outcome ≡ Ok (view b, new)
+ReadsAll view outcome (Err e) new = Refuses outcome e
+
+-- The same, unless memory ran out.
 abbrev pub Reads : {A B : Type 0} → (B → A) → Outcome A → Result B s.Stop → Input → Type 0
 Reads view outcome (Ok b) new = outcome ≡ Ok (view b, new)
 Reads view outcome (Err e) new = Stops outcome e

@@ -4,7 +4,7 @@ ghost use Rattle.sl_ast.specs.Views.{bytes, expression_of};
 ghost use Rattle.std.specs.Prelude.{◌≡◌, ◌&&◌, option_map};
 ghost use Rattle.sl_grammar.specs.Expressions as reader;
 ghost use Rattle.sl_grammar.specs.Reader.{first, is_mark};
-ghost use Rattle.sl_phrases.specs.Reads.{Reads};
+ghost use Rattle.sl_phrases.specs.Reads.{Reads, ReadsAll};
 
 use crate::shapes::{takes_bits, takes_drop, takes_size};
 use crate::stop::Stop;
@@ -65,7 +65,7 @@ pub fn bits_behind<'a>(
 /// `[space]` of a star form in an expression, which may lack.
 #[tactic(auto, unfolding(sl_grammar::specs::Expressions::space_in))]
 pub fn space_in<'a>(symbols: &mut Symbols<'_, 'a>) -> Result<Option<&'a [u8]>, Stop>
-    ensures { Reads (option_map bytes) (reader.space_in symbols.old) result symbols.new }
+    ensures { ReadsAll (option_map bytes) (reader.space_in symbols.old) result symbols.new }
 {
     if symbols.is_mark(Mark::OpenBracket) {
         symbols.enter()?;

@@ -3,7 +3,7 @@
 ghost use Rattle.std.specs.Prelude.{◌≡◌, suc, option_map, IfSome};
 ghost use Rattle.sl_ast.specs.Views.{bytes};
 ghost use Rattle.sl_grammar.specs.Reader as spec;
-ghost use Rattle.sl_phrases.specs.Reads.{AllHaveTheirWords, Reads, Plain, IsFault, syms_of};
+ghost use Rattle.sl_phrases.specs.Reads.{AllHaveTheirWords, ReadsAll, Plain, IsFault, syms_of};
 ghost use Rattle.sl_symbols.specs.Views.{HasItsWord, sym_of};
 
 use crate::stop::{Form, Stop};
@@ -114,7 +114,7 @@ impl<'s, 'a> Symbols<'s, 'a> {
     /// Takes the one that comes next as one more operator or bracket, unless the limit is reached.
     #[tactic(auto, unfolding(sl_grammar::specs::Reader::enter))]
     pub fn enter(&mut self) -> Result<(), Stop>
-        ensures { Reads Plain (spec.enter self.old) result self.new }
+        ensures { ReadsAll Plain (spec.enter self.old) result self.new }
     {
         if self.room == 0 {
             return Err(Stop::At(Form::Nesting, self.left.len()));
@@ -149,7 +149,7 @@ impl<'s, 'a> Symbols<'s, 'a> {
     /// Takes the mark, or refuses what comes in its place.
     #[tactic(auto, unfolding(sl_grammar::specs::Reader::expect))]
     pub fn expect(&mut self, mark: Mark) -> Result<(), Stop>
-        ensures { Reads Plain (spec.expect mark self.old) result self.new }
+        ensures { ReadsAll Plain (spec.expect mark self.old) result self.new }
     {
         if self.is_mark(mark) {
             self.skip();
@@ -162,7 +162,7 @@ impl<'s, 'a> Symbols<'s, 'a> {
     /// Takes the keyword, or refuses what comes in its place.
     #[tactic(auto, unfolding(sl_grammar::specs::Reader::expect_keyword))]
     pub fn expect_keyword(&mut self, keyword: Keyword) -> Result<(), Stop>
-        ensures { Reads Plain (spec.expect_keyword keyword self.old) result self.new }
+        ensures { ReadsAll Plain (spec.expect_keyword keyword self.old) result self.new }
     {
         if self.is_keyword(keyword) {
             self.skip();
@@ -175,7 +175,7 @@ impl<'s, 'a> Symbols<'s, 'a> {
     /// An integer.
     #[tactic(auto, unfolding(sl_grammar::specs::Reader::integer_here))]
     pub fn integer(&mut self) -> Result<u64, Stop>
-        ensures { Reads Plain (spec.integer_here self.old) result self.new }
+        ensures { ReadsAll Plain (spec.integer_here self.old) result self.new }
     {
         match self.peek() {
             Some(Symbol::Number(number)) => {
@@ -196,7 +196,7 @@ impl<'s, 'a> Symbols<'s, 'a> {
     /// A name.
     #[tactic(auto, unfolding(sl_grammar::specs::Reader::name_here))]
     pub fn name(&mut self) -> Result<&'a [u8], Stop>
-        ensures { Reads bytes (spec.name_here self.old) result self.new }
+        ensures { ReadsAll bytes (spec.name_here self.old) result self.new }
     {
         match self.peek() {
             Some(Symbol::Name(text)) => {
@@ -210,7 +210,7 @@ impl<'s, 'a> Symbols<'s, 'a> {
     /// A size in bytes.
     #[tactic(auto, unfolding(sl_grammar::specs::Reader::size_here))]
     pub fn size(&mut self) -> Result<u64, Stop>
-        ensures { Reads Plain (spec.size_here self.old) result self.new }
+        ensures { ReadsAll Plain (spec.size_here self.old) result self.new }
     {
         match self.peek() {
             Some(Symbol::Number(number)) => {
@@ -227,7 +227,7 @@ impl<'s, 'a> Symbols<'s, 'a> {
     /// `:n`, which may lack.
     #[tactic(auto, unfolding(sl_grammar::specs::Reader::size_option))]
     pub fn size_option(&mut self) -> Result<Option<u64>, Stop>
-        ensures { Reads Plain (spec.size_option self.old) result self.new }
+        ensures { ReadsAll Plain (spec.size_option self.old) result self.new }
     {
         if self.is_mark(Mark::Colon) {
             self.skip();

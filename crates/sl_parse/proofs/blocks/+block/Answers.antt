@@ -8,7 +8,7 @@ use Rattle.sl_grammar.specs.Reader.{first, is_mark}
 use Rattle.sl_phrases.proofs.Rounds.{one_more, deeper}
 use Rattle.sl_parse.specs.Blocks.{chain_of, inside_of_vec}
 use Rattle.sl_parse.proofs.Chains.{before, before_none, before_more, before_pushed, before_stops, block_stops, finishes, goes_on, stops}
-use Rattle.sl_parse.proofs.ListSteps.{stops_along}
+use Rattle.sl_parse.proofs.ListSteps.{refused_stops, stops_along}
 use Rattle.sl_parse.proofs.Places.{block_keeps, inside_all, inside_more, inside_none, part_block, part_constructor}
 use Rattle.sl_parse.proofs.blocks.+block.Goals as goal
 
@@ -17,7 +17,7 @@ block_at-returns-in_err-expect t c =
     let same = deeper (λ n. block_at heaviest n c.args.symbols.now) c.args.depth (omega arith) in
     let stop = stops_along _ _ c.in_err-expect.field-0.0 same
     (block_stops heaviest (c.args.depth - 1) c.args.symbols.now (head_of c.in_ok-head.head) c.head.new.symbols (inside_of_vec c.in_ok-inside.inside) c.inside.new.symbols
-    c.in_err-expect.field-0.0 c.in_ok-head.ensures c.in_ok-inside.ensures.reads c.in_err-expect.ensures) in
+    c.in_err-expect.field-0.0 c.in_ok-head.ensures c.in_ok-inside.ensures.reads (refused_stops _ c.in_err-expect.field-0.0 c.in_err-expect.ensures)) in
     first_of (search rules, grind (arith, common_steps))
 
 pub inside-parts-init : goal.inside-parts-init
