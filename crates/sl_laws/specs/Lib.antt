@@ -1,0 +1,4 @@
+pub mod Replacement
+pub mod Lines
+pub mod Places
+pub mod Blocks

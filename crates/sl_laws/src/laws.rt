@@ -1,0 +1,56 @@
+//! The laws.
+
+ghost use Rattle.sl_laws.specs.Blocks.{ActionsStandInOrder, BlocksAreTakenAway, InnermostTableIsGiven, PatternsStandInBrackets};
+ghost use Rattle.sl_laws.specs.Lines.{AllLinesAreATree, LinesHaveOneTree};
+ghost use Rattle.sl_laws.specs.Places.{BytesHaveTheirLinesPlace};
+ghost use Rattle.sl_laws.specs.Replacement.{LevelsOnlyRefuse, PiecesAreTheText, TextsWithoutNamesStay};
+
+/// The pieces of a text, each with its bytes, are the text.
+pub fn pieces_are_the_text()
+    ensures { PiecesAreTheText }
+{}
+
+/// A text without `$(` is written as it is.
+pub fn texts_without_names_stay()
+    ensures { TextsWithoutNamesStay }
+{}
+
+/// What a text is replaced by doesn't depend on how many levels are left, unless it is refused for them.
+pub fn levels_only_refuse()
+    ensures { LevelsOnlyRefuse }
+{}
+
+/// Any lines of a file are a tree in which each line is what it may be.
+pub fn all_lines_are_a_tree()
+    ensures { AllLinesAreATree }
+{}
+
+/// Such trees with the same lines are the same.
+pub fn lines_have_one_tree()
+    ensures { LinesHaveOneTree }
+{}
+
+/// A byte of a text has the place of its line.
+pub fn bytes_have_their_lines_place()
+    ensures { BytesHaveTheirLinesPlace }
+{}
+
+/// Each constructor inside blocks stands in all blocks that are round it, the outermost first.
+pub fn blocks_are_taken_away()
+    ensures { BlocksAreTakenAway }
+{}
+
+/// A constructor's pattern in blocks is that of all written patterns from the outermost inwards, each in brackets.
+pub fn patterns_stand_in_brackets()
+    ensures { PatternsStandInBrackets }
+{}
+
+/// The actions in blocks are all written ones, those of the outermost block first.
+pub fn actions_stand_in_order()
+    ensures { ActionsStandInOrder }
+{}
+
+/// The table in blocks is the constructor's own, else that of the innermost block that writes one.
+pub fn innermost_table_is_given()
+    ensures { InnermostTableIsGiven }
+{}
