@@ -9,10 +9,9 @@ use Rattle.sl_ast.specs.Validity.{AreItems}
 use Rattle.sl_ast.specs.Views.{item_of, items_of, joined_lists, item_indexes, indexes_of}
 use Rattle.sl_ast.specs.declared.items.Item.{Item}
 use Rattle.sl_ast.specs.declared.items.Spec.{Spec}
-use Rattle.sl_grammar.specs.Faults.{Reason, HasFault, no_spelling, too_deep, left_out}
 use Rattle.sl_parse.specs.declared.parser.ParseError.{ParseError}
 use Rattle.sl_parse.specs.declared.parser.ParseError.TheVariants.{Syntax, Nesting, NotSupported, NoMemory}
-use Rattle.sl_places.specs.Causes.{IsFault}
+use Rattle.sl_places.specs.Causes.{IsFault, no_spelling, too_deep, left_out}
 use Rattle.sl_phrases.specs.Reads.{AllHaveTheirWords, syms_of}
 use Rattle.sl_phrases.specs.declared.stop.Form.TheVariants as fv
 use Rattle.sl_phrases.specs.declared.stop.Stop as s
@@ -25,16 +24,11 @@ pub record IsTree (symbols : List Sym) (spec : Spec) : Type 0 where
   pub good : AreItems (items_of spec)
   pub places : indexes_of spec ≡ firsts (items_of spec)
 
--- The symbols have this fault: it is the one that is defined by trees alone, and the one that the reader finds.
-pub record TellsFault (symbols : List Sym) (reason : Reason) (place : ℕ) : Type 0 where
-  pub is : IsFault symbols reason place
-  pub found : HasFault symbols reason place
-
 -- The error tells the fault of the symbols.
 abbrev pub IsFaultOf : List Sym → ParseError → Type 0
-IsFaultOf symbols (Syntax at) = TellsFault symbols no_spelling at
-IsFaultOf symbols (Nesting at) = TellsFault symbols too_deep at
-IsFaultOf symbols (NotSupported feature at) = TellsFault symbols (left_out feature) at
+IsFaultOf symbols (Syntax at) = IsFault symbols no_spelling at
+IsFaultOf symbols (Nesting at) = IsFault symbols too_deep at
+IsFaultOf symbols (NotSupported feature at) = IsFault symbols (left_out feature) at
 IsFaultOf symbols NoMemory = Unit {0}
 
 -- ---- what is read before

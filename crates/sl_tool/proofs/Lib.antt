@@ -8,7 +8,6 @@ pub mod TokenLemmas
 pub mod SoundTexts
 pub mod NameLemmas
 pub mod ImageLemmas
-pub mod SomeFault
 pub mod StageLemmas
 pub mod ReadLemmas
 pub mod RunLemmas

@@ -11,8 +11,7 @@ use Rattle.sl_compile.specs.Refusals.{at_tokens}
 use Rattle.sl_compile.proofs.OutcomeLemmas.{compiles_one as outcome_one, some_compiles}
 use Rattle.sl_context_words.specs.Words.{starting_context}
 use Rattle.sl_decoding.specs.Actions.{address_bytes}
-use Rattle.sl_grammar.specs.Faults.{Reason}
-use Rattle.sl_grammar.proofs.Faults.{one_fault, one_tree, tree_has_no_fault}
+use Rattle.sl_grammar.proofs.Faults.{one_tree}
 use Rattle.sl_lex.specs.Faults.{Fault}
 use Rattle.sl_lex.specs.Reading.{Token}
 use Rattle.sl_lex.specs.Laws.{HasReading}
@@ -20,7 +19,9 @@ use Rattle.sl_lex.proofs.OneReading.{one_bad_place, one_reading, reads_well}
 use Rattle.sl_lex.proofs.SomeReading.{each_text_reads}
 use Rattle.sl_lister.specs.Listing.{Image}
 use Rattle.sl_outside.specs.Folder.{Folder, IsTooLong, size_limit}
-use Rattle.sl_parse.specs.Parsing.{TellsFault}
+use Rattle.sl_places.specs.Causes.{IsFault, Reason}
+use Rattle.sl_places.specs.Laws.{IsSpelled}
+use Rattle.sl_places.proofs.Places.{any_have, faults_are_one, trees_have_none}
 use Rattle.sl_preproc.specs.Expanded.{expanded}
 use Rattle.sl_request.specs.Requests.{Target}
 use Rattle.sl_settle.proofs.Surely.{Surely, surely, surely_map}
@@ -33,7 +34,6 @@ use Rattle.sl_tool.specs.Stages.{Compiles, Expands, Tokenizes, Parses, Reads, Fe
 use Rattle.sl_tool.specs.Values.{Source, Tokens, Tree, Compiled, Loaded, compiled, loaded, tokens, tree}
 use Rattle.sl_tool.specs.declared.problem.Problem.TheVariants.{NoFile, TooLong}
 use Rattle.sl_tool.specs.declared.refusal.Refusal.{Refusal}
-use Rattle.sl_tool.proofs.SomeFault.{some_tree_or_fault}
 use Rattle.sl_tool.proofs.Thens.{err_is, none_is, not_both, ok_is, some_is, then_one, then_some}
 
 -- ---- values by their parts
@@ -78,20 +78,19 @@ tokenizes_some s = surely (tokenizes_by s (each_text_reads s.text.bytes))
 
 parses_one : HasOneResult Parses
 parses_one k (Ok t) (Ok u) h g = ap Ok (tree_is t u (h.0 ∙ sym g.0) (one_tree t.items u.items h.2 g.2 (sym h.1 ∙ g.1)))
-parses_one k (Ok t) (Err x) h g = absurd (tree_has_no_fault (symbols_of k.tokens) t.items g.0 g.1 (sym h.1) h.2 g.2.found)
-parses_one k (Err x) (Ok t) h g = absurd (tree_has_no_fault (symbols_of k.tokens) t.items h.0 h.1 (sym g.1) g.2 h.2.found)
+parses_one k (Ok t) (Err x) h g = absurd (trees_have_none (symbols_of k.tokens) g.0 g.1 (t.items, h.2, sym h.1) g.2)
+parses_one k (Err x) (Ok t) h g = absurd (trees_have_none (symbols_of k.tokens) h.0 h.1 (t.items, g.2, sym g.1) h.2)
 parses_one k (Err x) (Err y) h g =
-    let one = one_fault (symbols_of k.tokens) h.0 g.0 h.1 g.1 h.2.found g.2.found in
-    ap Err (h.3 ∙ ap (λ (r : Reason). refusal_at (place_of_token k h.1) (problem_of_reason r)) one.0
-    ∙ ap (λ (n : ℕ). refusal_at (place_of_token k n) (problem_of_reason g.0)) one.1 ∙ sym g.3)
+    let one = faults_are_one (symbols_of k.tokens) h.0 g.0 h.1 g.1 h.2 g.2 in
+    ap Err (h.3 ∙ ap (λ (r : Reason). refusal_at (place_of_token k h.1) (problem_of_reason r)) one.1
+    ∙ ap (λ (n : ℕ). refusal_at (place_of_token k n) (problem_of_reason g.0)) one.0 ∙ sym g.3)
 
-parses_by : (k : Tokens) → ((items : List Item) × AreItems items × (symbols_of k.tokens ≡ spell items))
-    ⊎ ((reason : Reason) × (index : ℕ) × TellsFault (symbols_of k.tokens) reason index) → (r : Result Tree Refusal) × Parses k r
-parses_by k (inl t) = (Ok (tree k t.0), (refl, t.2, t.1))
+parses_by : (k : Tokens) → IsSpelled (symbols_of k.tokens) ⊎ ((reason : Reason) × (index : ℕ) × IsFault (symbols_of k.tokens) reason index) → (r : Result Tree Refusal) × Parses k r
+parses_by k (inl t) = (Ok (tree k t.0), (refl, sym t.2, t.1))
 parses_by k (inr f) = (Err (refusal_at (place_of_token k f.1) (problem_of_reason f.0)), (f.0, f.1, f.2, refl))
 
 parses_some : (k : Tokens) → HasSomeResult Parses k
-parses_some k = surely (parses_by k (some_tree_or_fault (symbols_of k.tokens)))
+parses_some k = surely (parses_by k (any_have (symbols_of k.tokens)))
 
 -- ---- 4: tables
 

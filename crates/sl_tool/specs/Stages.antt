@@ -15,13 +15,12 @@ use Rattle.sl_context_words.specs.declared.words.Cause.TheVariants as word
 use Rattle.sl_decoding.specs.Actions.{address_bytes}
 use Rattle.sl_directive.specs.declared.fault.Cause.{Cause}
 use Rattle.sl_directive.specs.declared.fault.Cause.TheVariants as cause
-use Rattle.sl_grammar.specs.Faults.{Reason, no_spelling, too_deep, left_out}
 use Rattle.sl_lex.specs.Faults.{Fault}
 use Rattle.sl_lex.specs.Faults.Fault.{NoLexeme, OpenQuote, TooWide}
 use Rattle.sl_lex.specs.Reading.{ReadsAs, HasBadPlace}
 use Rattle.sl_lister.specs.Listing.{Image, image_from}
 use Rattle.sl_outside.specs.Folder.{Folder, Holds, Lacks, HoldsTooLong, size_limit}
-use Rattle.sl_parse.specs.Parsing.{TellsFault}
+use Rattle.sl_places.specs.Causes.{IsFault, Reason, no_spelling, too_deep, left_out}
 use Rattle.sl_preproc.specs.Expanded.{Text, expanded}
 use Rattle.sl_preproc.specs.Expansion as preproc
 use Rattle.sl_preproc.specs.Sound.{IsSound}
@@ -85,7 +84,7 @@ problem_of_reason (left_out form) = NotSupported form
 -- The tokens spell this tree, which has no fault, or they have a first fault.
 abbrev pub Parses : Stage Refusal Tokens Tree
 Parses k (Ok t) = (t.tokens ≡ k) × (symbols_of k.tokens ≡ spell t.items) × AreItems t.items
-Parses k (Err x) = (reason : Reason) × (index : ℕ) × TellsFault (symbols_of k.tokens) reason index
+Parses k (Err x) = (reason : Reason) × (index : ℕ) × IsFault (symbols_of k.tokens) reason index
     × (x ≡ refusal_at (place_of_token k index) (problem_of_reason reason))
 
 -- ---- the text of a specification to its tree
