@@ -3,12 +3,12 @@ use Rattle.std.proofs.Common.{◌≡◌, ℕ, ℤ, ◌<◌, ◌≤◌, ◌^◌, 
 use Rattle.std.specs.Prelude.{pos, slice_index}
 use Rattle.std.proofs.lemmas.List.{length-map}
 use Rattle.sl_build.specs.Built.{IsListOf}
-use Rattle.sl_build.specs.Pieces.{first_code, pieces}
+use Rattle.sl_build.specs.Pieces.{Making, first_code, pieces, section_list}
 use Rattle.sl_build.specs.Stands.{StandsFor}
-use Rattle.sl_build.specs.Views.{gives_in, rows_in, section_in, setting_in}
+use Rattle.sl_build.specs.Views.{gives_in, list_in, rows_in, section_in, setting_in}
 use Rattle.sl_build.specs.declared.work.Work.{Work}
 use Rattle.sl_build.proofs.SiteLemmas.{address_fits}
-use Rattle.sl_build.proofs.StandLemmas.{gives_are, sections_are, setting_is}
+use Rattle.sl_build.proofs.StandLemmas.{gives_are, lists_are, sections_are, setting_is}
 use Rattle.sl_build.proofs.TreeLemmas.{first_list_is, length_rows}
 use Rattle.sl_code.specs.Nodes.{node_code, top_of}
 use Rattle.sl_code.proofs.Nodes.{code_is_faithful}
@@ -49,23 +49,24 @@ module _ (w : Work) (s : Specification) (stands : StandsFor w.of.now s) (bytes :
   top_there : w.top ≡ top_of (count f)
   top_there = top ∙ ap top_of (count_is w.values.now nodes f rows_there)
 
-  code_there : (ops : List Op) → operations_of ops ≡ first_code (pieces (section_in w) (setting_in w) w.top (gives_in w) 0 (rows_in w nodes))
+  code_there : (ops : List Op) → operations_of ops ≡ first_code (pieces (section_in w) (setting_in w) (list_in w) (gives_in w) 0 (rows_in w nodes))
       → operations_of ops ≡ node_code (top_of (count f)) g (instruction s bytes f)
   code_there ops e =
       let rs = rows_in w nodes in
       let section = section_by s.sections s.sizes in
       e
-      ∙ ap (λ (sec : ℕ → m.Section). first_code (pieces sec (setting_in w) w.top (gives_in w) 0 rs)) (sections_are w s stands)
-      ∙ ap (λ (h : Setting). first_code (pieces section h w.top (gives_in w) 0 rs)) setting_there
-      ∙ ap (λ t. first_code (pieces section g t (gives_in w) 0 rs)) top_there
-      ∙ ap (λ (gives : Node → List ℕ → List (Option Reference)). first_code (pieces section g (top_of (count f)) gives 0 rs)) (gives_are w s stands bytes same)
+      ∙ ap (λ (list : Making). first_code (pieces (section_in w) (setting_in w) list (gives_in w) 0 rs)) (lists_are w s stands)
+      ∙ ap (λ (sec : ℕ → m.Section). first_code (pieces sec (setting_in w) (section_list sec (setting_in w) w.top) (gives_in w) 0 rs)) (sections_are w s stands)
+      ∙ ap (λ (h : Setting). first_code (pieces section h (section_list section h w.top) (gives_in w) 0 rs)) setting_there
+      ∙ ap (λ t. first_code (pieces section g (section_list section g t) (gives_in w) 0 rs)) top_there
+      ∙ ap (λ (gives : Node → List ℕ → List (Option Reference)). first_code (pieces section g (section_list section g (top_of (count f))) gives 0 rs)) (gives_are w s stands bytes same)
       ∙ first_list_is section g (top_of (count f)) (given_at s bytes) f rs rows_there
       ∙ ap (node_code (top_of (count f)) g) (instruction_by s bytes f)
 
   narrow : slice_index g.sizes g.default ≤ 8
   narrow = subst (λ (h : Setting). slice_index h.sizes h.default ≤ 8) setting_there (address_fits w.of.now.spaces.items w.of.now.default.0)
 
-  pub is_list : (ops : List Op) → operations_of ops ≡ first_code (pieces (section_in w) (setting_in w) w.top (gives_in w) 0 (rows_in w nodes))
+  pub is_list : (ops : List Op) → operations_of ops ≡ first_code (pieces (section_in w) (setting_in w) (list_in w) (gives_in w) 0 (rows_in w nodes))
       → IsWellFormed (byte_counts w.of.now.spaces.items) ops → length ops < 2 ^ 31 → IsListOf g (count f) (instruction s bytes f) ops
   is_list ops e well short =
       let code = code_there ops e in

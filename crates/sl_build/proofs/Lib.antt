@@ -5,4 +5,5 @@ pub mod MakingLemmas
 pub mod MarkLemmas
 pub mod SiteLemmas
 pub mod StandLemmas
+pub mod TemplateLemmas
 pub mod TreeLemmas

@@ -1,9 +1,8 @@
 -- Loops over trees, over the operands of a node, and over the nodes of a row.
-use Rattle.std.proofs.Common.{◌≡◌, ℕ, ℤ, ◌+◌, ◌-◌, ◌<◌, ◌≤◌, suc, List, [], ◌∷◌, ◌++◌, length, map, drop, take, get_or, add-one, append-nil, append_assoc, refl, sym, ap, ◌∙◌, arith, Option}
+use Rattle.std.proofs.Common.{◌≡◌, ℕ, ℤ, ◌+◌, ◌-◌, ◌<◌, ◌≤◌, suc, List, [], ◌∷◌, ◌++◌, length, map, drop, get_or, add-one, append-nil, append_assoc, sym, ap, ◌∙◌, arith, Option}
 use Rattle.std.proofs.Math.Seq.{drop-cons}
 use Rattle.std.proofs.lemmas.List.{drop-map, drop_all, length-map, map_push}
-use Rattle.std.specs.Option.{option_map}
-use Rattle.sl_build.specs.Pieces.{Piece, behind_of, below_of, filled_lists, filled_references, piece_before, pieces}
+use Rattle.sl_build.specs.Pieces.{Making, Piece, behind_of, below_of, filled_lists, filled_references, piece_before, pieces}
 use Rattle.sl_build.specs.Views.{piece_of, pieces_of}
 use Rattle.sl_build.specs.declared.trees.Tree.{Tree}
 use Rattle.sl_build.proofs.TreeLemmas.{behind_more, behind_none, below_more, below_none}
@@ -12,7 +11,7 @@ use Rattle.sl_decoding.specs.Trees.{Node}
 use Rattle.sl_decoding.specs.declared.entries.Entry.{Entry}
 use Rattle.sl_meaning.specs.Nodes.{Section}
 use Rattle.sl_meaning.specs.References.{Reference, Setting}
-use Rattle.sl_show.specs.Entries.{Row, row_of, rows_of}
+use Rattle.sl_show.specs.Entries.{row_of, rows_of}
 
 -- what is left from an index on, as it is seen
 pub left_map : {A B : Type 0} (f : A → B) (xs : List A) (i : ℕ) (x : A) → i < length xs → x ≡ get_or xs i x → map f (drop i xs) ≡ f x ∷ map f (drop (i + 1) xs)
@@ -84,20 +83,20 @@ lists_end given slots i now whole ps past inv =
 
 -- ---- nodes of a row, from the last one on
 
-module _ (section : ℕ → Section) (g : Setting) (top : ℕ) (gives : Node → List ℕ → List (Option Reference)) (values : List ℤ) (nodes : List Entry) where
+module _ (section : ℕ → Section) (g : Setting) (list : Making) (gives : Node → List ℕ → List (Option Reference)) (values : List ℤ) (nodes : List Entry) where
   abbrev made : ℕ → List Piece
-  made j = pieces section g top gives j (drop j (rows_of values nodes))
+  made j = pieces section g list gives j (drop j (rows_of values nodes))
 
   pub none_made : (done : List Tree) (j : ℕ) → done ≡ [] → length nodes ≤ j → pieces_of done ≡ made j
   none_made done j e past =
-      ap pieces_of e ∙ ap (pieces section g top gives j) (sym (drop_all j (rows_of values nodes) (omega (arith, length-map nodes (row_of values), past))))
+      ap pieces_of e ∙ ap (pieces section g list gives j) (sym (drop_all j (rows_of values nodes) (omega (arith, length-map nodes (row_of values), past))))
 
   -- one more node in front
   pub one_made : (done new : List Tree) (j next : ℕ) (e : Entry) → next ≡ j + 1 → j < length nodes → e ≡ get_or nodes j e
-      → pieces_of done ≡ made next → pieces_of new ≡ piece_before section g top gives j (row_of values e) (pieces_of done) → pieces_of new ≡ made j
+      → pieces_of done ≡ made next → pieces_of new ≡ piece_before section g list gives j (row_of values e) (pieces_of done) → pieces_of new ≡ made j
   one_made done new j next e n below is so step =
-      step ∙ ap (piece_before section g top gives j (row_of values e)) (so ∙ ap made n)
-      ∙ ap (pieces section g top gives j) (sym (left_rows j e below is))
+      step ∙ ap (piece_before section g list gives j (row_of values e)) (so ∙ ap made n)
+      ∙ ap (pieces section g list gives j) (sym (left_rows j e below is))
     where
       left_rows : (j : ℕ) (e : Entry) → j < length nodes → e ≡ get_or nodes j e → drop j (rows_of values nodes) ≡ row_of values e ∷ drop (j + 1) (rows_of values nodes)
       left_rows j e below is =
@@ -105,9 +104,9 @@ module _ (section : ℕ → Section) (g : Setting) (top : ℕ) (gives : Node →
 
   -- one round of the loop, from the last node on
   pub one_round : (done new : List Tree) (round index k : ℕ) (e : Entry) → round < length nodes → index ≡ length nodes - 1 - round → k ≡ index → e ≡ get_or nodes index e
-      → pieces_of done ≡ made (length nodes - round) → pieces_of new ≡ piece_before section g top gives k (row_of values e) (pieces_of done)
+      → pieces_of done ≡ made (length nodes - round) → pieces_of new ≡ piece_before section g list gives k (row_of values e) (pieces_of done)
       → pieces_of new ≡ made (length nodes - (round + 1))
   one_round done new round index k e below at number is so step =
       let j : index ≡ length nodes - (round + 1) = omega (arith, below, at) in
       one_made done new (length nodes - (round + 1)) (length nodes - round) e (omega (arith, below)) (omega (arith, below)) (is ∙ ap (λ i. get_or nodes i e) j) so
-      (step ∙ ap (λ i. piece_before section g top gives i (row_of values e) (pieces_of done)) (number ∙ j))
+      (step ∙ ap (λ i. piece_before section g list gives i (row_of values e) (pieces_of done)) (number ∙ j))

@@ -1,16 +1,18 @@
 -- What sections export, and sizes of addresses.
-use Rattle.std.proofs.Common.{◌≡◌, ℕ, ℤ, zero, suc, ◌≤◌, List, [], ◌∷◌, ◌++◌, refl, ap, ◌∙◌, arith, Option, Some, None}
+use Rattle.std.proofs.Common.{◌≡◌, ℕ, ℤ, zero, suc, ◌≤◌, List, [], ◌∷◌, refl, arith}
 use Rattle.std.specs.Prelude.{slice_index}
 use Rattle.sl_build.specs.Exports.{exported_or, exports_in}
 use Rattle.sl_code.specs.Operations.{Operation}
-use Rattle.sl_code.specs.Statements.{section_code}
-use Rattle.sl_emit.specs.Views.{references_of, size_in}
+use Rattle.sl_emit.specs.Views.{references_of}
 use Rattle.sl_emit.specs.declared.reference.Reference.{Reference}
-use Rattle.sl_meaning.specs.Nodes.{export_reference, exported}
+use Rattle.sl_meaning.specs.Nodes.{exported}
 use Rattle.sl_meaning.specs.References.{Setting}
 use Rattle.sl_meaning.specs.Values.{Frame}
 use Rattle.sl_section.specs.Sections as s
 use Rattle.sl_section.specs.Sections.{Step}
+use Rattle.sl_template.specs.Pieces.{Part}
+use Rattle.sl_template.specs.Placed.{placed}
+use Rattle.sl_template.specs.Views.{size_in}
 use Rattle.sl_word.specs.Sizes.{byte_counts}
 use Rattle.sl_word.specs.declared.word.AddressSize.{AddressSize}
 use Rattle.sl_word.specs.declared.word.Endian.{Endian}
@@ -40,9 +42,9 @@ address_fits (n ∷ ns) (suc i) = address_fits ns i
 
 -- ---- where a section is made
 
-pub code_same : (top : ℕ) (g h : Setting) (f e : Frame) (ls ks : List (List Operation)) (ss ts : List Step) → g ≡ h → f ≡ e → ls ≡ ks → ss ≡ ts
-    → section_code top g f ls ss ≡ section_code top h e ks ts
-code_same top g h f e ls ks ss ts p q r t = λ i. section_code top (p i) (q i) (r i) (t i)
+pub placed_same : (top : ℕ) (g h : Setting) (f e : Frame) (ls ks : List (List Operation)) (ps qs : List Part) → g ≡ h → f ≡ e → ls ≡ ks → ps ≡ qs
+    → placed top g f ls ps ≡ placed top h e ks qs
+placed_same top g h f e ls ks ps qs p q r t = λ i. placed top (p i) (q i) (r i) (t i)
 
 pub export_same : (g h : Setting) (f e : Frame) (ss ts : List Step) → g ≡ h → f ≡ e → ss ≡ ts → exported g f ss ≡ exported h e ts
 export_same g h f e ss ts p q t = λ i. exported (p i) (q i) (t i)

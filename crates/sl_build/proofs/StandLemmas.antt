@@ -1,25 +1,22 @@
 -- What the program keeps stands for the specification.
-use Rattle.std.proofs.Common.{◌≡◌, ℕ, ℤ, List, refl, sym, ap, ◌∙◌, Option, map}
+use Rattle.std.proofs.Common.{◌≡◌, ℕ, ℤ, List, refl, ap, ◌∙◌, map}
 use Rattle.std.specs.Prelude.{pos}
 use Rattle.std.proofs.Math.Path.{fun_ext}
+use Rattle.sl_build.specs.Pieces.{section_list}
 use Rattle.sl_build.specs.Stands.{StandsFor}
-use Rattle.sl_build.specs.Views.{gives_in, section_in, setting_in}
-use Rattle.sl_build.specs.declared.sections.Sections.{Sections}
+use Rattle.sl_build.specs.Views.{gives_in, list_in, section_in, setting_in}
 use Rattle.sl_build.specs.declared.work.Work.{Work}
-use Rattle.sl_decoding.specs.Trees.{Node}
 use Rattle.sl_emit.specs.Views.{number_of}
 use Rattle.sl_ast.specs.Trees.{Constructor}
 use Rattle.sl_ast.specs.Unfolding.{Placed}
 use Rattle.sl_flat_sections.specs.FlatSections.{Flat, flat_sections, sections_by}
 use Rattle.sl_flat_sections.specs.Scopes.{Scopes}
-use Rattle.sl_flat_sections.specs.Views.{flats_of}
 use Rattle.sl_instruction.specs.Instructions.{Specification, default_space, given_at, section_by, setting_of}
-use Rattle.sl_meaning.specs.Nodes.{Section}
-use Rattle.sl_meaning.specs.References.{Reference, Setting}
+use Rattle.sl_meaning.specs.Nodes.{frame_of}
+use Rattle.sl_meaning.specs.References.{Setting}
 use Rattle.sl_operators.specs.Operators.{wrapped}
 use Rattle.sl_sizing.specs.Sizings.{lists_of}
 use Rattle.sl_spec.specs.declared.tables.Tables.{Tables}
-use Rattle.sl_word.specs.Sizes.{byte_counts}
 use Rattle.sl_word.specs.declared.word.Endian.{Endian}
 use Rattle.sl_word.specs.declared.word.Size.{Size}
 
@@ -35,6 +32,11 @@ module _ (w : Work) (s : Specification) (stands : StandsFor w.of.now s) where
   sections_are =
       ap (λ (fs : List Flat). section_by fs (lists_of w.of.now.sizes.now)) stands.sections
       ∙ ap (λ (ns : List (List Size)). section_by s.sections ns) stands.sizes
+
+  -- the templates make the lists of the sections
+  pub lists_are : list_in w ≡ section_list (section_in w) (setting_in w) w.top
+  lists_are = fun_ext (λ ctor. fun_ext (λ k. fun_ext (λ refs. fun_ext (λ lists.
+      stands.templates ctor w.top (setting_in w) (frame_of k (section_in w ctor) refs) lists refl refl refl))))
 
   pub gives_are : (bytes : List ℕ) → w.bytes.now ≡ bytes → gives_in w ≡ given_at s bytes
   gives_are bytes e =

@@ -1,6 +1,6 @@
 -- The trees of a row, made from its last node to the first, are the nodes of the instruction.
-use Rattle.std.proofs.Common.{◌≡◌, ℕ, zero, suc, ◌+◌, ◌-◌, ◌<◌, List, [], ◌∷◌, ◌++◌, length, map, append-nil, append_assoc, length-append, refl, sym, ap, ◌∙◌, arith, Option, Some, None}
-use Rattle.sl_build.specs.Pieces.{Piece, behind_of, filled_lists, filled_references, first_code, below_of, lengths_in, piece_at, piece_before, piece_with, pieces}
+use Rattle.std.proofs.Common.{◌≡◌, ℕ, zero, suc, ◌+◌, ◌-◌, ◌<◌, List, [], ◌∷◌, ◌++◌, length, append-nil, append_assoc, length-append, refl, sym, ap, ◌∙◌, arith, Option, Some, None}
+use Rattle.sl_build.specs.Pieces.{Piece, behind_of, filled_lists, filled_references, first_code, below_of, lengths_in, piece_at, piece_before, piece_with, pieces, section_list}
 use Rattle.sl_code.specs.Nodes.{children_code, node_code}
 use Rattle.sl_code.specs.Operations.{Operation}
 use Rattle.sl_decoding.specs.Flat.{count}
@@ -47,7 +47,7 @@ rows_none = refl
 
 module _ (section : ℕ → Section) (g : Setting) (top : ℕ) (gives : Node → List ℕ → List (Option Reference)) where
   abbrev made : (k : ℕ) → List Row → List Piece
-  made k rs = pieces section g top gives k rs
+  made k rs = pieces section g (section_list section g top) gives k rs
 
   abbrev nodes : (k : ℕ) → Trees Node → List m.Node
   nodes k f = nodes_by section gives k f
@@ -113,12 +113,12 @@ module _ (section : ℕ → Section) (g : Setting) (top : ℕ) (gives : Node →
   with_operands : (k : ℕ) (n : Node) (below : Trees Node) (refs : List Reference) (lists : List (List Operation))
       → refs ≡ references_of g (filled (gives n (lengths_of below)) (nodes (k + 1) below))
       → lists ≡ children_code top g (filled (gives n (lengths_of below)) (nodes (k + 1) below))
-      → piece_with section g top k (row n (count below)) refs lists ≡ piece k n below
+      → piece_with section g (section_list section g top) k (row n (count below)) refs lists ≡ piece k n below
   with_operands k n below refs lists r l =
-      ap (λ rs. piece_with section g top k (row n (count below)) rs lists) r
-      ∙ ap (λ ls. piece_with section g top k (row n (count below)) (references_of g (filled (gives n (lengths_of below)) (nodes (k + 1) below))) ls) l
+      ap (λ rs. piece_with section g (section_list section g top) k (row n (count below)) rs lists) r
+      ∙ ap (λ ls. piece_with section g (section_list section g top) k (row n (count below)) (references_of g (filled (gives n (lengths_of below)) (nodes (k + 1) below))) ls) l
 
-  root_is : (k : ℕ) (n : Node) (below : Trees Node) → piece_at section g top gives k (row n (count below)) (tree_pieces (k + 1) below) ≡ piece k n below
+  root_is : (k : ℕ) (n : Node) (below : Trees Node) → piece_at section g (section_list section g top) gives k (row n (count below)) (tree_pieces (k + 1) below) ≡ piece k n below
   root_is k n below =
       let ps = tree_pieces (k + 1) below in
       with_operands k n below (filled_references (gives n (lengths_in ps)) ps) (filled_lists (gives n (lengths_in ps)) ps)
@@ -126,11 +126,11 @@ module _ (section : ℕ → Section) (g : Setting) (top : ℕ) (gives : Node →
       (ap (λ ls. filled_lists (gives n ls) ps) (lengths_are (k + 1) below) ∙ lists_are (gives n (lengths_of below)) (k + 1) below)
 
   before_is : (k : ℕ) (n : Node) (below : Trees Node) (more : List Piece)
-      → piece_before section g top gives k (row n (count below)) (tree_pieces (k + 1) below ++ more) ≡ piece k n below ∷ more
+      → piece_before section g (section_list section g top) gives k (row n (count below)) (tree_pieces (k + 1) below ++ more) ≡ piece k n below ∷ more
   before_is k n below more =
       let ps = tree_pieces (k + 1) below in
-      ap (λ qs. piece_at section g top gives k (row n (count below)) qs ∷ behind_of (count below) (ps ++ more)) (below_is (k + 1) below more)
-      ∙ ap (λ qs. piece_at section g top gives k (row n (count below)) ps ∷ qs) (behind_is (k + 1) below more)
+      ap (λ qs. piece_at section g (section_list section g top) gives k (row n (count below)) qs ∷ behind_of (count below) (ps ++ more)) (below_is (k + 1) below more)
+      ∙ ap (λ qs. piece_at section g (section_list section g top) gives k (row n (count below)) ps ∷ qs) (behind_is (k + 1) below more)
       ∙ ap (λ p. p ∷ more) (root_is k n below)
 
   -- ---- a row
@@ -145,8 +145,8 @@ module _ (section : ℕ → Section) (g : Setting) (top : ℕ) (gives : Node →
       ∙ ap (λ ps. tree_pieces (k + 1) below ++ ps) (made_is behind next more) in
       let end : next + count behind ≡ k + (1 + (count below + count behind)) = omega arith in
       ap (λ rs. made k (rs ++ more)) (rows_one n below behind)
-      ∙ ap (λ c. piece_before section g top gives k (row n c) (made (k + 1) ((rows below ++ rows behind) ++ more))) (length_rows below)
-      ∙ ap (piece_before section g top gives k (row n (count below))) inner
+      ∙ ap (λ c. piece_before section g (section_list section g top) gives k (row n c) (made (k + 1) ((rows below ++ rows behind) ++ more))) (length_rows below)
+      ∙ ap (piece_before section g (section_list section g top) gives k (row n (count below))) inner
       ∙ before_is k n below rest
       ∙ ap (λ j. piece k n below ∷ (tree_pieces next behind ++ made j more)) end
 

@@ -45,15 +45,23 @@ filled_lists (None ∷ rs) [] = [] ∷ filled_lists rs []
 
 -- ---- trees
 
-module _ (section : ℕ → Section) (g : Setting) (top : ℕ) where
+-- the list of a node of a constructor, by its number, what its operands stand for, and their lists
+abbrev pub Making : Type 0
+Making = (ctor k : ℕ) → List Reference → List (List Operation) → List Operation
+
+-- by sections
+abbrev pub section_list : (ℕ → Section) → Setting → (top : ℕ) → Making
+section_list section g top ctor k refs lists =
+    section_code top g (frame_of k (section ctor) refs) lists (section ctor).steps
+
+module _ (section : ℕ → Section) (g : Setting) (list : Making) where
   -- the tree of a node whose operands stand for these, and have these lists
   abbrev pub piece_with : (k : ℕ) → Row → List Reference → List (List Operation) → Piece
   piece_with k r refs lists = record {
     nodes = r.below + 1;
     length = r.node.length;
     reference = exported g (frame_of k (section r.node.ctor) refs) (section r.node.ctor).steps;
-    code = section_code top g (frame_of k (section r.node.ctor) refs) lists
-        (section r.node.ctor).steps;
+    code = list r.node.ctor k refs lists;
   }
 
   module _ (gives : Node → List ℕ → List (Option Reference)) where

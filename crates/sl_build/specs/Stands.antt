@@ -1,6 +1,6 @@
 -- meaning: which specification sections are made of.
 use Rattle.std.specs.Prelude.{◌≡◌, ℕ, List, map}
-use Rattle.sl_build.specs.Views.{gives_by}
+use Rattle.sl_build.specs.Views.{AreTemplates, gives_by, templates_of}
 use Rattle.sl_build.specs.declared.sections.Sections.{Sections}
 use Rattle.sl_decoding.specs.Trees.{Node}
 use Rattle.sl_flat_sections.specs.Views.{flats_of}
@@ -18,3 +18,5 @@ pub record StandsFor (x : Sections) (s : Specification) : Type 0 where
   pub marks : x.marks.items ≡ map (λ c. is_unimpl c.1.section) s.constructors
   pub spaces : byte_counts x.spaces.items ≡ map (λ z. z.size) s.tables.spaces
   pub default : x.default.0 ≡ default_space s.tables
+  pub templates : AreTemplates (byte_counts x.spaces.items) x.default.0
+      (flats_of x.sections.items) (lists_of x.sizes.now) (templates_of x.templates.items)

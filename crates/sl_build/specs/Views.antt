@@ -4,7 +4,7 @@ use Rattle.std.specs.Prelude.{◌≡◌, unwrap_or}
 use Rattle.std.specs.declared.alloc.Global.{Global}
 use Rattle.sl_ast.specs.Trees.{Constructor}
 use Rattle.sl_ast.specs.Unfolding.{Placed}
-use Rattle.sl_build.specs.Pieces.{Piece}
+use Rattle.sl_build.specs.Pieces.{Making, Piece}
 use Rattle.sl_build.specs.declared.slots.Slot.{Slot}
 use Rattle.sl_build.specs.declared.slots.Slot.TheVariants as v
 use Rattle.sl_build.specs.declared.trees.Tree.{Tree}
@@ -12,16 +12,22 @@ use Rattle.sl_build.specs.declared.work.Work.{Work}
 use Rattle.sl_decoding.specs.Trees.{Node}
 use Rattle.sl_decoding.specs.declared.entries.Entry.{Entry}
 use Rattle.sl_emit.specs.Views.{number_of, operations_of, reference_of}
+use Rattle.sl_flat_sections.specs.FlatSections.{Flat}
 use Rattle.sl_flat_sections.specs.Views.{flats_of}
 use Rattle.sl_instruction.specs.Instructions.{section_by}
 use Rattle.sl_instruction.specs.Operands.{action_reference, field_at, given_by}
-use Rattle.sl_meaning.specs.Nodes.{Section}
+use Rattle.sl_meaning.specs.Nodes.{Section, frame_of}
 use Rattle.sl_meaning.specs.References.{Reference, Setting}
 use Rattle.sl_plan.specs.Extents.{extent}
 use Rattle.sl_show.specs.Entries.{Row, rows_of}
 use Rattle.sl_sizing.specs.Sizings.{lists_of}
 use Rattle.sl_spec.specs.declared.tables.Tables.{Tables}
+use Rattle.sl_template.specs.Pieces as t
+use Rattle.sl_template.specs.Placed.{placed}
+use Rattle.sl_template.specs.Views.{IsTemplateOf, parts_of, size_in}
+use Rattle.sl_template.specs.declared.piece.Part.{Part}
 use Rattle.sl_word.specs.Sizes.{byte_counts}
+use Rattle.sl_word.specs.declared.word.Size.{Size}
 
 -- ---- operands
 
@@ -54,6 +60,29 @@ AreSlots t cs slots = (bytes : List ℕ) (n : Node) (lengths : List ℕ)
 abbrev pub is_marked : List Bool → (ctor : ℕ) → Bool
 is_marked marks ctor = unwrap_or (slice_get marks ctor) false
 
+-- ---- templates
+
+abbrev pub templates_of : List (Vec Part Global) → List (List t.Part)
+templates_of ts = map (λ v. parts_of v.items) ts
+
+-- the template of a constructor
+abbrev pub template_at : List (List t.Part) → (ctor : ℕ) → List t.Part
+template_at ts ctor = unwrap_or (slice_get ts ctor) []
+
+abbrev pub form_by : (sizes : List ℕ) → (default : ℕ) → Section → t.Form
+form_by sizes default section = record { sizes = sizes; default = default; size = section.size }
+
+abbrev pub form_of_sizes : (sizes : List ℕ) → (default : ℕ) → List Size → t.Form
+form_of_sizes sizes default ns =
+    record { sizes = sizes; default = default; size = size_in ns }
+
+-- They are the templates of all sections.
+abbrev pub AreTemplates : (sizes : List ℕ) → (default : ℕ) → List Flat → List (List Size)
+    → List (List t.Part) → Type 0
+AreTemplates sizes default sections lists ts = (ctor : ℕ)
+    → IsTemplateOf (form_by sizes default (section_by sections lists ctor))
+    (section_by sections lists ctor).steps (template_at ts ctor)
+
 -- ---- trees
 
 abbrev pub piece_of : Tree → Piece
@@ -83,6 +112,14 @@ setting_in w = record {
   start = number_of w.start;
   next = number_of w.next;
 }
+
+abbrev pub template_in : Work → (ctor : ℕ) → List t.Part
+template_in w = template_at (templates_of w.of.now.templates.items)
+
+-- the list of a node, by its constructor's template
+abbrev pub list_in : Work → Making
+list_in w ctor k refs lists =
+    placed w.top (setting_in w) (frame_of k (section_in w ctor) refs) lists (template_in w ctor)
 
 abbrev pub rows_in : Work → List Entry → List Row
 rows_in w nodes = rows_of w.values.now nodes

@@ -9,6 +9,7 @@ mod numbers;
 mod references;
 mod sections;
 mod slots;
+mod templates;
 mod trees;
 mod unimplemented;
 mod work;

@@ -2,11 +2,12 @@
 
 ghost use Rattle.std.specs.Prelude.{◌≡◌, IfOk, option_map};
 ghost use Rattle.sl_emit.specs.Views.{frame_of, number_of, reference_of, references_of};
-ghost use Rattle.sl_emit.specs.Views.{setting_of, size_in};
+ghost use Rattle.sl_emit.specs.Views.{setting_of};
 ghost use Rattle.sl_equations.specs.Equations.{size_at};
 ghost use Rattle.sl_meaning.specs.References as r;
 ghost use Rattle.sl_meaning.specs.Values as meaning;
 ghost use Rattle.sl_section.specs.Views.{number_of as space_number, symbol_of};
+ghost use Rattle.sl_template.specs.Views.{size_in};
 
 use crate::numbers::nothing;
 use sl_emit::{Number, Reference, Site};

@@ -11,16 +11,19 @@ ghost use Rattle.sl_spec.specs.Unfolded.{all_placed};
 ghost use Rattle.sl_word.specs.Sizes.{byte_counts};
 
 use crate::slots::{Slot, all_slots};
+use crate::templates::all_templates;
 use crate::unimplemented::marks;
 use crate::work::small;
 use sl_bind::Bound;
 use sl_flat_sections::{Text, flat_sections, text_of};
 use sl_section::Section;
 use sl_spec::{Space, Tables};
+use sl_template::Part;
 use sl_word::{AddressSize, Size, SpaceId};
 use std::alloc::{AllocError, Global};
 
-/// The sections of a specification's constructors: flat, with their sizes, and with their operands.
+/// The sections of a specification's constructors: flat, with their sizes, their operands and their
+/// templates.
 #[derive(Drop)]
 pub struct Sections<'b, 'a> {
     pub(crate) tables: &'b Tables<'a>,
@@ -31,6 +34,8 @@ pub struct Sections<'b, 'a> {
     pub(crate) marks: Vec<bool>,
     pub(crate) spaces: Vec<AddressSize>,
     pub(crate) default: SpaceId,
+    /// The templates of all sections, statement by statement.
+    pub(crate) templates: Vec<Vec<Part<'a>>>,
 }
 
 /// The size of a space's addresses.
@@ -94,6 +99,13 @@ fn sections_of<'b, 's, 'a>(
     let marks = marks(alloc, constructors)?;
     let spaces = address_sizes(alloc, t)?;
     let default = default_space(t)?;
+    let templates = all_templates(
+        alloc,
+        spaces.as_slice(),
+        default,
+        sizes,
+        sections.as_slice(),
+    )?;
     Ok(Sections {
         tables: t,
         sizes,
@@ -102,6 +114,7 @@ fn sections_of<'b, 's, 'a>(
         marks,
         spaces,
         default,
+        templates,
     })
 }
 

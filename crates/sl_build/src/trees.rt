@@ -1,25 +1,25 @@
 //! The lists of trees, made from the last node to the first.
 
-ghost use Rattle.std.specs.Prelude.{◌≡◌, ◌∷◌, List, [], IfOk, OnOk, slice_get, unwrap_or};
+ghost use Rattle.std.specs.Prelude.{◌≡◌, ◌∷◌, List, [], IfOk, OnOk};
 ghost use Rattle.sl_build.specs.Pieces.{behind_of, first_code, below_of, piece_before};
 ghost use Rattle.sl_build.specs.Pieces.{piece_with, pieces};
-ghost use Rattle.sl_build.specs.Views.{gives_in, piece_of, pieces_of, rows_in, section_in};
-ghost use Rattle.sl_build.specs.Views.{setting_in};
+ghost use Rattle.sl_build.specs.Views.{gives_in, list_in, piece_of, pieces_of, rows_in};
+ghost use Rattle.sl_build.specs.Views.{section_in, setting_in, template_in};
 ghost use Rattle.sl_emit.specs.Views as emit;
 ghost use Rattle.sl_emit.specs.Views.{operations_of, references_of};
 ghost use Rattle.sl_section.specs.Views.{steps_of};
 ghost use Rattle.sl_show.specs.Entries.{row_of};
-ghost use Rattle.sl_sizing.specs.Sizings as sizings;
+ghost use Rattle.sl_template.specs.Views.{parts_of};
 
 use crate::exports::exported;
 use crate::filling::{Operands, operands_of};
+use crate::templates::sizes_in;
 use crate::work::{Work, one_more, small};
 use sl_decoding::Entry;
-use sl_emit::{Reference, Site, section};
+use sl_emit::{Reference, Site, place};
 use sl_pcode::Op;
 use sl_section::Step;
-use sl_spec::CtorId;
-use sl_word::Size;
+use sl_template::Part;
 use std::alloc::{AllocError, Global};
 use std::collections::VecDeque;
 
@@ -36,17 +36,8 @@ pub(crate) struct Tree {
     pub list: Vec<Op>,
 }
 
-/// The sizes of a constructor's section.
-fn sizes_in(sizes: &[Vec<Size>], ctor: CtorId) -> &[Size]
-    ensures { result.now ≡ unwrap_or (slice_get (sizings.lists_of sizes.now) ctor) [] }
-{
-    match sizes.get(ctor.0 as usize) {
-        Some(sizes) => sizes.as_slice(),
-        None => &[],
-    }
-}
-
-/// The tree of the node of this number, with its operands and the statements of its section.
+/// The tree of the node of this number, with its operands, and the statements and the template of
+/// its section.
 fn tree_by(
     alloc: Global,
     w: &Work<'_, '_, '_>,
@@ -54,10 +45,12 @@ fn tree_by(
     node: &Entry,
     filled: &Operands,
     steps: &[Step<'_>],
+    template: &[Part<'_>],
 ) -> Result<Tree, AllocError>
-    requires { steps_of steps.now ≡ (section_in w.now node.now.ctor).steps }
+    requires steps { steps_of steps.now ≡ (section_in w.now node.now.ctor).steps }
+    requires template { parts_of template.now ≡ template_in w.now node.now.ctor }
     ensures { IfOk result (λ x. piece_of x ≡ piece_with (section_in w.now) (setting_in w.now)
-        w.now.top k (row_of w.now.values.now node.now) (references_of filled.now.refs.items)
+        (list_in w.now) k (row_of w.now.values.now node.now) (references_of filled.now.refs.items)
         (emit.lists_of filled.now.lists.items)) }
 {
     let of = w.of;
@@ -72,7 +65,7 @@ fn tree_by(
         refs: filled.refs.as_slice(),
         top: w.top,
     };
-    let list = section(alloc, &site, filled.lists.as_slice(), steps);
+    let list = place(alloc, &site, filled.lists.as_slice(), template);
     let reference = exported(alloc, &site, steps);
     let Site {
         endian: _,
@@ -96,6 +89,27 @@ fn tree_by(
     })
 }
 
+/// The tree of the node of this number, with its operands and the statements of its section.
+fn tree_with(
+    alloc: Global,
+    w: &Work<'_, '_, '_>,
+    k: u32,
+    node: &Entry,
+    filled: &Operands,
+    steps: &[Step<'_>],
+) -> Result<Tree, AllocError>
+    requires { steps_of steps.now ≡ (section_in w.now node.now.ctor).steps }
+    ensures { IfOk result (λ x. piece_of x ≡ piece_with (section_in w.now) (setting_in w.now)
+        (list_in w.now) k (row_of w.now.values.now node.now) (references_of filled.now.refs.items)
+        (emit.lists_of filled.now.lists.items)) }
+{
+    let templates = w.of.templates.as_slice();
+    match templates.get(node.ctor.0 as usize) {
+        Some(template) => tree_by(alloc, w, k, node, filled, steps, template.as_slice()),
+        None => tree_by(alloc, w, k, node, filled, steps, &[]),
+    }
+}
+
 /// The tree of the node of this number, with its operands.
 fn tree_of(
     alloc: Global,
@@ -105,13 +119,13 @@ fn tree_of(
     filled: &Operands,
 ) -> Result<Tree, AllocError>
     ensures { IfOk result (λ x. piece_of x ≡ piece_with (section_in w.now) (setting_in w.now)
-        w.now.top k (row_of w.now.values.now node.now) (references_of filled.now.refs.items)
+        (list_in w.now) k (row_of w.now.values.now node.now) (references_of filled.now.refs.items)
         (emit.lists_of filled.now.lists.items)) }
 {
     let sections = w.of.sections.as_slice();
     match sections.get(node.ctor.0 as usize) {
-        Some(section) => tree_by(alloc, w, k, node, filled, section.steps.as_slice()),
-        None => tree_by(alloc, w, k, node, filled, &[]),
+        Some(section) => tree_with(alloc, w, k, node, filled, section.steps.as_slice()),
+        None => tree_with(alloc, w, k, node, filled, &[]),
     }
 }
 
@@ -149,7 +163,7 @@ fn add_tree(
     done: &mut VecDeque<Tree>,
 ) -> Result<(), AllocError>
     ensures { OnOk result (pieces_of done.new.items ≡ piece_before (section_in w.now)
-        (setting_in w.now) w.now.top (gives_in w.now) k (row_of w.now.values.now node.now)
+        (setting_in w.now) (list_in w.now) (gives_in w.now) k (row_of w.now.values.now node.now)
         (pieces_of done.old.items)) }
 {
     let below = take_below(alloc, done, node.below)?;
@@ -162,7 +176,7 @@ fn add_tree(
 /// The trees of a row.
 fn trees(alloc: Global, w: &Work<'_, '_, '_>, nodes: &[Entry]) -> Result<VecDeque<Tree>, AllocError>
     ensures { IfOk result (λ v. pieces_of v.items ≡ pieces (section_in w.now) (setting_in w.now)
-        w.now.top (gives_in w.now) 0 (rows_in w.now nodes.now)) }
+        (list_in w.now) (gives_in w.now) 0 (rows_in w.now nodes.now)) }
 {
     let mut done = VecDeque::new(alloc);
     'nodes: for round in 0..nodes.len() {
@@ -180,7 +194,7 @@ pub(crate) fn first_list(
     nodes: &[Entry],
 ) -> Result<Vec<Op>, AllocError>
     ensures { IfOk result (λ v. operations_of v.items ≡ first_code (pieces (section_in w.now)
-        (setting_in w.now) w.now.top (gives_in w.now) 0 (rows_in w.now nodes.now))) }
+        (setting_in w.now) (list_in w.now) (gives_in w.now) 0 (rows_in w.now nodes.now))) }
 {
     let mut done = trees(alloc, w, nodes)?;
     match done.pop_front() {

@@ -1,22 +1,18 @@
--- Sections, statement by statement.
+-- Templates, statement by statement.
 use Rattle.std.proofs.Common.{◌≡◌, ◌∙◌, ◌++◌, ◌∷◌, [], ℕ, zero, suc, ◌+◌, ◌≤◌, Bool, true, false, List, Option, Some, None, Ok, Err, OnOk, refl, sym, ap, append_assoc, length, length-append, map, arith, pos}
 use Rattle.std.proofs.Math.Path.{fun_ext}
 use Rattle.std.specs.Prelude.{if◌then◌else◌, ◌||◌, Result, Vec, is_some, slice_get, unwrap_or}
 use Rattle.std.specs.declared.alloc.Global.{Global}
-use Rattle.sl_code.specs.Operations.{Operation, at_temp, exit, exit_if, in_space}
-use Rattle.sl_code.specs.Statements.{bits_put, direct, label_at, section_code, step_code, step_length, steps_code}
-use Rattle.sl_code.specs.Terms.{term_before, term_operand}
-use Rattle.sl_emit.specs.Views.{jump_inside, jumps_to, label_in, lists_of, operations_of, place_by, references_of, scan}
+use Rattle.sl_code.specs.Operations.{Operation}
+use Rattle.sl_emit.specs.Views.{jump_inside, jumps_to, lists_of, operations_of, place_by, references_of, scan}
 use Rattle.sl_emit.specs.declared.reference.Reference.{Reference}
 use Rattle.sl_meaning.specs.References.{Setting, number}
-use Rattle.sl_meaning.specs.Statements.{is_label}
 use Rattle.sl_meaning.specs.Values.{Frame, reference_at}
-use Rattle.sl_pcode.specs.declared.code.Code.TheVariants as code
 use Rattle.sl_pcode.specs.declared.operation.Op.{Op}
-use Rattle.sl_pcode.specs.declared.varnode.Varnode.{Varnode}
-use Rattle.sl_section.specs.Sections as s
-use Rattle.sl_section.specs.Sections.{Direct, Label, Step}
-use Rattle.sl_word.specs.declared.word.Size.{Size}
+use Rattle.sl_section.specs.Sections.{Label}
+use Rattle.sl_template.specs.Pieces as t
+use Rattle.sl_template.specs.Pieces.{Part, Tail}
+use Rattle.sl_template.specs.Placed.{label_at, part_code, part_length, parts_code, pieces_code, placed, tail_code, tail_is}
 
 -- neither of two tests is true
 left_alone : (o : Option Label) (b : Bool) → (is_some o || b) ≡ false → o ≡ None
@@ -38,87 +34,73 @@ longer old new more is =
 
 module _ (top : ℕ) (g : Setting) (f : Frame) (lists : List (List Operation)) where
   -- no label changes the number of operations
-  step_same : (label_place : Label → ℕ) (p : ℕ) (a : Step) → length (step_code top g f label_place lists p a) ≡ step_length top g f lists a
-  step_same label_place p (s.declare x n) = refl
-  step_same label_place p (s.set a e) = refl
-  step_same label_place p (s.set_bits a low count e) = refl
-  step_same label_place p (s.store space n pointer x e) = refl
-  step_same label_place p (s.run_user op es) = refl
-  step_same label_place p (s.build i) = refl
-  step_same label_place p (s.label l) = refl
-  step_same label_place p (s.branch to) = refl
-  step_same label_place p (s.branch_if e to) =
-      length-append (term_before top g f 0 e) _ ∙ sym (length-append (term_before top g f 0 e) _)
-  step_same label_place p (s.branch_to e) = refl
-  step_same label_place p (s.call a) = refl
-  step_same label_place p (s.call_to e) = refl
-  step_same label_place p (s.return e) = refl
-  step_same label_place p (s.export what) = refl
+  tail_same : (label_place : Label → ℕ) (p q : ℕ) (a : Tail) → length (tail_code top g f label_place lists p a) ≡ length (tail_code top g f (λ l. 0) lists q a)
+  tail_same label_place p q t.nothing = refl
+  tail_same label_place p q (t.build i) = refl
+  tail_same label_place p q (t.label l) = refl
+  tail_same label_place p q (t.branch l) = refl
+  tail_same label_place p q (t.branch_if l v) = refl
 
-  direct_at : (label_place : Label → ℕ) (p place : ℕ) (to : Direct) → place ≡ place_by label_place (label_in to) → direct top g f label_place p to ≡ direct top g f (λ l. place) p to
-  direct_at label_place p place (s.to_label l) is = ap (λ q. direct top g f (λ x. q) p (s.to_label l)) (sym is)
-  direct_at label_place p place (s.to_place a) is = refl
+  part_same : (label_place : Label → ℕ) (p : ℕ) (a : Part) → length (part_code top g f label_place lists p a) ≡ part_length top g f lists a
+  part_same label_place p a =
+      let c = pieces_code top g f a.pieces in
+      length-append c _ ∙ ap (λ n. length c + n) (tail_same label_place (p + length c) (0 + length c) a.tail) ∙ sym (length-append c _)
 
   -- only the label that a statement jumps to counts
-  step_at : (label_place : Label → ℕ) (p place : ℕ) (a : Step) → place ≡ place_by label_place (jumps_to a) → step_code top g f label_place lists p a ≡ step_code top g f (λ l. place) lists p a
-  step_at label_place p place (s.declare x n) is = refl
-  step_at label_place p place (s.set a e) is = refl
-  step_at label_place p place (s.set_bits a low count e) is = refl
-  step_at label_place p place (s.store space n pointer x e) is = refl
-  step_at label_place p place (s.run_user op es) is = refl
-  step_at label_place p place (s.build i) is = refl
-  step_at label_place p place (s.label l) is = refl
-  step_at label_place p place (s.branch to) is = ap (λ v. exit code.Branch v ∷ []) (direct_at label_place p place to is)
-  step_at label_place p place (s.branch_if e to) is =
-      ap (λ v. term_before top g f 0 e ++ exit_if v (term_operand top g f 0 e) ∷ []) (direct_at label_place (p + length (term_before top g f 0 e)) place to is)
-  step_at label_place p place (s.branch_to e) is = refl
-  step_at label_place p place (s.call a) is = refl
-  step_at label_place p place (s.call_to e) is = refl
-  step_at label_place p place (s.return e) is = refl
-  step_at label_place p place (s.export what) is = refl
+  tail_at : (label_place : Label → ℕ) (p place : ℕ) (a : Tail) → place ≡ place_by label_place (jumps_to a) → tail_code top g f label_place lists p a ≡ tail_code top g f (λ l. place) lists p a
+  tail_at label_place p place t.nothing is = refl
+  tail_at label_place p place (t.build i) is = refl
+  tail_at label_place p place (t.label l) is = refl
+  tail_at label_place p place (t.branch l) is = ap (λ q. tail_code top g f (λ x. q) lists p (t.branch l)) (sym is)
+  tail_at label_place p place (t.branch_if l v) is = ap (λ q. tail_code top g f (λ x. q) lists p (t.branch_if l v)) (sym is)
+
+  part_at : (label_place : Label → ℕ) (p place : ℕ) (a : Part) → place ≡ place_by label_place (jumps_to a.tail) → part_code top g f label_place lists p a ≡ part_code top g f (λ l. place) lists p a
+  part_at label_place p place a is =
+      let c = pieces_code top g f a.pieces in
+      ap (λ more. c ++ more) (tail_at label_place (p + length c) place a.tail is)
 
   -- one statement more
-  pub one_more : (label_place : Label → ℕ) (place : ℕ) (a : Step) (ss : List Step) (old new : List Op) → place ≡ place_by label_place (jumps_to a)
-      → operations_of new ≡ operations_of old ++ step_code top g f (λ l. place) lists (length old) a
-      → operations_of new ++ steps_code top g f lists label_place (length new) ss ≡ operations_of old ++ steps_code top g f lists label_place (length old) (a ∷ ss)
-  one_more label_place place a ss old new is put =
-      let cs = step_code top g f label_place lists (length old) a in
-      let same : step_code top g f (λ l. place) lists (length old) a ≡ cs = sym (step_at label_place (length old) place a is) in
-      let here : length new ≡ length old + step_length top g f lists a = longer old new _ put ∙ ap (λ n. length old + n) (step_same (λ l. place) (length old) a) in
-      ap (λ xs. xs ++ steps_code top g f lists label_place (length new) ss) (put ∙ ap (λ xs. operations_of old ++ xs) same)
-      ∙ ap (λ n. (operations_of old ++ cs) ++ steps_code top g f lists label_place n ss) here
-      ∙ append_assoc (operations_of old) cs (steps_code top g f lists label_place (length old + step_length top g f lists a) ss)
+  pub one_more : (label_place : Label → ℕ) (place : ℕ) (a : Part) (ps : List Part) (old new : List Op) → place ≡ place_by label_place (jumps_to a.tail)
+      → operations_of new ≡ operations_of old ++ part_code top g f (λ l. place) lists (length old) a
+      → operations_of new ++ parts_code top g f lists label_place (length new) ps ≡ operations_of old ++ parts_code top g f lists label_place (length old) (a ∷ ps)
+  one_more label_place place a ps old new is put =
+      let cs = part_code top g f label_place lists (length old) a in
+      let same : part_code top g f (λ l. place) lists (length old) a ≡ cs = sym (part_at label_place (length old) place a is) in
+      let here : length new ≡ length old + part_length top g f lists a = longer old new _ put ∙ ap (λ n. length old + n) (part_same (λ l. place) (length old) a) in
+      ap (λ xs. xs ++ parts_code top g f lists label_place (length new) ps) (put ∙ ap (λ xs. operations_of old ++ xs) same)
+      ∙ ap (λ n. (operations_of old ++ cs) ++ parts_code top g f lists label_place n ps) here
+      ∙ append_assoc (operations_of old) cs (parts_code top g f lists label_place (length old + part_length top g f lists a) ps)
 
   -- a label's place by the numbers of operations
-  pub scanned : (l : Label) (ss : List Step) (p : ℕ) → scan ss (map (step_length top g f lists) ss) l p ≡ label_at top g f lists l p ss
+  pub scanned : (l : Label) (ps : List Part) (p : ℕ) → scan ps (map (part_length top g f lists) ps) l p ≡ label_at top g f lists l p ps
   scanned l [] p = refl
-  scanned l (a ∷ ss) p = picked (is_label a l) (scanned l ss (p + step_length top g f lists a))
+  scanned l (a ∷ ps) p = picked (tail_is a.tail l) (scanned l ps (p + part_length top g f lists a))
     where
-      picked : (b : Bool) → scan ss (map (step_length top g f lists) ss) l (p + step_length top g f lists a) ≡ label_at top g f lists l (p + step_length top g f lists a) ss
-          → (if b then p else scan ss (map (step_length top g f lists) ss) l (p + step_length top g f lists a)) ≡ (if b then p else label_at top g f lists l (p + step_length top g f lists a) ss)
+      picked : (b : Bool) → scan ps (map (part_length top g f lists) ps) l (p + part_length top g f lists a) ≡ label_at top g f lists l (p + part_length top g f lists a) ps
+          → (if b then p else scan ps (map (part_length top g f lists) ps) l (p + part_length top g f lists a)) ≡ (if b then p else label_at top g f lists l (p + part_length top g f lists a) ps)
       picked true h = refl
       picked false h = h
 
   -- where no statement jumps to a label, their places don't count
-  pub unplaced : (one other : Label → ℕ) (ss : List Step) (p : ℕ) → jump_inside ss ≡ false → steps_code top g f lists one p ss ≡ steps_code top g f lists other p ss
+  pub unplaced : (one other : Label → ℕ) (ps : List Part) (p : ℕ) → jump_inside ps ≡ false → parts_code top g f lists one p ps ≡ parts_code top g f lists other p ps
   unplaced one other [] p none = refl
-  unplaced one other (a ∷ ss) p none =
-      let here : jumps_to a ≡ None = left_alone (jumps_to a) (jump_inside ss) none in
-      let there : jump_inside ss ≡ false = right_alone (jumps_to a) (jump_inside ss) none in
-      ap (λ (c : List Operation). c ++ steps_code top g f lists one (p + step_length top g f lists a) ss)
-      (step_at one p 0 a (sym (ap (place_by one) here)) ∙ sym (step_at other p 0 a (sym (ap (place_by other) here))))
-      ∙ ap (λ (c : List Operation). step_code top g f other lists p a ++ c) (unplaced one other ss (p + step_length top g f lists a) there)
+  unplaced one other (a ∷ ps) p none =
+      let here : jumps_to a.tail ≡ None = left_alone (jumps_to a.tail) (jump_inside ps) none in
+      let there : jump_inside ps ≡ false = right_alone (jumps_to a.tail) (jump_inside ps) none in
+      ap (λ (c : List Operation). c ++ parts_code top g f lists one (p + part_length top g f lists a) ps)
+      (part_at one p 0 a (sym (ap (place_by one) here)) ∙ sym (part_at other p 0 a (sym (ap (place_by other) here))))
+      ∙ ap (λ (c : List Operation). part_code top g f other lists p a ++ c) (unplaced one other ps (p + part_length top g f lists a) there)
 
   -- labels by the numbers of operations make the section
-  pub section_is : (ss : List Step) (ns : List ℕ) → ns ≡ map (step_length top g f lists) ss → steps_code top g f lists (λ l. scan ss ns l 0) 0 ss ≡ section_code top g f lists ss
-  section_is ss ns is =
-      ap (λ (xs : List ℕ). steps_code top g f lists (λ l. scan ss xs l 0) 0 ss) is
-      ∙ ap (λ (label_place : Label → ℕ). steps_code top g f lists label_place 0 ss) (fun_ext (λ l. scanned l ss 0))
+  pub section_is : (ps : List Part) (ns : List ℕ) → ns ≡ map (part_length top g f lists) ps → parts_code top g f lists (λ l. scan ps ns l 0) 0 ps ≡ placed top g f lists ps
+  section_is ps ns is =
+      ap (λ (xs : List ℕ). parts_code top g f lists (λ l. scan ps xs l 0) 0 ps) is
+      ∙ ap (λ (label_place : Label → ℕ). parts_code top g f lists label_place 0 ps) (fun_ext (λ l. scanned l ps 0))
 
 -- a label's place where no number is told
-pub scan_none : (ss : List Step) (l : Label) (p : ℕ) → scan ss [] l p ≡ p
+pub scan_none : (ps : List Part) (l : Label) (p : ℕ) → scan ps [] l p ≡ p
 scan_none [] l p = refl
-scan_none (a ∷ ss) l p = refl
+scan_none (a ∷ ps) l p = refl
 
 -- lists of operands that aren't there
 pub none_there : (lists : List (Vec Op Global)) (i : ℕ) → length lists ≤ i → unwrap_or (slice_get (lists_of lists) i) [] ≡ []
@@ -140,15 +122,3 @@ and_nothing (x ∷ xs) = ap (λ ys. x ∷ ys) (and_nothing xs)
 pub mapped : {T E : Type 0} (r : Result T E) (P Q : Type 0) → (P → Q) → OnOk r P → OnOk r Q
 mapped (Ok v) P Q f h = f h
 mapped (Err e) P Q f h = h
-
--- bits of bits of a register
-pub range_parts : (top : ℕ) (n whole k : Size) (old v to register : Varnode) (space offset sl sc ol oc : ℕ) (start mid all : List Operation) → whole ≡ k → register ≡ in_space space offset whole → to ≡ at_temp top 2 n
-    → mid ≡ start ++ bits_put top 2 n old v sl sc to → all ≡ mid ++ bits_put top 4 whole register to ol oc register
-    → all ≡ start ++ (bits_put top 2 n old v sl sc (at_temp top 2 n) ++ bits_put top 4 k (in_space space offset k) (at_temp top 2 n) ol oc (in_space space offset k))
-range_parts top n whole k old v to register space offset sl sc ol oc start mid all w r t m a =
-    let T = at_temp top 2 n in
-    a ∙ ap (λ (xs : List Operation). xs ++ bits_put top 4 whole register to ol oc register) m
-    ∙ append_assoc start (bits_put top 2 n old v sl sc to) (bits_put top 4 whole register to ol oc register)
-    ∙ ap (λ (x : Varnode). start ++ (bits_put top 2 n old v sl sc x ++ bits_put top 4 whole register x ol oc register)) t
-    ∙ ap (λ (x : Varnode). start ++ (bits_put top 2 n old v sl sc T ++ bits_put top 4 whole x T ol oc x)) r
-    ∙ ap (λ (x : Size). start ++ (bits_put top 2 n old v sl sc T ++ bits_put top 4 x (in_space space offset x) T ol oc (in_space space offset x))) w

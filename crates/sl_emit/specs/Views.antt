@@ -1,6 +1,6 @@
 -- view: the program's references, nodes and operations as those of the definitions.
-use Rattle.std.specs.Prelude.{ℕ, ℤ, pos, negsuc, Bool, is_some, List, Vec, Option, Some, None, map, slice_get}
-use Rattle.std.specs.Prelude.{unwrap_or, ◌+◌, [], ◌∷◌, if◌then◌else◌}
+use Rattle.std.specs.Prelude.{ℕ, ℤ, pos, negsuc, Bool, is_some, List, Vec, Option, Some, None, map}
+use Rattle.std.specs.Prelude.{◌+◌, [], ◌∷◌, if◌then◌else◌}
 use Rattle.std.specs.List.{list_any}
 use Rattle.std.specs.declared.alloc.Global.{Global}
 use Rattle.sl_code.specs.Operations.{Operation, operation_of}
@@ -9,14 +9,14 @@ use Rattle.sl_emit.specs.declared.reference.Number.TheVariants as n
 use Rattle.sl_emit.specs.declared.reference.Reference.{Reference, fold-Reference}
 use Rattle.sl_emit.specs.declared.reference.Reference.TheOpen.{Reference-F}
 use Rattle.sl_emit.specs.declared.site.Site.{Site}
-use Rattle.sl_equations.specs.Equations.{size_at}
 use Rattle.sl_meaning.specs.References as m
-use Rattle.sl_meaning.specs.Statements.{is_label}
 use Rattle.sl_meaning.specs.Values.{Frame}
 use Rattle.sl_pcode.specs.declared.operation.Op.{Op}
 use Rattle.sl_section.specs.Sections as s
+use Rattle.sl_template.specs.Pieces as t
+use Rattle.sl_template.specs.Placed.{tail_is}
+use Rattle.sl_template.specs.Views.{size_in}
 use Rattle.sl_word.specs.Sizes.{byte_counts}
-use Rattle.sl_word.specs.declared.word.Size.{Size}
 
 abbrev pub number_of : Number → ℤ
 number_of (n.Natural v) = pos v
@@ -35,9 +35,6 @@ reference_of = fold-Reference m.Reference reference_step
 
 abbrev pub references_of : List Reference → List m.Reference
 references_of rs = map reference_of rs
-
-abbrev pub size_in : List Size → ℕ → Size
-size_in sizes x = unwrap_or (slice_get sizes x) (size_at 1)
 
 abbrev pub setting_of : Site → m.Setting
 setting_of site = record {
@@ -63,18 +60,14 @@ abbrev pub lists_of : List (Vec Op Global) → List (List Operation)
 lists_of lists = map (λ v. operations_of v.items) lists
 
 -- the label that a statement jumps to
-abbrev pub label_in : s.Direct → Option s.Label
-label_in (s.to_label l) = Some l
-label_in (s.to_place a) = None
-
-abbrev pub jumps_to : s.Step → Option s.Label
-jumps_to (s.branch to) = label_in to
-jumps_to (s.branch_if e to) = label_in to
+abbrev pub jumps_to : t.Tail → Option s.Label
+jumps_to (t.branch l) = Some l
+jumps_to (t.branch_if l v) = Some l
 jumps_to _ = None
 
 -- whether one of these statements jumps to a label
-abbrev pub jump_inside : List s.Step → Bool
-jump_inside ss = list_any (λ a. is_some (jumps_to a)) ss
+abbrev pub jump_inside : List t.Part → Bool
+jump_inside ps = list_any (λ a. is_some (jumps_to a.tail)) ps
 
 -- the place of that label
 abbrev pub place_by : (s.Label → ℕ) → Option s.Label → ℕ
@@ -82,7 +75,7 @@ place_by label_place None = 0
 place_by label_place (Some l) = label_place l
 
 -- the place of a label, by how many operations each statement has
-abbrev pub scan : List s.Step → List ℕ → s.Label → ℕ → ℕ
+abbrev pub scan : List t.Part → List ℕ → s.Label → ℕ → ℕ
 scan [] ns l p = p
-scan (a ∷ ss) [] l p = p
-scan (a ∷ ss) (n ∷ ns) l p = if is_label a l then p else scan ss ns l (p + n)
+scan (a ∷ ps) [] l p = p
+scan (a ∷ ps) (n ∷ ns) l p = if tail_is a.tail l then p else scan ps ns l (p + n)

@@ -1,19 +1,19 @@
-//! Sections as lists of operations.
+//! The operations of templates at a node.
 #![tactic(auto)]
 
-mod exits;
+mod bits;
+mod given;
 mod operations;
+mod parts;
+mod pieces;
 mod reading;
 mod reference;
 mod sections;
 mod site;
-mod sizes;
-mod statements;
-mod steps;
-mod symbols;
-mod terms;
+mod slots;
+mod targets;
 mod varnodes;
 
 pub use reference::{Number, Reference};
-pub use sections::section;
+pub use sections::place;
 pub use site::Site;

@@ -2,13 +2,11 @@
 
 ghost use Rattle.std.specs.Prelude.{◌≡◌, ◌≤◌, ◌++◌, ◌∷◌, [], Some, None, length, OnOk};
 ghost use Rattle.sl_code.specs.Operations as o;
-ghost use Rattle.sl_code.specs.Terms as term;
 ghost use Rattle.sl_emit.specs.Views.{operations_of};
 ghost use Rattle.sl_pcode.specs.declared.code.Code.TheVariants.{CallOther};
 
-use crate::varnodes::amount;
 use sl_pcode::{Code, Op, Varnode};
-use sl_section::Order;
+use sl_template::amount;
 use sl_word::{Op1, Op2, SpaceId};
 use std::alloc::{AllocError, Global};
 
@@ -101,25 +99,6 @@ pub(crate) fn put_binary(
         ≡ operations_of out.old.items ++ o.binary op to a b ∷ []) }
 {
     put(alloc, out, binary_code(op), Some(to), &[a, b])
-}
-
-/// An operation on two values, in this order.
-pub(crate) fn put_ordered(
-    alloc: Global,
-    out: &mut Vec<Op>,
-    op: Op2,
-    order: Order,
-    to: Varnode,
-    a: Varnode,
-    b: Varnode,
-) -> Result<(), AllocError>
-    ensures { OnOk result (operations_of out.new.items
-        ≡ operations_of out.old.items ++ term.two_operands op order to a b ∷ []) }
-{
-    match order {
-        Order::AsWritten => put_binary(alloc, out, op, to, a, b),
-        Order::Exchanged => put_binary(alloc, out, op, to, b, a),
-    }
 }
 
 pub(crate) fn put_load(

@@ -11,8 +11,9 @@ ghost use Rattle.sl_word.specs.declared.operation.Op1.TheVariants.{IntSext};
 
 use crate::operations::{put_load, put_unary};
 use crate::reference::{Number, Reference};
-use crate::varnodes::{at_temp, in_space, number_leaf, range, temporary, wide_number};
+use crate::varnodes::{at_temp, number_leaf, range, temporary, wide_number};
 use sl_pcode::{Op, Varnode};
+use sl_template::in_space;
 use sl_word::{Op1, Size};
 use std::alloc::{AllocError, Global};
 

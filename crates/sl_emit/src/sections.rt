@@ -1,17 +1,19 @@
-//! Sections.
+//! Templates of sections at a node.
 
 ghost use Rattle.std.specs.Prelude.{◌≡◌, map, option_map, IfOk};
 ghost use Rattle.std.specs.Str.{bytes_eq};
-ghost use Rattle.sl_code.specs.Statements as step;
-ghost use Rattle.sl_emit.specs.Views.{frame_of, jumps_to, lists_of, operations_of, place_by};
-ghost use Rattle.sl_emit.specs.Views.{jump_inside, label_in, scan, setting_of};
+ghost use Rattle.sl_emit.specs.Views.{frame_of, jump_inside, jumps_to, lists_of, operations_of};
+ghost use Rattle.sl_emit.specs.Views.{place_by, scan, setting_of};
 ghost use Rattle.sl_meaning.specs.Statements as meaning;
-ghost use Rattle.sl_section.specs.Views.{direct_of, label_of, step_of, steps_of};
+ghost use Rattle.sl_section.specs.Views.{label_of};
+ghost use Rattle.sl_template.specs.Placed as p;
+ghost use Rattle.sl_template.specs.Views.{part_of, parts_of, tail_of};
 
+use crate::parts::part;
 use crate::site::Site;
-use crate::steps::step;
 use sl_pcode::Op;
-use sl_section::{Direct, Label, Step};
+use sl_section::Label;
+use sl_template::{Part, Tail};
 use std::alloc::{AllocError, Global};
 
 fn same_bytes(a: &[u8], b: &[u8]) -> bool
@@ -26,25 +28,16 @@ fn same_label(a: Label<'_>, b: Label<'_>) -> bool
     a.call == b.call && same_bytes(a.name, b.name)
 }
 
-/// Whether the statement is this label.
-fn is_label(a: &Step<'_>, l: Label<'_>) -> bool
-    ensures { result ≡ meaning.is_label (step_of a.now) (label_of l.entry) }
+/// Whether this label stands behind the pieces of a statement.
+fn is_label(a: &Tail<'_>, l: Label<'_>) -> bool
+    ensures { result ≡ p.tail_is (tail_of a.now) (label_of l.entry) }
 {
     match a {
-        Step::Label(here) => same_label(*here, l),
-        Step::Declare(_, _) => false,
-        Step::Set(_, _) => false,
-        Step::SetBits(_, _, _) => false,
-        Step::Store(_, _, _, _, _) => false,
-        Step::User(_, _) => false,
-        Step::Build(_) => false,
-        Step::Branch(_) => false,
-        Step::BranchIf(_, _) => false,
-        Step::BranchTo(_) => false,
-        Step::Call(_) => false,
-        Step::CallTo(_) => false,
-        Step::Return(_) => false,
-        Step::Export(_) => false,
+        Tail::Label(here) => same_label(*here, l),
+        Tail::Nothing => false,
+        Tail::Build(_) => false,
+        Tail::Branch(_) => false,
+        Tail::BranchIf(_, _) => false,
     }
 }
 
@@ -54,13 +47,13 @@ fn length_of(
     alloc: Global,
     site: &Site<'_>,
     lists: &[Vec<Op>],
-    a: &Step<'_>,
+    a: &Part<'_>,
 ) -> Result<u64, AllocError>
-    ensures { IfOk result (λ n. n ≡ step.step_length site.now.top (setting_of site.now)
-        (frame_of site.now) (lists_of lists.now) (step_of a.now)) }
+    ensures { IfOk result (λ n. n ≡ p.part_length site.now.top (setting_of site.now)
+        (frame_of site.now) (lists_of lists.now) (part_of a.now)) }
 {
     let mut scratch = Vec::new(alloc);
-    step(alloc, site, lists, &mut scratch, 0, 0, a)?;
+    part(alloc, site, lists, &mut scratch, 0, 0, a)?;
     Ok(scratch.len() as u64)
 }
 
@@ -69,56 +62,38 @@ fn lengths(
     alloc: Global,
     site: &Site<'_>,
     lists: &[Vec<Op>],
-    steps: &[Step<'_>],
+    parts: &[Part<'_>],
 ) -> Result<Vec<u64>, AllocError>
-    ensures { IfOk result (λ v. v.items ≡ map (step.step_length site.now.top (setting_of site.now)
-        (frame_of site.now) (lists_of lists.now)) (steps_of steps.now)) }
+    ensures { IfOk result (λ v. v.items ≡ map (p.part_length site.now.top (setting_of site.now)
+        (frame_of site.now) (lists_of lists.now)) (parts_of parts.now)) }
 {
     let mut lengths = Vec::new(alloc);
-    'steps: for index in 0..steps.len() {
-        let n = length_of(alloc, site, lists, &steps[index])?;
+    'parts: for index in 0..parts.len() {
+        let n = length_of(alloc, site, lists, &parts[index])?;
         lengths.push(n)?;
     }
     Ok(lengths)
 }
 
-fn direct_label<'a>(to: &Direct<'a>) -> Option<Label<'a>>
-    ensures { option_map label_of result ≡ label_in (direct_of to.now) }
-{
-    match to {
-        Direct::Label(l) => Some(*l),
-        Direct::Place(_) => None,
-    }
-}
-
 /// The label that a statement jumps to.
-fn jump_label<'a>(a: &Step<'a>) -> Option<Label<'a>>
-    ensures { option_map label_of result ≡ jumps_to (step_of a.now) }
+fn jump_label<'a>(a: &Tail<'a>) -> Option<Label<'a>>
+    ensures { option_map label_of result ≡ jumps_to (tail_of a.now) }
 {
     match a {
-        Step::Branch(to) => direct_label(to),
-        Step::BranchIf(_, to) => direct_label(to),
-        Step::Label(_) => None,
-        Step::Declare(_, _) => None,
-        Step::Set(_, _) => None,
-        Step::SetBits(_, _, _) => None,
-        Step::Store(_, _, _, _, _) => None,
-        Step::User(_, _) => None,
-        Step::Build(_) => None,
-        Step::BranchTo(_) => None,
-        Step::Call(_) => None,
-        Step::CallTo(_) => None,
-        Step::Return(_) => None,
-        Step::Export(_) => None,
+        Tail::Branch(l) => Some(*l),
+        Tail::BranchIf(l, _) => Some(*l),
+        Tail::Nothing => None,
+        Tail::Build(_) => None,
+        Tail::Label(_) => None,
     }
 }
 
 /// Whether a statement jumps to a label.
-fn jumps_inside(steps: &[Step<'_>]) -> bool
-    ensures { result ≡ jump_inside (steps_of steps.now) }
+fn jumps_inside(parts: &[Part<'_>]) -> bool
+    ensures { result ≡ jump_inside (parts_of parts.now) }
 {
-    'steps: for index in 0..steps.len() {
-        if jump_label(&steps[index]).is_some() {
+    'parts: for index in 0..parts.len() {
+        if jump_label(&parts[index].tail).is_some() {
             return true;
         }
     }
@@ -126,15 +101,15 @@ fn jumps_inside(steps: &[Step<'_>]) -> bool
 }
 
 /// The place of a label: behind the operations of the statements before it.
-fn label_place(steps: &[Step<'_>], lengths: &[u64], l: Label<'_>) -> Result<u64, AllocError>
-    ensures { IfOk result (λ p. p ≡ scan (steps_of steps.now) lengths.now (label_of l.entry) 0) }
+fn label_place(parts: &[Part<'_>], lengths: &[u64], l: Label<'_>) -> Result<u64, AllocError>
+    ensures { IfOk result (λ k. k ≡ scan (parts_of parts.now) lengths.now (label_of l.entry) 0) }
 {
     let mut place: u64 = 0;
-    'steps: for index in 0..steps.len() {
+    'parts: for index in 0..parts.len() {
         if lengths.len() <= index {
             return Ok(place);
         }
-        if is_label(&steps[index], l) {
+        if is_label(&parts[index].tail, l) {
             return Ok(place);
         }
         place = place.checked_add(lengths[index]).ok_or(AllocError)?;
@@ -143,33 +118,33 @@ fn label_place(steps: &[Step<'_>], lengths: &[u64], l: Label<'_>) -> Result<u64,
 }
 
 /// The place of the label that a statement jumps to; 0 where it jumps to none.
-fn place_of(steps: &[Step<'_>], lengths: &[u64], a: &Step<'_>) -> Result<u64, AllocError>
-    ensures { IfOk result (λ p. p ≡ place_by (λ l. scan (steps_of steps.now) lengths.now l 0)
-        (jumps_to (step_of a.now))) }
+fn place_of(parts: &[Part<'_>], lengths: &[u64], a: &Part<'_>) -> Result<u64, AllocError>
+    ensures { IfOk result (λ k. k ≡ place_by (λ l. scan (parts_of parts.now) lengths.now l 0)
+        (jumps_to (part_of a.now).tail)) }
 {
-    match jump_label(a) {
+    match jump_label(&a.tail) {
         None => Ok(0),
-        Some(l) => label_place(steps, lengths, l),
+        Some(l) => label_place(parts, lengths, l),
     }
 }
 
 /// The operations of statements, with the numbers of operations of each.
-fn all_steps(
+fn all_parts(
     alloc: Global,
     site: &Site<'_>,
     lists: &[Vec<Op>],
-    steps: &[Step<'_>],
+    parts: &[Part<'_>],
     lengths: &[u64],
 ) -> Result<Vec<Op>, AllocError>
-    ensures { IfOk result (λ v. operations_of v.items ≡ step.steps_code site.now.top
+    ensures { IfOk result (λ v. operations_of v.items ≡ p.parts_code site.now.top
         (setting_of site.now) (frame_of site.now) (lists_of lists.now)
-        (λ l. scan (steps_of steps.now) lengths.now l 0) 0 (steps_of steps.now)) }
+        (λ l. scan (parts_of parts.now) lengths.now l 0) 0 (parts_of parts.now)) }
 {
     let mut out = Vec::new(alloc);
-    'steps: for index in 0..steps.len() {
-        let place = place_of(steps, lengths, &steps[index])?;
+    'parts: for index in 0..parts.len() {
+        let place = place_of(parts, lengths, &parts[index])?;
         let at = out.len() as u64;
-        step(alloc, site, lists, &mut out, at, place, &steps[index])?;
+        part(alloc, site, lists, &mut out, at, place, &parts[index])?;
     }
     Ok(out)
 }
@@ -180,31 +155,31 @@ fn counts(
     alloc: Global,
     site: &Site<'_>,
     lists: &[Vec<Op>],
-    steps: &[Step<'_>],
+    parts: &[Part<'_>],
 ) -> Result<Vec<u64>, AllocError>
-    ensures { IfOk result (λ v. step.steps_code site.now.top (setting_of site.now)
-        (frame_of site.now) (lists_of lists.now) (λ l. scan (steps_of steps.now) v.items l 0) 0
-        (steps_of steps.now) ≡ step.section_code site.now.top (setting_of site.now)
-        (frame_of site.now) (lists_of lists.now) (steps_of steps.now)) }
+    ensures { IfOk result (λ v. p.parts_code site.now.top (setting_of site.now)
+        (frame_of site.now) (lists_of lists.now) (λ l. scan (parts_of parts.now) v.items l 0) 0
+        (parts_of parts.now) ≡ p.placed site.now.top (setting_of site.now)
+        (frame_of site.now) (lists_of lists.now) (parts_of parts.now)) }
 {
-    if !jumps_inside(steps) {
+    if !jumps_inside(parts) {
         return Ok(Vec::new(alloc));
     }
-    let counts = lengths(alloc, site, lists, steps)?;
+    let counts = lengths(alloc, site, lists, parts)?;
     Ok(counts)
 }
 
-/// The operations of a section, by what its operands stand for and the lists of its operands.
-pub fn section(
+/// The operations of a template, by what the operands of a node stand for and their lists.
+pub fn place(
     alloc: Global,
     site: &Site<'_>,
     lists: &[Vec<Op>],
-    steps: &[Step<'_>],
+    parts: &[Part<'_>],
 ) -> Result<Vec<Op>, AllocError>
-    ensures { IfOk result (λ v. operations_of v.items ≡ step.section_code site.now.top
-        (setting_of site.now) (frame_of site.now) (lists_of lists.now) (steps_of steps.now)) }
+    ensures { IfOk result (λ v. operations_of v.items ≡ p.placed site.now.top
+        (setting_of site.now) (frame_of site.now) (lists_of lists.now) (parts_of parts.now)) }
 {
-    let counts = counts(alloc, site, lists, steps)?;
-    let out = all_steps(alloc, site, lists, steps, &counts)?;
+    let counts = counts(alloc, site, lists, parts)?;
+    let out = all_parts(alloc, site, lists, parts, &counts)?;
     Ok(out)
 }

@@ -1,6 +1,6 @@
 //! Varnodes.
 
-ghost use Rattle.std.specs.Prelude.{◌≡◌, ◌≤◌, ◌^◌, ◌%◌, ◌+◌, ◌-◌, IfOk};
+ghost use Rattle.std.specs.Prelude.{◌≡◌, ◌≤◌, ◌^◌, ◌-◌};
 ghost use Rattle.sl_code.specs.Operations as o;
 ghost use Rattle.sl_code.specs.Terms as term;
 ghost use Rattle.sl_emit.specs.Views.{number_of};
@@ -8,20 +8,9 @@ ghost use Rattle.sl_equations.specs.Equations.{size_at};
 ghost use Rattle.sl_word.specs.Numbers as z;
 
 use crate::reference::Number;
-use crate::sizes::sized;
 use sl_pcode::{Place2, Varnode};
-use sl_word::{Size, SpaceId};
-use std::alloc::AllocError;
-
-pub(crate) fn constant(v: u64, n: Size) -> Varnode
-    ensures { result ≡ o.constant v n }
-{
-    Varnode {
-        place: Place2::Const,
-        offset: v,
-        size: n,
-    }
-}
+use sl_template::{constant, cut, sized};
+use sl_word::Size;
 
 pub(crate) fn temporary(offset: u64, n: Size) -> Varnode
     ensures { result ≡ o.temporary offset n }
@@ -31,23 +20,6 @@ pub(crate) fn temporary(offset: u64, n: Size) -> Varnode
         offset,
         size: n,
     }
-}
-
-pub(crate) fn in_space(space: SpaceId, offset: u64, n: Size) -> Varnode
-    ensures { result ≡ o.in_space space.0 offset n }
-{
-    Varnode {
-        place: Place2::In(space),
-        offset,
-        size: n,
-    }
-}
-
-/// An amount of a shift or of bytes, a distance, or a number of a space or a user operation.
-pub(crate) fn amount(v: u64) -> Varnode
-    ensures { result ≡ o.amount v }
-{
-    constant(v, sized(4))
 }
 
 /// Where a local of a node lies.
@@ -70,23 +42,6 @@ pub(crate) fn at_temp(top: u64, t: u32, n: Size) -> Varnode
     ensures { result ≡ o.at_temp top t n }
 {
     temporary(top + u64::from(t) * 16, n)
-}
-
-/// The next temporary value. 2^32 of them would be want of memory.
-pub(crate) fn next_temp(t: u32) -> Result<u32, AllocError>
-    ensures { IfOk result (λ n. n ≡ t + 1) }
-{
-    t.checked_add(1).ok_or(AllocError)
-}
-
-/// The number modulo 256^n.
-pub(crate) fn cut(v: u64, n: Size) -> u64
-    ensures { result ≡ v % 256 ^ n.bytes }
-{
-    match 256u64.checked_pow(u32::from(n.bytes)) {
-        Some(m) => v % m,
-        None => v,
-    }
 }
 
 /// The greatest number of `n` bytes, at most 8.

@@ -1,11 +1,14 @@
 use Rattle.std.proofs.Common.{◌≡◌, List, map, refl, ap, ◌∙◌}
 use Rattle.std.specs.Prelude.{slice_get}
 use Rattle.sl_build.proofs.StandLemmas.{all_flat}
+use Rattle.sl_build.proofs.TemplateLemmas.{templates_there}
+use Rattle.sl_build.specs.Views.{templates_of}
 use Rattle.sl_flat_sections.specs.FlatSections.{sections_by}
 use Rattle.sl_flat_sections.specs.Views.{scopes_view}
 use Rattle.sl_instruction.specs.Instructions.{is_unimpl}
 use Rattle.sl_instruction.specs.Operands.{given_by}
 use Rattle.sl_resolve.specs.declared.reach.Reach.{Reach}
+use Rattle.sl_sizing.specs.Sizings.{lists_of}
 use Rattle.sl_spec.specs.Unfolded.{all_placed}
 use Rattle.sl_spec.specs.declared.unfolded.Unfolded.{Unfolded}
 use Rattle.sl_build.proofs.sections.sections_of.Goals as goal
@@ -26,4 +29,6 @@ returns c =
       marks = c.in_ok-marks.ensures ∙ ap (λ (xs : List Unfolded). map (λ u. is_unimpl u.1.section) (all_placed xs)) same;
       spaces = c.in_ok-spaces.ensures;
       default = c.in_ok-default.ensures;
+      templates = templates_there c.in_ok-default.default.0 (lists_of c.args.sizes.now) (templates_of c.in_ok-templates.templates.items) c.as_slice.result.now c.in_ok-spaces.spaces.items
+          c.as_slice-2.result.now c.in_ok-sections.sections.items c.as_slice.ensures.value c.as_slice-2.ensures.value c.in_ok-templates.ensures;
     }

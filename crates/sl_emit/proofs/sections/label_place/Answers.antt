@@ -2,12 +2,13 @@ use Rattle.std.proofs.Common.{◌≡◌, ℕ, List, [], drop, ap, sym, ◌∙◌
 use Rattle.std.proofs.Math.ListN.{drop_of_length-le}
 use Rattle.sl_emit.proofs.SectionLemmas.{scan_none}
 use Rattle.sl_emit.specs.Views.{scan}
-use Rattle.sl_section.specs.Views.{label_of, steps_of}
+use Rattle.sl_section.specs.Views.{label_of}
+use Rattle.sl_template.specs.Views.{parts_of}
 use Rattle.sl_emit.proofs.sections.label_place.Goals as goal
 
 pub returns-then-lengths-index : goal.returns-then-lengths-index
 returns-then-lengths-index c =
-    let rest = steps_of (drop c.steps.index c.args.steps.now) in
-    let none : drop c.steps.index c.args.lengths.now ≡ [] = drop_of_length-le c.args.lengths.now (omega (arith, c.if-lengths-index.true)) in
-    sym (ap (λ (ns : List ℕ). scan rest ns (label_of c.args.l) c.steps.place) none ∙ scan_none rest (label_of c.args.l) c.steps.place)
-    ∙ c.steps.invariant
+    let rest = parts_of (drop c.parts.index c.args.parts.now) in
+    let none : drop c.parts.index c.args.lengths.now ≡ [] = drop_of_length-le c.args.lengths.now (omega (arith, c.if-lengths-index.true)) in
+    sym (ap (λ (ns : List ℕ). scan rest ns (label_of c.args.l) c.parts.place) none ∙ scan_none rest (label_of c.args.l) c.parts.place)
+    ∙ c.parts.invariant

@@ -1,0 +1,21 @@
+//! Templates of sections: their operations, made once, with operands, locals and the places of
+//! labels left open.
+#![tactic(auto)]
+
+mod form;
+mod piece;
+mod puts;
+mod sizes;
+mod slot;
+mod statements;
+mod steps;
+mod symbols;
+mod terms;
+mod varnodes;
+
+pub use form::Form;
+pub use piece::{Part, Piece, Tail};
+pub use sizes::{of_address, same_size, size_of_variable, sized};
+pub use slot::{Given, Slot, slot_size};
+pub use steps::template;
+pub use varnodes::{above, all_but, amount, constant, cut, in_space, next_temp};

@@ -1,0 +1,230 @@
+//! Expressions.
+
+ghost use Rattle.std.specs.Prelude.{◌≡◌, ◌++◌, ◌∷◌, [], IfOk, OnOk};
+ghost use Rattle.sl_section.specs.Views.{chain, term_of, terms_of};
+ghost use Rattle.sl_template.specs.Pieces as p;
+ghost use Rattle.sl_template.specs.Views.{form_of, pieces_of};
+
+use crate::form::{Form, size_of, space_in};
+use crate::piece::Piece;
+use crate::puts::{bits_into, number, put, put_ordered, put_reads};
+use crate::sizes::size_of_variable;
+use crate::slot::Slot;
+use crate::symbols::{integer, symbol_into, symbol_slot};
+use crate::varnodes::next_temp;
+use sl_section::Term;
+use sl_word::{Op1, Op2, UserId};
+use std::alloc::{AllocError, Global};
+
+/// The slot that an expression has, where it is one.
+pub(crate) fn term_slot(form: &Form<'_>, t: u32, e: &Term) -> Option<Slot>
+    ensures { result ≡ p.term_slot (form_of form.now) t (term_of e.now) }
+{
+    match e {
+        Term::Number(v, x) => Some(integer(*v, size_of_variable(form.sizes, *x))),
+        Term::Sized(v, _, x) => Some(integer(*v, size_of_variable(form.sizes, *x))),
+        Term::Name(a, x) => symbol_slot(t, *a, size_of_variable(form.sizes, *x)),
+        Term::Paren(e, _) => term_slot(form, t, e),
+        Term::Kept(_, _, _) => None,
+        Term::Dropped(_, _, _) => None,
+        Term::Bits(_, _, _) => None,
+        Term::Load(_, _, _, _) => None,
+        Term::One(_, _, _) => None,
+        Term::Two(_, _, _, _, _) => None,
+        Term::User(_, _, _) => None,
+    }
+}
+
+/// Where the value of an expression is put to be read.
+pub(crate) fn temp_of(form: &Form<'_>, t: u32, e: &Term) -> Slot
+    ensures { result ≡ p.temp_of (form_of form.now) t (term_of e.now) }
+{
+    Slot::Temporary(t, size_of(form, e))
+}
+
+/// An expression is put into a varnode.
+pub(crate) fn term_into(
+    alloc: Global,
+    form: &Form<'_>,
+    out: &mut Vec<Piece>,
+    t: u32,
+    e: &Term,
+    to: Slot,
+) -> Result<(), AllocError>
+    ensures { OnOk result (pieces_of out.new.items ≡ pieces_of out.old.items
+        ++ p.term_into (form_of form.now) t (term_of e.now) to) }
+{
+    match e {
+        Term::Number(v, x) => {
+            let v = integer(*v, size_of_variable(form.sizes, *x));
+            put(out, Piece::Unary(Op1::Copy, to, v))
+        }
+        Term::Sized(v, _, x) => {
+            let v = integer(*v, size_of_variable(form.sizes, *x));
+            put(out, Piece::Unary(Op1::Copy, to, v))
+        }
+        Term::Name(a, _) => symbol_into(out, t, *a, to),
+        Term::Paren(e, _) => term_into(alloc, form, out, t, e, to),
+        Term::Kept(e, _, _) => match term_slot(form, t, e) {
+            Some(a) => {
+                put_reads(out, a)?;
+                put(out, Piece::Binary(Op2::Subpiece, to, a, number(0)))
+            }
+            None => {
+                let a = temp_of(form, t, e);
+                term_into(alloc, form, out, t, e, a)?;
+                put(out, Piece::Binary(Op2::Subpiece, to, a, number(0)))
+            }
+        },
+        Term::Dropped(e, n, _) => match term_slot(form, t, e) {
+            Some(a) => {
+                put_reads(out, a)?;
+                put(
+                    out,
+                    Piece::Binary(Op2::Subpiece, to, a, number(u64::from(*n))),
+                )
+            }
+            None => {
+                let a = temp_of(form, t, e);
+                term_into(alloc, form, out, t, e, a)?;
+                put(
+                    out,
+                    Piece::Binary(Op2::Subpiece, to, a, number(u64::from(*n))),
+                )
+            }
+        },
+        Term::Bits(e, span, _) => match term_slot(form, t, e) {
+            Some(a) => {
+                put_reads(out, a)?;
+                bits_into(out, t, a, *span, to)
+            }
+            None => {
+                let a = temp_of(form, t, e);
+                term_into(alloc, form, out, t, e, a)?;
+                bits_into(out, t, a, *span, to)
+            }
+        },
+        Term::Load(space, _, e, _) => match term_slot(form, t, e) {
+            Some(a) => {
+                put_reads(out, a)?;
+                put(out, Piece::Load(to, space_in(form, *space), a))
+            }
+            None => {
+                let a = temp_of(form, t, e);
+                term_into(alloc, form, out, t, e, a)?;
+                put(out, Piece::Load(to, space_in(form, *space), a))
+            }
+        },
+        Term::One(op, e, _) => match term_slot(form, t, e) {
+            Some(a) => {
+                put_reads(out, a)?;
+                put(out, Piece::Unary(*op, to, a))
+            }
+            None => {
+                let a = temp_of(form, t, e);
+                term_into(alloc, form, out, t, e, a)?;
+                put(out, Piece::Unary(*op, to, a))
+            }
+        },
+        Term::Two(op, order, a, b, _) => {
+            let above = next_temp(t)?;
+            match term_slot(form, t, a) {
+                Some(va) => {
+                    put_reads(out, va)?;
+                    match term_slot(form, above, b) {
+                        Some(vb) => {
+                            put_reads(out, vb)?;
+                            put_ordered(out, *op, *order, to, va, vb)
+                        }
+                        None => {
+                            let vb = temp_of(form, above, b);
+                            term_into(alloc, form, out, above, b, vb)?;
+                            put_ordered(out, *op, *order, to, va, vb)
+                        }
+                    }
+                }
+                None => {
+                    let va = temp_of(form, t, a);
+                    term_into(alloc, form, out, t, a, va)?;
+                    match term_slot(form, above, b) {
+                        Some(vb) => {
+                            put_reads(out, vb)?;
+                            put_ordered(out, *op, *order, to, va, vb)
+                        }
+                        None => {
+                            let vb = temp_of(form, above, b);
+                            term_into(alloc, form, out, above, b, vb)?;
+                            put_ordered(out, *op, *order, to, va, vb)
+                        }
+                    }
+                }
+            }
+        }
+        Term::User(op, es, _) => {
+            let es = es.as_slice();
+            let mut inputs = Vec::new(alloc);
+            let mut free = t;
+            'arguments: for index in 0..es.len() {
+                match term_slot(form, free, &es[index]) {
+                    Some(a) => {
+                        put_reads(out, a)?;
+                        inputs.push(a)?;
+                    }
+                    None => {
+                        let a = temp_of(form, free, &es[index]);
+                        term_into(alloc, form, out, free, &es[index], a)?;
+                        inputs.push(a)?;
+                    }
+                }
+                free = next_temp(free)?;
+            }
+            put(out, Piece::User(*op, inputs))
+        }
+    }
+}
+
+/// An expression is read: the pieces before, and the slot that has its value.
+pub(crate) fn term_value(
+    alloc: Global,
+    form: &Form<'_>,
+    out: &mut Vec<Piece>,
+    t: u32,
+    e: &Term,
+) -> Result<Slot, AllocError>
+    ensures code { OnOk result (pieces_of out.new.items ≡ pieces_of out.old.items
+        ++ p.term_before (form_of form.now) t (term_of e.now)) }
+    ensures value { IfOk result (λ v. v ≡ p.term_value (form_of form.now) t (term_of e.now)) }
+{
+    match term_slot(form, t, e) {
+        Some(a) => {
+            put_reads(out, a)?;
+            Ok(a)
+        }
+        None => {
+            let a = temp_of(form, t, e);
+            term_into(alloc, form, out, t, e, a)?;
+            Ok(a)
+        }
+    }
+}
+
+/// A user operation, behind the pieces of its arguments.
+pub(crate) fn user_call(
+    alloc: Global,
+    form: &Form<'_>,
+    out: &mut Vec<Piece>,
+    op: UserId,
+    es: &[Term],
+) -> Result<(), AllocError>
+    ensures { OnOk result (pieces_of out.new.items ≡ pieces_of out.old.items
+        ++ p.user_pieces (form_of form.now) op.0 (chain (terms_of es.now))) }
+{
+    let mut inputs = Vec::new(alloc);
+    let mut free: u32 = 0;
+    'arguments: for index in 0..es.len() {
+        let a = term_value(alloc, form, out, free, &es[index])?;
+        inputs.push(a)?;
+        free = next_temp(free)?;
+    }
+    put(out, Piece::User(op, inputs))
+}
