@@ -26,10 +26,6 @@ use Rattle.sl_word.specs.declared.word.Size.{Size}
 abbrev pub form : Setting → Frame → Form
 form g f = record { sizes = g.sizes; default = g.default; size = f.size }
 
-leaf_size : (o : Option Varnode) (v : Varnode) (n : Size) → v.size ≡ n → ((w : Varnode) → o ≡ Some w → w.size ≡ n) → (operand o v).size ≡ n
-leaf_size None v n e h = e
-leaf_size (Some w) v n e h = h w refl
-
 module _ (top : ℕ) where
   below_size : (b : Bool) (w : Varnode) (t : ℕ) (n : Size) → w.size ≡ n → (operand (if b then Some w else None) (at_temp top t n)).size ≡ n
   below_size true w t n e = e

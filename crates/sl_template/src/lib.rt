@@ -15,7 +15,7 @@ mod varnodes;
 
 pub use form::Form;
 pub use piece::{Part, Piece, Tail};
-pub use sizes::{of_address, same_size, size_of_variable, sized};
+pub use sizes::{of_address, sized};
 pub use slot::{Given, Slot, slot_size};
 pub use steps::template;
-pub use varnodes::{above, all_but, amount, constant, cut, in_space, next_temp};
+pub use varnodes::{above, all_but, amount, constant, cut, in_space};

@@ -17,7 +17,7 @@ pub fn sized(n: u8) -> Size
 }
 
 /// The size, as the definitions make it of its bytes.
-pub fn same_size(n: Size) -> Size
+pub(crate) fn same_size(n: Size) -> Size
     ensures { result ≡ size_at n.bytes }
 {
     n
@@ -32,7 +32,7 @@ pub fn of_address(n: AddressSize) -> Size
 }
 
 /// The size of a variable.
-pub fn size_of_variable(sizes: &[Size], x: u32) -> Size
+pub(crate) fn size_of_variable(sizes: &[Size], x: u32) -> Size
     ensures { result ≡ size_in sizes.now x }
 {
     match sizes.get(x as usize) {

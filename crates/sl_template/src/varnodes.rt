@@ -38,7 +38,7 @@ pub fn amount(v: u64) -> Varnode
 }
 
 /// The next temporary value. 2^32 of them would be want of memory.
-pub fn next_temp(t: u32) -> Result<u32, AllocError>
+pub(crate) fn next_temp(t: u32) -> Result<u32, AllocError>
     ensures { IfOk result (λ n. n ≡ t + 1) }
 {
     t.checked_add(1).ok_or(AllocError)
