@@ -1,4 +1,5 @@
 pub mod Replacement
+pub mod Conditions
 pub mod Lines
 pub mod Places
 pub mod Blocks

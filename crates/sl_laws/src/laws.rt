@@ -1,6 +1,7 @@
 //! The laws.
 
 ghost use Rattle.sl_laws.specs.Blocks.{ActionsStandInOrder, BlocksAreTakenAway, InnermostTableIsGiven, PatternsStandInBrackets};
+ghost use Rattle.sl_laws.specs.Conditions.{MoreRoomReadsTheSame};
 ghost use Rattle.sl_laws.specs.Lines.{AllLinesAreATree, LinesHaveOneTree};
 ghost use Rattle.sl_laws.specs.Places.{BytesHaveTheirLinesPlace};
 ghost use Rattle.sl_laws.specs.Replacement.{LevelsOnlyRefuse, PiecesAreTheText, TextsWithoutNamesStay};
@@ -18,6 +19,11 @@ pub fn texts_without_names_stay()
 /// What a text is replaced by doesn't depend on how many levels are left, unless it is refused for them.
 pub fn levels_only_refuse()
     ensures { LevelsOnlyRefuse }
+{}
+
+/// The bound on the parts of a condition is none: with more room it is read as the same.
+pub fn more_room_reads_the_same()
+    ensures { MoreRoomReadsTheSame }
 {}
 
 /// Any lines of a file are a tree in which each line is what it may be.
