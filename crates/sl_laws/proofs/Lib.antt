@@ -2,4 +2,5 @@ pub mod Replacement
 pub mod Conditions
 pub mod Lines
 pub mod Places
+pub mod Origins
 pub mod Blocks

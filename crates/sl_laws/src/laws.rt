@@ -3,6 +3,7 @@
 ghost use Rattle.sl_laws.specs.Blocks.{ActionsStandInOrder, BlocksAreTakenAway, InnermostTableIsGiven, PatternsStandInBrackets};
 ghost use Rattle.sl_laws.specs.Conditions.{MoreRoomReadsTheSame};
 ghost use Rattle.sl_laws.specs.Lines.{AllLinesAreATree, LinesHaveOneTree};
+ghost use Rattle.sl_laws.specs.Origins.{BytesHaveTheirOriginsPlace, LinesHaveOrigins};
 ghost use Rattle.sl_laws.specs.Places.{BytesHaveTheirLinesPlace};
 ghost use Rattle.sl_laws.specs.Replacement.{LevelsOnlyRefuse, PiecesAreTheText, TextsWithoutNamesStay};
 
@@ -39,6 +40,17 @@ pub fn lines_have_one_tree()
 /// A byte of a text has the place of its line.
 pub fn bytes_have_their_lines_place()
     ensures { BytesHaveTheirLinesPlace }
+{}
+
+/// Each line of an expanded text is given by a line of the main file, or of a file that was included there, and has that
+/// line's place.
+pub fn lines_have_origins()
+    ensures { LinesHaveOrigins }
+{}
+
+/// The place of a byte is that of the line which gave it.
+pub fn bytes_have_their_origins_place()
+    ensures { BytesHaveTheirOriginsPlace }
 {}
 
 /// Each constructor inside blocks stands in all blocks that are round it, the outermost first.
