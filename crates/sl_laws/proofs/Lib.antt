@@ -4,3 +4,4 @@ pub mod Lines
 pub mod Places
 pub mod Origins
 pub mod Blocks
+pub mod Counting

@@ -2,6 +2,7 @@
 
 ghost use Rattle.sl_laws.specs.Blocks.{ActionsStandInOrder, BlocksAreTakenAway, InnermostTableIsGiven, PatternsStandInBrackets};
 ghost use Rattle.sl_laws.specs.Conditions.{MoreRoomReadsTheSame};
+ghost use Rattle.sl_laws.specs.Counting.{CountedNestingIsAFault, TreesKeepTheCount};
 ghost use Rattle.sl_laws.specs.Lines.{AllLinesAreATree, LinesHaveOneTree};
 ghost use Rattle.sl_laws.specs.Origins.{BytesHaveTheirOriginsPlace, LinesHaveOrigins};
 ghost use Rattle.sl_laws.specs.Places.{BytesHaveTheirLinesPlace};
@@ -71,4 +72,14 @@ pub fn actions_stand_in_order()
 /// The table in blocks is the constructor's own, else that of the innermost block that writes one.
 pub fn innermost_table_is_given()
     ensures { InnermostTableIsGiven }
+{}
+
+/// No symbol of a tree within the limits goes past one, by counting over the symbols alone.
+pub fn trees_keep_the_count()
+    ensures { TreesKeepTheCount }
+{}
+
+/// Where a symbol goes past a limit by counting and some tree goes on with it, it is a fault of nesting.
+pub fn counted_nesting_is_a_fault()
+    ensures { CountedNestingIsAFault }
 {}
