@@ -1,6 +1,6 @@
 -- The files that give an expanded text its lines.
-use Rattle.std.proofs.Common.{◌≡◌, ℕ, zero, suc, ◌+◌, ◌<◌, ◌≤◌, Bool, true, false, not, cond, List, [], ◌∷◌, ◌++◌, length, Option, Some, None, Result, Ok, Err, arith, refl, sym, ap, subst, ◌∙◌, append_assoc, append-nil}
-use Rattle.std.specs.Prelude.{IfOk, slice_get, nat_lt, if◌then◌else◌}
+use Rattle.std.proofs.Common.{◌≡◌, ℕ, zero, suc, ◌+◌, ◌<◌, Bool, true, false, not, cond, List, [], ◌∷◌, ◌++◌, length, Option, Some, None, Result, Ok, Err, arith, refl, sym, ap, subst, append_assoc, append-nil}
+use Rattle.std.specs.Prelude.{IfOk, slice_get, nat_lt}
 use Rattle.std.specs.List.{position_or_len}
 use Rattle.std.specs.Str.{bytes_eq}
 use Rattle.std.proofs.lemmas.Bool.Decides.{nat_tests}
@@ -10,11 +10,10 @@ use Rattle.sl_directive.specs.Directives.{Directive, Includes, Defines, Undefine
 use Rattle.sl_directive.specs.Lines.{lines}
 use Rattle.sl_directive.specs.Outcomes.{◌>>◌}
 use Rattle.sl_directive.specs.Replacement.{Page, Written, put, with_byte, write_text}
-use Rattle.sl_directive.specs.declared.directive.Keyword.{Keyword}
 use Rattle.sl_directive.specs.declared.fault.Cause.{Cause}
 use Rattle.sl_directive.specs.declared.fault.Cause.TheVariants.{TooLong}
 use Rattle.sl_preproc.specs.ByLines.{Step, alone, at_end, directive_step, expand_lines, line_done, line_step, text_or_directive}
-use Rattle.sl_preproc.specs.Expanded.{Text, expanded, place_at, text_of}
+use Rattle.sl_preproc.specs.Expanded.{Text, text_of}
 use Rattle.sl_preproc.specs.Expansion.{Includer, Work, checked, done_by, entered, expand_file, expansion, fetched, if_included, line_begun, nothing_yet, on_line, placed, text_line}
 use Rattle.sl_preproc.specs.Expansion as expansion
 use Rattle.sl_preproc.specs.Groups.{is_conditional, is_live, turned_by}

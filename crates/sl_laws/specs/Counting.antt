@@ -3,13 +3,12 @@ use Rattle.std.specs.Prelude.{◌≡◌, ℕ, zero, suc, nat_lt, Bool, true, fal
 use Rattle.sl_ast.specs.Spelling.{spell}
 use Rattle.sl_ast.specs.Symbols.{quoted, Sym, word, mark}
 use Rattle.sl_ast.specs.Trees.{Item}
-use Rattle.sl_ast.specs.Validity.{AreItems, heaviest, deepest}
+use Rattle.sl_ast.specs.Validity.{AreItems, AreItemsWithin, heaviest, deepest}
 use Rattle.sl_ast.specs.declared.symbols.Keyword.TheVariants as k
-use Rattle.sl_ast.specs.declared.symbols.Mark.{Mark}
 use Rattle.sl_ast.specs.declared.symbols.Mark.TheVariants as m
 use Rattle.sl_grammar.specs.Faults.{too_deep}
 use Rattle.sl_places.specs.Causes.{Causes}
-use Rattle.sl_places.specs.Forms.{BeginsATree, BeginsAnyTree}
+use Rattle.sl_places.specs.Forms.{BeginsAnyTree}
 
 -- Where a count stands among the symbols. A pattern and what follows it have true in the head of a block.
 pub data Mode : Type 0 where
@@ -192,6 +191,11 @@ pub record GoesPast (before : List Sym) (x : Sym) : Type 0 where
 -- No symbol of a tree within the limits goes past one.
 abbrev pub TreesKeepTheCount : Type 0
 TreesKeepTheCount = (items : List Item) → AreItems items → counted (spell items) ≡ Some (0, Items)
+
+-- A tree of any limits none of whose symbols goes past one is within the limits.
+abbrev pub CountedTreesAreWithin : Type 0
+CountedTreesAreWithin = (most deep : ℕ) (items : List Item) (state : State) → AreItemsWithin most deep items
+    → counted (spell items) ≡ Some state → AreItems items
 
 -- Where a symbol goes past a limit by counting and some tree goes on with it, that is its fault.
 abbrev pub CountedNestingIsAFault : Type 0

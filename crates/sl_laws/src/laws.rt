@@ -2,7 +2,7 @@
 
 ghost use Rattle.sl_laws.specs.Blocks.{ActionsStandInOrder, BlocksAreTakenAway, InnermostTableIsGiven, PatternsStandInBrackets};
 ghost use Rattle.sl_laws.specs.Conditions.{MoreRoomReadsTheSame};
-ghost use Rattle.sl_laws.specs.Counting.{CountedNestingIsAFault, TreesKeepTheCount};
+ghost use Rattle.sl_laws.specs.Counting.{CountedNestingIsAFault, CountedTreesAreWithin, TreesKeepTheCount};
 ghost use Rattle.sl_laws.specs.Lines.{AllLinesAreATree, LinesHaveOneTree};
 ghost use Rattle.sl_laws.specs.Origins.{BytesHaveTheirOriginsPlace, LinesHaveOrigins};
 ghost use Rattle.sl_laws.specs.Places.{BytesHaveTheirLinesPlace};
@@ -77,6 +77,11 @@ pub fn innermost_table_is_given()
 /// No symbol of a tree within the limits goes past one, by counting over the symbols alone.
 pub fn trees_keep_the_count()
     ensures { TreesKeepTheCount }
+{}
+
+/// A tree of any limits none of whose symbols goes past one by counting is within the limits.
+pub fn counted_trees_are_within()
+    ensures { CountedTreesAreWithin }
 {}
 
 /// Where a symbol goes past a limit by counting and some tree goes on with it, it is a fault of nesting.
