@@ -26,30 +26,30 @@ use Rattle.sl_laws.specs.Counting.{CountedNestingIsAFault, CountedTreesAreWithin
 
 -- ---- one symbol
 
-chosen : (n : ℕ) (most : ℕ) (s : State) (within : Bool) → nat_lt n most ≡ within → n < most → (if within then Some s else None) ≡ Some s
+pub chosen : (n : ℕ) (most : ℕ) (s : State) (within : Bool) → nat_lt n most ≡ within → n < most → (if within then Some s else None) ≡ Some s
 chosen n most s true e less = refl
 chosen n most s false e less = let more : most ≤ n = grind (arith, nat_tests) in absurd (omega (arith, more, less))
 
-spends : (blocks n : ℕ) (mode : ℕ → Mode) → n < heaviest → spend blocks n mode ≡ Some (blocks, mode (suc n))
+pub spends : (blocks n : ℕ) (mode : ℕ → Mode) → n < heaviest → spend blocks n mode ≡ Some (blocks, mode (suc n))
 spends blocks n mode less = chosen n heaviest (blocks, mode (suc n)) (nat_lt n heaviest) refl less
 
-stepped : (blocks next : ℕ) (mode to : Mode) (x : Sym) (xs : List Sym) → step blocks mode x ≡ Some (next, to) → counted_from blocks mode (x ∷ xs) ≡ counted_from next to xs
+pub stepped : (blocks next : ℕ) (mode to : Mode) (x : Sym) (xs : List Sym) → step blocks mode x ≡ Some (next, to) → counted_from blocks mode (x ∷ xs) ≡ counted_from next to xs
 stepped blocks next mode to x xs e = ap (λ s. going_on s (λ state. counted_from state.0 state.1 xs)) e
 
 -- ---- expressions
 
 -- what the symbols of an expression of this kind do, inside so many brackets, where so many are spent
-record Counts (blocks : ℕ) (kind : Kind) (mode : ℕ → ℕ → Mode) : Type 0 where
-  on_number : (d n i : ℕ) → step blocks (mode d n) (number i) ≡ Some (blocks, mode d n)
-  on_name : (d n : ℕ) (w : Name) → step blocks (mode d n) (name w) ≡ Some (blocks, mode d n)
-  on_open : (d n : ℕ) → step blocks (mode d n) (mark m.Open) ≡ spend blocks n (mode (suc d))
-  on_close : (d n : ℕ) → step blocks (mode (suc d) n) (mark m.Close) ≡ Some (blocks, mode d n)
-  on_binary : (d n : ℕ) (op : BinaryOp) → step blocks (mode d n) (mark (binary_mark op)) ≡ spend blocks n (mode d)
-  on_prefix : (d n : ℕ) (op : PrefixOp) → step blocks (mode d n) (mark (prefix_mark op)) ≡ spend blocks n (mode d)
-  on_colon : is_section kind ≡ true → (d n : ℕ) → step blocks (mode d n) (mark m.Colon) ≡ Some (blocks, mode d n)
-  on_comma : is_section kind ≡ true → (d n : ℕ) → step blocks (mode (suc d) n) (mark m.Comma) ≡ Some (blocks, mode (suc d) n)
-  on_bracket : is_section kind ≡ true → (d n : ℕ) → step blocks (mode d n) (mark m.OpenBracket) ≡ spend blocks n (mode (suc d))
-  on_close_bracket : is_section kind ≡ true → (d n : ℕ) → step blocks (mode (suc d) n) (mark m.CloseBracket) ≡ Some (blocks, mode d n)
+pub record Counts (blocks : ℕ) (kind : Kind) (mode : ℕ → ℕ → Mode) : Type 0 where
+  pub on_number : (d n i : ℕ) → step blocks (mode d n) (number i) ≡ Some (blocks, mode d n)
+  pub on_name : (d n : ℕ) (w : Name) → step blocks (mode d n) (name w) ≡ Some (blocks, mode d n)
+  pub on_open : (d n : ℕ) → step blocks (mode d n) (mark m.Open) ≡ spend blocks n (mode (suc d))
+  pub on_close : (d n : ℕ) → step blocks (mode (suc d) n) (mark m.Close) ≡ Some (blocks, mode d n)
+  pub on_binary : (d n : ℕ) (op : BinaryOp) → step blocks (mode d n) (mark (binary_mark op)) ≡ spend blocks n (mode d)
+  pub on_prefix : (d n : ℕ) (op : PrefixOp) → step blocks (mode d n) (mark (prefix_mark op)) ≡ spend blocks n (mode d)
+  pub on_colon : is_section kind ≡ true → (d n : ℕ) → step blocks (mode d n) (mark m.Colon) ≡ Some (blocks, mode d n)
+  pub on_comma : is_section kind ≡ true → (d n : ℕ) → step blocks (mode (suc d) n) (mark m.Comma) ≡ Some (blocks, mode (suc d) n)
+  pub on_bracket : is_section kind ≡ true → (d n : ℕ) → step blocks (mode d n) (mark m.OpenBracket) ≡ spend blocks n (mode (suc d))
+  pub on_close_bracket : is_section kind ≡ true → (d n : ℕ) → step blocks (mode (suc d) n) (mark m.CloseBracket) ≡ Some (blocks, mode d n)
 
 module _ (blocks : ℕ) (kind : Kind) (mode : ℕ → ℕ → Mode) (c : Counts blocks kind mode) where
   abbrev from : ℕ → ℕ → List Sym → Option State
@@ -238,7 +238,7 @@ section_prefix blocks d n p.Negate = refl
 section_prefix blocks d n p.Complement = refl
 section_prefix blocks d n p.Not = refl
 
-pattern_counts : (blocks : ℕ) (head : Bool) → Counts blocks in_constraint (λ d n. at.Pattern head n)
+pub pattern_counts : (blocks : ℕ) (head : Bool) → Counts blocks in_constraint (λ d n. at.Pattern head n)
 pattern_counts blocks head = record {
   on_number = λ d n i. refl;
   on_name = λ d n w. refl;
@@ -252,7 +252,7 @@ pattern_counts blocks head = record {
   on_close_bracket = λ is d n. absurd_kind is;
 }
 
-value_counts : (blocks : ℕ) (head : Bool) → Counts blocks in_action (λ d n. at.Value head n)
+pub value_counts : (blocks : ℕ) (head : Bool) → Counts blocks in_action (λ d n. at.Value head n)
 value_counts blocks head = record {
   on_number = λ d n i. refl;
   on_name = λ d n w. refl;
@@ -266,7 +266,7 @@ value_counts blocks head = record {
   on_close_bracket = λ is d n. absurd_kind is;
 }
 
-section_counts : (blocks : ℕ) → Counts blocks in_section at.Expression
+pub section_counts : (blocks : ℕ) → Counts blocks in_section at.Expression
 section_counts blocks = record {
   on_number = λ d n i. refl;
   on_name = λ d n w. refl;
@@ -286,7 +286,7 @@ module _ (blocks : ℕ) where
 
   -- ---- patterns
 
-  on_relation : (head : Bool) (n : ℕ) (rel : Relation) → step blocks (at.Pattern head n) (mark (relation_mark rel)) ≡ spend blocks n (at.Pattern head)
+  pub on_relation : (head : Bool) (n : ℕ) (rel : Relation) → step blocks (at.Pattern head n) (mark (relation_mark rel)) ≡ spend blocks n (at.Pattern head)
   on_relation head n r.Equal = refl
   on_relation head n r.NotEqual = refl
   on_relation head n r.Less = refl
@@ -294,7 +294,7 @@ module _ (blocks : ℕ) where
   on_relation head n r.Greater = refl
   on_relation head n r.GreaterEqual = refl
 
-  on_joining : (head : Bool) (n : ℕ) (op : PatternOp) → step blocks (at.Pattern head n) (mark (pattern_mark op)) ≡ spend blocks n (at.Pattern head)
+  pub on_joining : (head : Bool) (n : ℕ) (op : PatternOp) → step blocks (at.Pattern head n) (mark (pattern_mark op)) ≡ spend blocks n (at.Pattern head)
   on_joining head n j.And = refl
   on_joining head n j.Then = refl
   on_joining head n j.Or = refl
@@ -304,7 +304,7 @@ module _ (blocks : ℕ) where
         → run (at.Pattern head n) (x ∷ xs) ≡ run (at.Pattern head (suc n)) xs
     pattern_more n x xs is less = stepped blocks blocks (at.Pattern head n) (at.Pattern head (suc n)) x xs (is ∙ spends blocks n (at.Pattern head) less)
 
-    counts_pattern : (q : Pattern) (n l : ℕ) (xs : List Sym) → PatternBinds q → l ≡ n + pattern_weight q → l ≤ heaviest
+    pub counts_pattern : (q : Pattern) (n l : ℕ) (xs : List Sym) → PatternBinds q → l ≡ n + pattern_weight q → l ≤ heaviest
         → run (at.Pattern head n) (spell_pattern q xs) ≡ run (at.Pattern head l) xs
     counts_pattern (bare w) n l xs good e le = let same : n ≡ l = omega (arith, e) in ap (λ i. run (at.Pattern head i) xs) same
     counts_pattern (constraint w rel x) n l xs good e le =
@@ -322,24 +322,24 @@ module _ (blocks : ℕ) where
 
     -- ---- actions
 
-    counts_action : (action : Action) (xs : List Sym) → IsAction heaviest action → run (at.Actions head) (spell_action action xs) ≡ run (at.Actions head) xs
+    pub counts_action : (action : Action) (xs : List Sym) → IsAction heaviest action → run (at.Actions head) (spell_action action xs) ≡ run (at.Actions head) xs
     counts_action (set w x) xs good =
         counts blocks in_action (λ d n. at.Value head n) (value_counts blocks head) x 0 0 (weight x) (mark m.Semicolon ∷ xs) good.0 (omega arith) good.1
     counts_action (global_set (by_name v) w) xs good = refl
     counts_action (global_set (by_integer i) w) xs good = refl
 
-    counts_actions : (actions : List Action) (xs : List Sym) → Each (IsAction heaviest) actions
+    pub counts_actions : (actions : List Action) (xs : List Sym) → Each (IsAction heaviest) actions
         → run (at.Actions head) (spell_all spell_action actions xs) ≡ run (at.Actions head) xs
     counts_actions [] xs good = refl
     counts_actions (action ∷ actions) xs good = counts_action action (spell_all spell_action actions xs) good.0 ∙ counts_actions actions xs good.1
 
   -- ---- expressions of statements
 
-  counts_here : (x : Expression) (xs : List Sym) → IsExpression heaviest in_section x → run (at.Expression 0 0) (spell_expression x xs) ≡ run (at.Expression 0 (weight x)) xs
+  pub counts_here : (x : Expression) (xs : List Sym) → IsExpression heaviest in_section x → run (at.Expression 0 0) (spell_expression x xs) ≡ run (at.Expression 0 (weight x)) xs
   counts_here x xs good = counts blocks in_section at.Expression (section_counts blocks) x 0 0 (weight x) xs good.0 (omega arith) good.1
 
   -- behind the star of a statement an expression begins
-  begins_here : (x : Expression) (xs : List Sym) → run at.Star (spell_expression x xs) ≡ run (at.Expression 0 0) (spell_expression x xs)
+  pub begins_here : (x : Expression) (xs : List Sym) → run at.Star (spell_expression x xs) ≡ run (at.Expression 0 0) (spell_expression x xs)
   begins_here (integer i) xs = refl
   begins_here (named w) xs = refl
   begins_here (paren x) xs = refl
@@ -361,10 +361,10 @@ module _ (blocks : ℕ) where
   star_by None size xs = size_of_star size xs
   star_by (Some w) size xs = size_of_star size xs
 
-  counts_star : (form : StarForm) (xs : List Sym) → run at.Statement (spell_star form xs) ≡ run at.Star xs
+  pub counts_star : (form : StarForm) (xs : List Sym) → run at.Statement (spell_star form xs) ≡ run at.Star xs
   counts_star form xs = star_by form.space form.size xs
 
-  size_written : (size : Option ℕ) (xs : List Sym) → run at.Statement (spell_option spell_size size xs) ≡ run at.Statement xs
+  pub size_written : (size : Option ℕ) (xs : List Sym) → run at.Statement (spell_option spell_size size xs) ≡ run at.Statement xs
   size_written None xs = refl
   size_written (Some i) xs = refl
 
@@ -373,7 +373,7 @@ module _ (blocks : ℕ) where
   value_written None xs good = refl
   value_written (Some x) xs good = counts_here x (mark m.Semicolon ∷ xs) good
 
-  counts_direct : (to : Direct) (xs : List Sym) → run at.Jump (spell_direct to (mark m.Semicolon ∷ xs)) ≡ run at.Statement xs
+  pub counts_direct : (to : Direct) (xs : List Sym) → run at.Jump (spell_direct to (mark m.Semicolon ∷ xs)) ≡ run at.Statement xs
   counts_direct (to_label w) xs = refl
   counts_direct (to_operand (by_name w)) xs = refl
   counts_direct (to_operand (by_integer i)) xs = refl
@@ -394,7 +394,7 @@ module _ (blocks : ℕ) where
   pointer_here form (by_name w) xs = counts_star form (name w ∷ mark m.Semicolon ∷ xs)
   pointer_here form (by_integer i) xs = counts_star form (number i ∷ mark m.Semicolon ∷ xs)
 
-  counts_statement : (s : Statement) (xs : List Sym) → IsStatement heaviest s → run at.Statement (spell_statement s xs) ≡ run at.Statement xs
+  pub counts_statement : (s : Statement) (xs : List Sym) → IsStatement heaviest s → run at.Statement (spell_statement s xs) ≡ run at.Statement xs
   counts_statement (local w size value) xs good = size_written size (spell_option spell_value value (mark m.Semicolon ∷ xs)) ∙ value_written value xs good.1
   counts_statement (declare w n x) xs good = counts_here x (mark m.Semicolon ∷ xs) good.2
   counts_statement (assign (left_name w) x) xs good = counts_here x (mark m.Semicolon ∷ xs) good.1
@@ -425,7 +425,7 @@ module _ (blocks : ℕ) where
   counts_keyword k.Is xs good = absurd good
   counts_keyword keyword xs good = refl
 
-  counts_piece : (piece : Piece) (xs : List Sym) → IsPiece piece → run at.Display (spell_piece piece xs) ≡ run at.Display xs
+  pub counts_piece : (piece : Piece) (xs : List Sym) → IsPiece piece → run at.Display (spell_piece piece xs) ≡ run at.Display xs
   counts_piece (piece_word (plain w)) xs good = refl
   counts_piece (piece_word (quoted keyword)) xs good = counts_keyword keyword xs good
   counts_piece (piece_text t) xs good = refl
@@ -433,11 +433,11 @@ module _ (blocks : ℕ) where
   counts_piece (piece_caret t) xs good = refl
   counts_piece (piece_char t) xs good = refl
 
-  counts_display : (display : List Piece) (xs : List Sym) → Each IsPiece display → run at.Display (spell_all spell_piece display xs) ≡ run at.Display xs
+  pub counts_display : (display : List Piece) (xs : List Sym) → Each IsPiece display → run at.Display (spell_all spell_piece display xs) ≡ run at.Display xs
   counts_display [] xs good = refl
   counts_display (piece ∷ display) xs good = counts_piece piece (spell_all spell_piece display xs) good.0 ∙ counts_display display xs good.1
 
-  counts_section : (n : ℕ) (section : Section) (xs : List Sym) → IsSection heaviest section → run (at.Pattern false n) (spell_section section xs) ≡ run at.Items xs
+  pub counts_section : (n : ℕ) (section : Section) (xs : List Sym) → IsSection heaviest section → run (at.Pattern false n) (spell_section section xs) ≡ run at.Items xs
   counts_section n (statements body) xs good = counts_statements body xs good
   counts_section n unimplemented xs good = refl
 
@@ -446,11 +446,11 @@ module _ (blocks : ℕ) where
   behind_pattern n None section xs acts good = counts_section n section xs good
   behind_pattern n (Some actions) section xs acts good = counts_actions false actions (mark m.CloseBracket ∷ spell_section section xs) acts ∙ counts_section 0 section xs good
 
-  table_first : (table : Option Name) (xs : List Sym) → run at.Items (spell_option spell_name table xs) ≡ run at.Items xs
+  pub table_first : (table : Option Name) (xs : List Sym) → run at.Items (spell_option spell_name table xs) ≡ run at.Items xs
   table_first None xs = refl
   table_first (Some w) xs = refl
 
-  counts_constructor : (c : Constructor) (xs : List Sym) → IsConstructor heaviest c → run at.Items (spell_constructor c xs) ≡ run at.Items xs
+  pub counts_constructor : (c : Constructor) (xs : List Sym) → IsConstructor heaviest c → run at.Items (spell_constructor c xs) ≡ run at.Items xs
   counts_constructor c xs good =
       let behind = spell_option spell_actions c.actions (spell_section c.section xs) in
       let shown = word (quoted k.Is) ∷ spell_pattern c.pattern behind in
@@ -460,7 +460,7 @@ module _ (blocks : ℕ) where
 
   -- ---- heads of blocks
 
-  head_table : (table : Option Name) (xs : List Sym) → run at.Head (spell_option spell_name table xs) ≡ run at.Head xs
+  pub head_table : (table : Option Name) (xs : List Sym) → run at.Head (spell_option spell_name table xs) ≡ run at.Head xs
   head_table None xs = refl
   head_table (Some w) xs = refl
 
@@ -474,7 +474,7 @@ module _ (blocks : ℕ) where
   head_pattern None actions xs good acts = head_actions 0 actions xs acts
   head_pattern (Some q) actions xs good acts = counts_pattern true q 0 (pattern_weight q) (spell_option spell_actions actions (mark m.OpenBrace ∷ xs)) good.0 (omega arith) good.1 ∙ head_actions (pattern_weight q) actions xs acts
 
-  counts_head : (h : Head) (xs : List Sym) → IsHead heaviest h
+  pub counts_head : (h : Head) (xs : List Sym) → IsHead heaviest h
       → run at.Head (spell_option spell_name h.table (mark m.Colon ∷ spell_option spell_pattern h.pattern (spell_option spell_actions h.actions (mark m.OpenBrace ∷ xs)))) ≡ run at.Items xs
   counts_head h xs good = head_table h.table (mark m.Colon ∷ spell_option spell_pattern h.pattern (spell_option spell_actions h.actions (mark m.OpenBrace ∷ xs))) ∙ head_pattern h.pattern h.actions xs good.pattern good.actions
 
@@ -485,7 +485,7 @@ module _ (blocks : ℕ) where
   each_of spell_one one_is [] xs = refl
   each_of spell_one one_is (y ∷ ys) xs = one_is y (spell_all spell_one ys xs) ∙ each_of spell_one one_is ys xs
 
-  counts_names : (names : Names) (xs : List Sym) → run at.Definition (spell_names names xs) ≡ run at.Definition xs
+  pub counts_names : (names : Names) (xs : List Sym) → run at.Definition (spell_names names xs) ≡ run at.Definition xs
   counts_names (one w) xs = refl
   counts_names (several ws) xs = each_of spell_name (λ w ys. refl) ws (mark m.CloseBracket ∷ xs)
 
@@ -502,7 +502,7 @@ module _ (blocks : ℕ) where
   counts_order None xs = refl
   counts_order (Some order) xs = refl
 
-  counts_definition : (d : Definition) (xs : List Sym) → run at.Definition (spell_definition d xs) ≡ run at.Definition xs
+  pub counts_definition : (d : Definition) (xs : List Sym) → run at.Definition (spell_definition d xs) ≡ run at.Definition xs
   counts_definition (endian order) xs = refl
   counts_definition (alignment n) xs = refl
   counts_definition (space w attributes) xs = each_of spell_space_attribute counts_attribute attributes xs
@@ -522,20 +522,20 @@ module _ (blocks : ℕ) where
   counts_more_names [] xs = refl
   counts_more_names (w ∷ ws) xs = counts_more_names ws xs
 
-  counts_parameters : (ws : List Name) (xs : List Sym) → run at.Parameters (spell_separated spell_name ws xs) ≡ run at.Parameters xs
+  pub counts_parameters : (ws : List Name) (xs : List Sym) → run at.Parameters (spell_separated spell_name ws xs) ≡ run at.Parameters xs
   counts_parameters [] xs = refl
   counts_parameters (w ∷ ws) xs = counts_more_names ws xs
 
 -- ---- blocks
 
-enters : (blocks : ℕ) (h : Head) (xs : List Sym) → blocks < suc deepest → IsHead heaviest h → counted_from blocks at.Items (spell_head h xs) ≡ counted_from (suc blocks) at.Items xs
+pub enters : (blocks : ℕ) (h : Head) (xs : List Sym) → blocks < suc deepest → IsHead heaviest h → counted_from blocks at.Items (spell_head h xs) ≡ counted_from (suc blocks) at.Items xs
 enters blocks h xs less good =
     stepped blocks (suc blocks) at.Items at.Head (word (quoted k.With))
     (spell_option spell_name h.table (mark m.Colon ∷ spell_option spell_pattern h.pattern (spell_option spell_actions h.actions (mark m.OpenBrace ∷ xs))))
     (chosen blocks (suc deepest) (suc blocks, at.Head) (nat_lt blocks (suc deepest)) refl less)
     ∙ counts_head (suc blocks) h xs good
 
-counts_inside : (inside : Inside) (blocks deep : ℕ) (xs : List Sym) → IsInside heaviest deep inside → blocks + deep ≤ suc deepest
+pub counts_inside : (inside : Inside) (blocks deep : ℕ) (xs : List Sym) → IsInside heaviest deep inside → blocks + deep ≤ suc deepest
     → counted_from blocks at.Items (spell_inside inside xs) ≡ counted_from blocks at.Items xs
 counts_inside nothing blocks deep xs good le = refl
 counts_inside (constructor_then c more) blocks deep xs good le = counts_constructor blocks c (spell_inside more xs) good.0 ∙ counts_inside more blocks deep xs good.1 le
@@ -546,7 +546,7 @@ counts_inside (block_then h inside more) blocks (suc deep) xs good le =
 
 -- ---- items
 
-counts_item : (item : Item) (xs : List Sym) → IsItem heaviest deepest item → counted_from 0 at.Items (spell_item item xs) ≡ counted_from 0 at.Items xs
+pub counts_item : (item : Item) (xs : List Sym) → IsItem heaviest deepest item → counted_from 0 at.Items (spell_item item xs) ≡ counted_from 0 at.Items xs
 counts_item (define d) xs good = counts_definition 0 d (mark m.Semicolon ∷ xs)
 counts_item (attach_list kind names members) xs good = counts_names 0 names (mark m.OpenBracket ∷ spell_all spell_member members (mark m.CloseBracket ∷ mark m.Semicolon ∷ xs)) ∙ each_of 0 spell_member (counts_member 0) members (mark m.CloseBracket ∷ mark m.Semicolon ∷ xs)
 counts_item (attach_one kind names member) xs good = counts_names 0 names (spell_member member (mark m.Semicolon ∷ xs)) ∙ counts_member 0 member (mark m.Semicolon ∷ xs)
@@ -566,7 +566,7 @@ over_by None xs ys go h = refl
 over_by (Some s) xs ys go h = h s
 
 -- some symbols and then others
-over : (blocks : ℕ) (mode : Mode) (xs ys : List Sym) → counted_from blocks mode (xs ++ ys) ≡ going_on (counted_from blocks mode xs) (λ t. counted_from t.0 t.1 ys)
+pub over : (blocks : ℕ) (mode : Mode) (xs ys : List Sym) → counted_from blocks mode (xs ++ ys) ≡ going_on (counted_from blocks mode xs) (λ t. counted_from t.0 t.1 ys)
 over blocks mode [] ys = refl
 over blocks mode (x ∷ xs) ys = over_by (step blocks mode x) xs ys (λ state. counted_from state.0 state.1 (xs ++ ys)) (λ state. over state.0 state.1 xs ys)
 
@@ -591,7 +591,7 @@ let_through n most s t true e h = let less : n < most = grind (arith, nat_tests)
 let_through n most s t false e h = absurd (cc)
 
 -- a state behind a symbol, where there is one behind what follows
-some_behind : (s : Option State) (go : State → Option State) (t : State) → going_on s go ≡ Some t → (u : State) × (s ≡ Some u)
+pub some_behind : (s : Option State) (go : State → Option State) (t : State) → going_on s go ≡ Some t → (u : State) × (s ≡ Some u)
 some_behind None go t h = absurd (cc)
 some_behind (Some u) go t h = (u, refl)
 

@@ -5,3 +5,5 @@ pub mod Places
 pub mod Origins
 pub mod Blocks
 pub mod Counting
+pub mod Rooms
+pub mod Past

@@ -8,7 +8,7 @@ use Rattle.sl_ast.specs.declared.symbols.Keyword.TheVariants as k
 use Rattle.sl_ast.specs.declared.symbols.Mark.TheVariants as m
 use Rattle.sl_grammar.specs.Faults.{too_deep}
 use Rattle.sl_places.specs.Causes.{Causes}
-use Rattle.sl_places.specs.Forms.{BeginsAnyTree}
+use Rattle.sl_places.specs.Forms.{BeginsATree, BeginsAnyTree}
 
 -- Where a count stands among the symbols. A pattern and what follows it have true in the head of a block.
 pub data Mode : Type 0 where
@@ -201,3 +201,9 @@ CountedTreesAreWithin = (most deep : ℕ) (items : List Item) (state : State) �
 abbrev pub CountedNestingIsAFault : Type 0
 CountedNestingIsAFault = (before after : List Sym) (x : Sym) → GoesPast before x → BeginsAnyTree (before ++ x ∷ [])
     → Causes before too_deep (x ∷ after)
+
+-- Where trees go on with a symbol, but none within the limits, and one goes on with those before it: there the symbol goes
+-- past a limit by counting.
+abbrev pub NestingIsCounted : Type 0
+NestingIsCounted = (before : List Sym) (x : Sym) → BeginsATree before → BeginsAnyTree (before ++ x ∷ [])
+    → (BeginsATree (before ++ x ∷ []) → ⊥) → GoesPast before x

@@ -2,7 +2,7 @@
 
 ghost use Rattle.sl_laws.specs.Blocks.{ActionsStandInOrder, BlocksAreTakenAway, InnermostTableIsGiven, PatternsStandInBrackets};
 ghost use Rattle.sl_laws.specs.Conditions.{MoreRoomReadsTheSame};
-ghost use Rattle.sl_laws.specs.Counting.{CountedNestingIsAFault, CountedTreesAreWithin, TreesKeepTheCount};
+ghost use Rattle.sl_laws.specs.Counting.{CountedNestingIsAFault, CountedTreesAreWithin, NestingIsCounted, TreesKeepTheCount};
 ghost use Rattle.sl_laws.specs.Lines.{AllLinesAreATree, LinesHaveOneTree};
 ghost use Rattle.sl_laws.specs.Origins.{BytesHaveTheirOriginsPlace, LinesHaveOrigins};
 ghost use Rattle.sl_laws.specs.Places.{BytesHaveTheirLinesPlace};
@@ -87,4 +87,9 @@ pub fn counted_trees_are_within()
 /// Where a symbol goes past a limit by counting and some tree goes on with it, it is a fault of nesting.
 pub fn counted_nesting_is_a_fault()
     ensures { CountedNestingIsAFault }
+{}
+
+/// Where trees go on with a symbol, but none within the limits, it goes past one by counting, if it is the first such symbol.
+pub fn nesting_is_counted()
+    ensures { NestingIsCounted }
 {}
