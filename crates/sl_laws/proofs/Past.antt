@@ -1,21 +1,21 @@
 -- Where the reader of specifications ends at a limit, the count goes past one.
-use Rattle.std.proofs.Common.{◌≡◌, ℕ, zero, suc, ◌+◌, ◌<◌, ◌≤◌, ◌⊎◌, inl, inr, Bool, true, false, cond, nat_le, List, [], ◌∷◌, ◌++◌, drop, length, Option, None, Some, Ok, Err, Result, arith, refl, ap, sym, ◌∙◌, subst, append_assoc, append-nil, length-append}
+use Rattle.std.proofs.Common.{◌≡◌, ℕ, zero, suc, ◌+◌, ◌<◌, ◌≤◌, ◌⊎◌, inl, inr, Bool, true, false, cond, List, [], ◌∷◌, ◌++◌, drop, length, Option, None, Some, Ok, Err, Result, arith, refl, ap, sym, ◌∙◌, subst, append_assoc, append-nil}
 use Rattle.std.specs.Prelude.{nat_lt}
-use Rattle.sl_ast.specs.Operators.{Kind, in_section, in_action, missing_function, missing_statement}
-use Rattle.sl_ast.specs.Spelling.{name, keyword, spell, spell_all, spell_option, spell_name, spell_separated, spell_size, spell_star, spell_statement, spell_action, spell_actions, spell_pattern, spell_piece, spell_constructor, spell_head, spell_inside, spell_item, spell_expression}
-use Rattle.sl_ast.specs.Symbols.{plain, quoted, Sym, number, word, text, mark, blank, caret, char}
-use Rattle.sl_ast.specs.Trees.{Name, Expression, Pattern, Action, Statement, Piece, StarForm, Constructor, Head, Inside, nothing, Item}
-use Rattle.sl_ast.specs.Validity.{AreItems, AreItemsWithin, Each, IfWritten, IsAction, IsConstructor, IsExpression, IsHead, IsInside, IsItem, IsPattern, IsPiece, IsStatement, deepest, heaviest, pattern_weight, weight}
+use Rattle.sl_ast.specs.Operators.{in_section, in_action, missing_function, missing_statement}
+use Rattle.sl_ast.specs.Spelling.{name, keyword, spell_option, spell_actions, spell_pattern, spell_inside}
+use Rattle.sl_ast.specs.Symbols.{plain, quoted, Sym, number, word, mark}
+use Rattle.sl_ast.specs.Trees.{Name, Expression, Pattern, Action, Head, Inside, nothing, Item}
+use Rattle.sl_ast.specs.Validity.{AreItemsWithin, Each, IfWritten, IsAction, IsPattern, deepest, heaviest, pattern_weight, weight}
 use Rattle.sl_ast.specs.declared.symbols.Feature.{Feature}
 use Rattle.sl_ast.specs.declared.symbols.Keyword.{Keyword}
 use Rattle.sl_ast.specs.declared.symbols.Keyword.TheVariants as kw
 use Rattle.sl_ast.specs.declared.symbols.Mark.{Mark}
 use Rattle.sl_ast.specs.declared.symbols.Mark.TheVariants as m
-use Rattle.sl_grammar.specs.Expressions.{whole, expression, tight, postfix, atom, with_room}
+use Rattle.sl_grammar.specs.Expressions.{whole, expression, tight, postfix, atom}
 use Rattle.sl_grammar.specs.Items.{is_name, is_shown, piece, is_pattern, inside_by, inside_from, inside, is_there, value_of, section_by, section, constructor_here, head, block_at, macro_here, item_by, item, specification_within, specification}
 use Rattle.sl_grammar.specs.Lists.{many_from, many, separated_from, listed}
 use Rattle.sl_grammar.specs.Patterns.{whole_pattern}
-use Rattle.sl_grammar.specs.Reader.{Form, nesting, syntax, Fault, fault, Input, at, left, first, Outcome, Reader, and_then, ◌>>=◌, ◌>>◌, pure, skip, look, is_mark, same_mark, expect, expect_keyword, integer_here, name_here, size_here, optional, size_option}
+use Rattle.sl_grammar.specs.Reader.{Form, nesting, syntax, Fault, fault, Input, at, left, first, Outcome, Reader, and_then, ◌>>=◌, ◌>>◌, pure, skip, is_mark, expect, expect_keyword, integer_here, name_here, size_here, optional, size_option}
 use Rattle.sl_grammar.specs.Statements.{star_form, until, value_here, computed_here, dest_by, dest, target_by, target, local_here, goto_here, branch_here, call_here, return_here, star_here, declare_here, assign_here, bits_here, invoke_here, invoke_by, named_by, begun_by, statement_by, statement, body, set_here, action_by, action, actions}
 use Rattle.sl_grammar.proofs.BodyRules.{action_rule, actions_rule}
 use Rattle.sl_grammar.proofs.ConstructorRules.{display_rule, table_rule, constructor_ok, head_ok}
@@ -26,13 +26,14 @@ use Rattle.sl_grammar.proofs.Taken.{expect_ok, expect_keyword_ok, first_is, inte
 use Rattle.sl_grammar.proofs.Faults.{none_begins_within, sound}
 use Rattle.sl_grammar.proofs.ItemRules.{block_ok, item_ok, parameters_ok}
 use Rattle.sl_places.specs.Forms.{BeginsATree, BeginsAnyTree}
+use Rattle.sl_places.specs.Causes.{limit}
 use Rattle.sl_places.specs.Laws.{IsNesting}
 use Rattle.sl_places.proofs.Begins.{begins_up_to}
 use Rattle.sl_places.proofs.Wider.{wider_items}
 use Rattle.sl_places.proofs.RaisedParts.{wider_whole, wider_whole_pattern}
 use Rattle.sl_laws.specs.Counting as mode
-use Rattle.sl_laws.specs.Counting.{NestingIsCounted, Mode, State, counted, counted_from, going_on, step}
-use Rattle.sl_laws.proofs.Counting.{chosen, counts_inside, counts_item, counts_parameters, enters, head_table, over, some_behind, trees_keep, begins_here, counts_action, counts_actions, counts_constructor, counts_display, counts_here, counts_pattern, counts_star, counts_statement, pattern_counts, section_counts, size_written, stepped, table_first, value_counts}
+use Rattle.sl_laws.specs.Counting.{GoesPast, NestingIsCounted, Mode, State, counted, counted_from, going_on, step}
+use Rattle.sl_laws.proofs.Counting.{chosen, counts_inside, counts_item, counts_parameters, enters, head_table, over, some_behind, trees_keep, begins_here, counts_action, counts_actions, counts_constructor, counts_display, counts_here, counts_pattern, counts_star, counts_statement, section_counts, size_written, stepped, table_first, value_counts}
 use Rattle.sl_laws.proofs.Rooms.{whole_past, whole_pattern_past}
 
 -- ---- two readings, of which the first has less room
@@ -67,8 +68,10 @@ module _ (blocks : ℕ) where
   past_same mode p = record { past = λ i. inl refl }
 
   past_then : {A B : Type 0} (from : Mode) (next : A → Mode) {p q : Reader A} {go to : A → Reader B} → Past from p q → Moves from next p → ((a : A) → Past (next a) (go a) (to a)) → Past from (p >>= go) (q >>= to)
-  past_then from next {p = p} {q = q} {go = go} {to = to} here move later = record { past = λ i.
-      then_past (run from i.rest) (p i) (q i) go to (here.past i) (λ a j e. carried (run from i.rest) (run (next a) j.rest) (move.moves i j a e) ((later a).past j)) }
+  past_then from next {p = p} {q = q} {go = go} {to = to} here move later = record {
+    past = λ i.
+        then_past (run from i.rest) (p i) (q i) go to (here.past i) (λ a j e. carried (run from i.rest) (run (next a) j.rest) (move.moves i j a e) ((later a).past j));
+  }
 
   -- behind a reader without a limit
   past_behind : {A B : Type 0} (from : Mode) (next : A → Mode) (p : Reader A) {go to : A → Reader B} → Moves from next p → ((a : A) → Past (next a) (go a) (to a)) → Past from (p >>= go) (p >>= to)
@@ -125,12 +128,16 @@ module _ (blocks : ℕ) where
   moves_star = record { moves = λ i j form e. ap (λ xs. run mode.Statement xs) (star_rule.sound i j form e).tokens ∙ counts_star blocks form j.rest }
 
   moves_whole : Moves (mode.Expression 0 0) (λ x. mode.Expression 0 (weight x)) (whole heaviest in_section)
-  moves_whole = record { moves = λ i j x e. let took = whole_takes heaviest in_section i j x e in
-      ap (λ xs. run (mode.Expression 0 0) xs) took.tokens ∙ counts_here blocks x j.rest took.good }
+  moves_whole = record {
+    moves = λ i j x e. let took = whole_takes heaviest in_section i j x e in
+        ap (λ xs. run (mode.Expression 0 0) xs) took.tokens ∙ counts_here blocks x j.rest took.good;
+  }
 
   moves_statement : Moves mode.Statement (λ _. mode.Statement) (statement heaviest)
-  moves_statement = record { moves = λ i j s e. let took = (statement_rule heaviest).sound i j s e in
-      ap (λ xs. run mode.Statement xs) took.tokens ∙ counts_statement blocks s j.rest took.good }
+  moves_statement = record {
+    moves = λ i j s e. let took = (statement_rule heaviest).sound i j s e in
+        ap (λ xs. run mode.Statement xs) took.tokens ∙ counts_statement blocks s j.rest took.good;
+  }
 
   module _ (more : ℕ) where
     by_limit : {A : Type 0} (start : Option State) (o x : Outcome A) → IsNesting o ⊎ (o ≡ x) → (IsNesting o → start ≡ None) → (o ≡ x) ⊎ (start ≡ None)
@@ -138,17 +145,23 @@ module _ (blocks : ℕ) where
     by_limit start o x (inr e) f = inl e
 
     past_whole : Past (mode.Expression 0 0) (whole heaviest in_section) (whole (more + heaviest) in_section)
-    past_whole = record { past = λ i.
-        by_limit (run (mode.Expression 0 0) i.rest) (whole heaviest in_section i) (whole (more + heaviest) in_section i) ((wider_whole more heaviest in_section).wide i) (whole_past blocks mode.Expression in_section (section_counts blocks) i) }
+    past_whole = record {
+      past = λ i.
+          by_limit (run (mode.Expression 0 0) i.rest) (whole heaviest in_section i) (whole (more + heaviest) in_section i) ((wider_whole more heaviest in_section).wide i) (whole_past blocks mode.Expression in_section (section_counts blocks) i);
+    }
 
     past_action_value : (in_head : Bool) → Past (mode.Value in_head 0) (whole heaviest in_action) (whole (more + heaviest) in_action)
-    past_action_value in_head = record { past = λ i.
-        by_limit (run (mode.Value in_head 0) i.rest) (whole heaviest in_action i) (whole (more + heaviest) in_action i) ((wider_whole more heaviest in_action).wide i)
-        (whole_past blocks (λ d n. mode.Value in_head n) in_action (value_counts blocks in_head) i) }
+    past_action_value in_head = record {
+      past = λ i.
+          by_limit (run (mode.Value in_head 0) i.rest) (whole heaviest in_action i) (whole (more + heaviest) in_action i) ((wider_whole more heaviest in_action).wide i)
+          (whole_past blocks (λ d n. mode.Value in_head n) in_action (value_counts blocks in_head) i);
+    }
 
     past_pattern : (in_head : Bool) → Past (mode.Pattern in_head 0) (whole_pattern heaviest) (whole_pattern (more + heaviest))
-    past_pattern in_head = record { past = λ i.
-        by_limit (run (mode.Pattern in_head 0) i.rest) (whole_pattern heaviest i) (whole_pattern (more + heaviest) i) ((wider_whole_pattern more heaviest).wide i) (whole_pattern_past blocks in_head i) }
+    past_pattern in_head = record {
+      past = λ i.
+          by_limit (run (mode.Pattern in_head 0) i.rest) (whole_pattern heaviest i) (whole_pattern (more + heaviest) i) ((wider_whole_pattern more heaviest).wide i) (whole_pattern_past blocks in_head i);
+    }
 
     -- the pointer of a star form on the left
     syntax_only : {A : Type 0} → syntax ≡ nesting → A
@@ -162,8 +175,10 @@ module _ (blocks : ℕ) where
     pointer_past (x ∷ xs) r h = whole_past blocks mode.Expression in_section (section_counts blocks) (at (x ∷ xs) r) h
 
     past_pointer : Past mode.Star (whole heaviest in_section) (whole (more + heaviest) in_section)
-    past_pointer = record { past = λ i.
-        by_limit (run mode.Star i.rest) (whole heaviest in_section i) (whole (more + heaviest) in_section i) ((wider_whole more heaviest in_section).wide i) (pointer_past i.rest i.room) }
+    past_pointer = record {
+      past = λ i.
+          by_limit (run mode.Star i.rest) (whole heaviest in_section i) (whole (more + heaviest) in_section i) ((wider_whole more heaviest in_section).wide i) (pointer_past i.rest i.room);
+    }
 
     -- ---- statements
 
@@ -209,8 +224,10 @@ module _ (blocks : ℕ) where
     return_past = past_behind mode.Statement (λ _. mode.Jump) (expect_keyword kw.Return) (moves_keyword kw.Return mode.Statement mode.Jump refl) (λ _. past_before mode.Jump _ past_computed)
 
     moves_pointer : Moves mode.Star (λ x. mode.Expression 0 (weight x)) (whole heaviest in_section)
-    moves_pointer = record { moves = λ i j x e. let took = whole_takes heaviest in_section i j x e in
-        ap (λ xs. run mode.Star xs) took.tokens ∙ begins_here blocks x j.rest ∙ counts_here blocks x j.rest took.good }
+    moves_pointer = record {
+      moves = λ i j x e. let took = whole_takes heaviest in_section i j x e in
+          ap (λ xs. run mode.Star xs) took.tokens ∙ begins_here blocks x j.rest ∙ counts_here blocks x j.rest took.good;
+    }
 
     star_past : Past mode.Statement (star_here heaviest) (star_here (more + heaviest))
     unfolding star_here
@@ -323,8 +340,10 @@ module _ (blocks : ℕ) where
       action_by_past o = set_past
 
       moves_action : Moves (mode.Actions in_head) (λ _. mode.Actions in_head) (action heaviest)
-      moves_action = record { moves = λ i j x e. let took = (action_rule heaviest).sound i j x e in
-          ap (λ xs. run (mode.Actions in_head) xs) took.tokens ∙ counts_action blocks in_head x j.rest took.good }
+      moves_action = record {
+        moves = λ i j x e. let took = (action_rule heaviest).sound i j x e in
+            ap (λ xs. run (mode.Actions in_head) xs) took.tokens ∙ counts_action blocks in_head x j.rest took.good;
+      }
 
       action_past : Past (mode.Actions in_head) (action heaviest) (action (more + heaviest))
       unfolding action
@@ -340,8 +359,10 @@ module _ (blocks : ℕ) where
       written_past n = past_optional (mode.Pattern in_head n) (is_mark m.OpenBracket) (actions_past n)
 
       moves_pattern : Moves (mode.Pattern in_head 0) (λ q. mode.Pattern in_head (pattern_weight q)) (whole_pattern heaviest)
-      moves_pattern = record { moves = λ i j q e. let took = (pattern_rule heaviest).sound i j q e in
-          ap (λ xs. run (mode.Pattern in_head 0) xs) took.tokens ∙ counts_pattern blocks in_head q 0 (pattern_weight q) j.rest took.good.0 (omega arith) took.good.1 }
+      moves_pattern = record {
+        moves = λ i j q e. let took = (pattern_rule heaviest).sound i j q e in
+            ap (λ xs. run (mode.Pattern in_head 0) xs) took.tokens ∙ counts_pattern blocks in_head q 0 (pattern_weight q) j.rest took.good.0 (omega arith) took.good.1;
+      }
 
     after_actions : ℕ → Option (List Action) → Mode
     after_actions n None = mode.Pattern false n
@@ -353,8 +374,10 @@ module _ (blocks : ℕ) where
     spelled_actions n (Some actions) xs good = counts_actions blocks false actions (mark m.CloseBracket ∷ xs) good
 
     moves_actions : (n : ℕ) → Moves (mode.Pattern false n) (after_actions n) (optional (is_mark m.OpenBracket) (actions heaviest))
-    moves_actions n = record { moves = λ i j x e. let took = optional_ok spell_actions (Each (IsAction heaviest)) (is_mark m.OpenBracket) (actions heaviest) (actions_rule heaviest).sound i j x e in
-        ap (λ xs. run (mode.Pattern false n) xs) took.tokens ∙ spelled_actions n x j.rest took.good }
+    moves_actions n = record {
+      moves = λ i j x e. let took = optional_ok spell_actions (Each (IsAction heaviest)) (is_mark m.OpenBracket) (actions heaviest) (actions_rule heaviest).sound i j x e in
+          ap (λ xs. run (mode.Pattern false n) xs) took.tokens ∙ spelled_actions n x j.rest took.good;
+    }
 
     -- ---- constructors
 
@@ -415,8 +438,10 @@ module _ (more : ℕ) where
       past_behind blocks mode.Head (λ _. mode.Head) (optional is_name name_here) (head_table_moves blocks)
       (λ table. past_behind blocks mode.Head (λ _. mode.Pattern true 0) (expect m.Colon) (moves_expect blocks m.Colon mode.Head (mode.Pattern true 0) refl)
       (λ _. past_then blocks (mode.Pattern true 0) (λ x. mode.Pattern true (weight_of x)) (past_optional blocks (mode.Pattern true 0) is_pattern (past_pattern blocks more true))
-      (record { moves = λ i j x e. let took = optional_ok spell_pattern (IsPattern heaviest) is_pattern (whole_pattern heaviest) (pattern_rule heaviest).sound i j x e in
-      ap (λ xs. counted_from blocks (mode.Pattern true 0) xs) took.tokens ∙ spelled_pattern blocks x j.rest took.good })
+      (record {
+        moves = λ i j x e. let took = optional_ok spell_pattern (IsPattern heaviest) is_pattern (whole_pattern heaviest) (pattern_rule heaviest).sound i j x e in
+            ap (λ xs. counted_from blocks (mode.Pattern true 0) xs) took.tokens ∙ spelled_pattern blocks x j.rest took.good;
+      })
       (λ x. past_before blocks (mode.Pattern true (weight_of x)) _ (written_past blocks more true (weight_of x)))))
 
   head_past : (blocks : ℕ) → blocks < suc deepest → (i : Input) → (head heaviest i ≡ head (more + heaviest) i) ⊎ (counted_from blocks mode.Items i.rest ≡ None)
@@ -429,8 +454,10 @@ module _ (more : ℕ) where
       ((head_tail_past (suc blocks)).past j))
 
   moves_constructor : (blocks : ℕ) → Moves blocks mode.Items (λ _. mode.Items) (constructor_here heaviest)
-  moves_constructor blocks = record { moves = λ i j x e. let took = constructor_ok heaviest i j x e in
-      ap (λ xs. counted_from blocks mode.Items xs) took.tokens ∙ counts_constructor blocks x j.rest took.good }
+  moves_constructor blocks = record {
+    moves = λ i j x e. let took = constructor_ok heaviest i j x e in
+        ap (λ xs. counted_from blocks mode.Items xs) took.tokens ∙ counts_constructor blocks x j.rest took.good;
+  }
 
   -- ---- what stands inside a block
 
@@ -460,9 +487,11 @@ module _ (more : ℕ) where
   moves_block : (n blocks : ℕ) → blocks + n ≡ suc deepest → Moves blocks mode.Items (λ _. mode.Items) (block_at heaviest n)
   unfolding block_at
   moves_block zero blocks sum = record { moves = λ i j b e. absurd (cc) }
-  moves_block (suc n) blocks sum = record { moves = λ i j b e. let took = block_ok heaviest (suc n) i j b e in
-      ap (λ xs. counted_from blocks mode.Items xs) took.tokens ∙ enters blocks b.0 (spell_inside b.1 (mark m.CloseBrace ∷ j.rest)) (omega (arith, sum)) took.good.0
-      ∙ counts_inside b.1 (suc blocks) n (mark m.CloseBrace ∷ j.rest) took.good.1 (omega (arith, sum)) }
+  moves_block (suc n) blocks sum = record {
+    moves = λ i j b e. let took = block_ok heaviest (suc n) i j b e in
+        ap (λ xs. counted_from blocks mode.Items xs) took.tokens ∙ enters blocks b.0 (spell_inside b.1 (mark m.CloseBrace ∷ j.rest)) (omega (arith, sum)) took.good.0
+        ∙ counts_inside b.1 (suc blocks) n (mark m.CloseBrace ∷ j.rest) took.good.1 (omega (arith, sum));
+  }
 
   block_past : (n l blocks : ℕ) → n ≤ l → blocks + n ≡ suc deepest → (i : Input) → first i.rest ≡ Some (keyword kw.With)
       → (block_at heaviest n i ≡ block_at (more + heaviest) l i) ⊎ (counted_from blocks mode.Items i.rest ≡ None)
@@ -558,9 +587,12 @@ no_state : (s : Option State) → going_on s (λ t. counted_from t.0 t.1 []) ≡
 no_state None e = refl
 no_state (Some s) e = absurd (cc)
 
-pub nesting_is_counted : NestingIsCounted
-nesting_is_counted before x begins any none =
+goes_past : (before : List Sym) (x : Sym) → BeginsATree before → BeginsAnyTree (before ++ x ∷ []) → (BeginsATree (before ++ x ∷ []) → ⊥) → GoesPast before x
+goes_past before x begins any none =
     let whole_count = sym (over 0 mode.Items before begins.rest) ∙ ap counted (sym begins.spells) ∙ trees_keep begins.items begins.good in
     let some = some_behind (counted before) (λ t. counted_from t.0 t.1 begins.rest) (0, mode.Items) whole_count in
     let past = ap (λ s. going_on s (λ t. counted_from t.0 t.1 (x ∷ []))) (sym some.1) ∙ sym (over 0 mode.Items before (x ∷ [])) ∙ none_counted before x any none in
     record { blocks = some.0.0; mode = some.0.1; is = some.1; past = no_state (step some.0.0 some.0.1 x) past }
+
+pub nesting_is_counted : NestingIsCounted
+nesting_is_counted before after x begins (limit any none) = goes_past before x begins any none

@@ -1,5 +1,5 @@
 -- Where a reader of an expression or a pattern ends at the limit, the count goes past one.
-use Rattle.std.proofs.Common.{◌≡◌, ℕ, zero, suc, ◌+◌, ◌-◌, ◌<◌, ◌≤◌, ◌&&◌, Bool, true, false, cond, nat_le, List, [], ◌∷◌, ◌++◌, drop, length, Option, None, Some, Ok, Err, arith, refl, ap, sym, ◌∙◌, subst}
+use Rattle.std.proofs.Common.{◌≡◌, ℕ, zero, suc, ◌-◌, ◌<◌, ◌≤◌, ◌&&◌, Bool, true, false, cond, nat_le, List, [], ◌∷◌, ◌++◌, drop, Option, None, Some, Ok, Err, arith, refl, ap, sym, ◌∙◌, subst}
 use Rattle.sl_ast.specs.Operators.{Kind, in_section, in_action, in_constraint, binary_mark, is_section, loosest, missing_function, pattern_loosest, pattern_mark, pattern_right_rank, prefix_mark, relation_mark, right_rank, takes_bits, takes_drop, takes_size, widest}
 use Rattle.sl_ast.specs.Spelling.{name}
 use Rattle.sl_ast.specs.Symbols.{plain, quoted, Sym, number, word, mark}
@@ -20,8 +20,8 @@ use Rattle.sl_ast.specs.declared.symbols.Mark.{Mark}
 use Rattle.sl_ast.specs.declared.symbols.Mark.TheVariants as m
 use Rattle.sl_grammar.specs.Climb.{climb, turned}
 use Rattle.sl_grammar.specs.Expressions.{binary_of, operator_of, allowed, turn, bracketed, called, called_by, after_name, name_in, missing_name_in, atom, atom_by, size_behind, drop_behind, bits_behind, behind, postfix, prefixed, space_in, starred, prefix_by, tight, expression, whole, with_room}
-use Rattle.sl_grammar.specs.Lists.{separated_from, separated}
-use Rattle.sl_grammar.specs.Reader.{Form, nesting, unsupported, fault, Input, at, left, first, Outcome, Reader, and_then, ◌>>=◌, ◌>>◌, pure, skip, enter, refused_as, refuse, look, is_mark, expect, number_by, integer_here, name_by, name_here, size_by, size_here, optional, size_option}
+use Rattle.sl_grammar.specs.Lists.{separated_from}
+use Rattle.sl_grammar.specs.Reader.{Form, nesting, unsupported, fault, Input, at, left, first, Outcome, Reader, and_then, ◌>>=◌, ◌>>◌, pure, skip, enter, refused_as, refuse, look, is_mark, expect, number_by, integer_here, name_by, name_here, size_by, size_here, size_option}
 use Rattle.sl_grammar.proofs.Taken.{first_is, mark_first}
 use Rattle.sl_grammar.specs.Patterns.{constrained, related, relation_in, joining_in, pattern_allowed, pattern_turn, after_field, grouped, part, part_by, element, pattern, whole_pattern}
 use Rattle.sl_grammar.proofs.PatternSound.{relation_is}
@@ -156,8 +156,13 @@ module _ (blocks : ℕ) (mode : ℕ → ℕ → Mode) where
 
   -- a symbol that doesn't count
   on_skip : (x : Sym) (b d e : ℕ) → ((n : ℕ) → step blocks (mode d n) x ≡ Some (blocks, mode e n)) → RunsOn (Some x) b b d e skip
-  on_skip x b d e is = record { on = λ i here less. (less, ap (λ xs. counted_from blocks (mode d (heaviest - i.room)) xs) (first_is i.rest x here)
-      ∙ stepped blocks blocks (mode d (heaviest - i.room)) (mode e (heaviest - i.room)) x (drop 1 i.rest) (is (heaviest - i.room))) }
+  on_skip x b d e is = record {
+    on = λ i here less. (
+      less,
+      ap (λ xs. counted_from blocks (mode d (heaviest - i.room)) xs) (first_is i.rest x here)
+          ∙ stepped blocks blocks (mode d (heaviest - i.room)) (mode e (heaviest - i.room)) x (drop 1 i.rest) (is (heaviest - i.room)),
+    );
+  }
 
   -- one that counts
   entered : (x : Sym) (b d e : ℕ) → b ≤ heaviest → ((n : ℕ) → step blocks (mode d n) x ≡ spend blocks n (mode e)) → (xs : List Sym) (r : ℕ) → r < suc b
@@ -166,14 +171,18 @@ module _ (blocks : ℕ) (mode : ℕ → ℕ → Mode) where
   entered x b d e small is xs zero less = λ _. ap (λ s. going_on s (λ state. counted_from state.0 state.1 xs)) (is heaviest)
   entered x b d e small is xs (suc r) less =
       let n = heaviest - suc r in
-      let next : suc n ≡ heaviest - r = omega (arith, less, small) in
-      (omega (arith, less), stepped blocks blocks (mode d n) (mode e (suc n)) x xs (is n ∙ spends blocks n (mode e) (omega (arith, less, small)))
-      ∙ ap (λ l. counted_from blocks (mode e l) xs) next)
+      let next : suc n ≡ heaviest - r = omega (arith, less, small) in (
+        omega (arith, less),
+        stepped blocks blocks (mode d n) (mode e (suc n)) x xs (is n ∙ spends blocks n (mode e) (omega (arith, less, small)))
+            ∙ ap (λ l. counted_from blocks (mode e l) xs) next,
+      )
 
   on_enter : (x : Sym) (b d e : ℕ) → b ≤ heaviest → ((n : ℕ) → step blocks (mode d n) x ≡ spend blocks n (mode e)) → RunsOn (Some x) (suc b) b d e enter
-  on_enter x b d e small is = record { on = λ i here less.
-      subst (λ xs. After blocks mode b (counted_from blocks (mode d (heaviest - i.room)) xs) e (enter (at xs i.room))) (sym (first_is i.rest x here))
-      (entered x b d e small is (drop 1 i.rest) i.room less) }
+  on_enter x b d e small is = record {
+    on = λ i here less.
+        subst (λ xs. After blocks mode b (counted_from blocks (mode d (heaviest - i.room)) xs) e (enter (at xs i.room))) (sym (first_is i.rest x here))
+        (entered x b d e small is (drop 1 i.rest) i.room less);
+  }
 
   runs_expect : (k : Mark) (b d e : ℕ) → ((n : ℕ) → step blocks (mode d n) (mark k) ≡ Some (blocks, mode e n)) → Runs b b d e (expect k)
   unfolding expect
@@ -371,8 +380,10 @@ module _ (blocks : ℕ) (mode : ℕ → ℕ → Mode) where
     expression_runs zero (suc k) n d le small = absurd (omega (arith, le))
     expression_runs (suc fuel) (suc k) n d le small =
         runs_then (suc k) (suc k) (suc k) d d d (tight_runs k (omega (arith, small)) (expression kind fuel) (λ n d. expression_runs fuel k n d (omega (arith, le)) (omega (arith, small))) d)
-        (λ e. record { runs = λ i less.
-        (climb_runs k (omega (arith, small)) (expression kind fuel) (λ n d. expression_runs fuel k n d (omega (arith, le)) (omega (arith, small))) n d (suc i.room) e).runs i less })
+        (λ e. record {
+          runs = λ i less.
+              (climb_runs k (omega (arith, small)) (expression kind fuel) (λ n d. expression_runs fuel k n d (omega (arith, le)) (omega (arith, small))) n d (suc i.room) e).runs i less;
+        })
 
 -- ---- patterns
 
@@ -463,8 +474,10 @@ module _ (blocks : ℕ) (head : Bool) where
   pattern_runs zero (suc k) n le small = absurd (omega (arith, le))
   pattern_runs (suc fuel) (suc k) n le small =
       runs_then blocks pattern_mode (suc k) (suc k) (suc k) 0 0 0 (element_runs k (omega (arith, small)) (pattern heaviest fuel) (λ n. pattern_runs fuel k n (omega (arith, le)) (omega (arith, small))))
-      (λ q. record { runs = λ i less.
-      (pattern_climb_runs k (omega (arith, small)) (pattern heaviest fuel) (λ n. pattern_runs fuel k n (omega (arith, le)) (omega (arith, small))) n (suc i.room) q).runs i less })
+      (λ q. record {
+        runs = λ i less.
+            (pattern_climb_runs k (omega (arith, small)) (pattern heaviest fuel) (λ n. pattern_runs fuel k n (omega (arith, le)) (omega (arith, small))) n (suc i.room) q).runs i less;
+      })
 
 -- ---- outermost ones
 

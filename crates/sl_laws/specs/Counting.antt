@@ -202,8 +202,6 @@ abbrev pub CountedNestingIsAFault : Type 0
 CountedNestingIsAFault = (before after : List Sym) (x : Sym) → GoesPast before x → BeginsAnyTree (before ++ x ∷ [])
     → Causes before too_deep (x ∷ after)
 
--- Where trees go on with a symbol, but none within the limits, and one goes on with those before it: there the symbol goes
--- past a limit by counting.
+-- A symbol that is a fault of nesting, the first one, goes past a limit by counting.
 abbrev pub NestingIsCounted : Type 0
-NestingIsCounted = (before : List Sym) (x : Sym) → BeginsATree before → BeginsAnyTree (before ++ x ∷ [])
-    → (BeginsATree (before ++ x ∷ []) → ⊥) → GoesPast before x
+NestingIsCounted = (before after : List Sym) (x : Sym) → BeginsATree before → Causes before too_deep (x ∷ after) → GoesPast before x

@@ -89,7 +89,7 @@ pub fn counted_nesting_is_a_fault()
     ensures { CountedNestingIsAFault }
 {}
 
-/// Where trees go on with a symbol, but none within the limits, it goes past one by counting, if it is the first such symbol.
+/// A symbol that is a fault of nesting, the first one, goes past a limit by counting.
 pub fn nesting_is_counted()
     ensures { NestingIsCounted }
 {}
