@@ -5,5 +5,6 @@ pub mod Places
 pub mod Origins
 pub mod Blocks
 pub mod Counting
+pub mod Within
 pub mod Rooms
 pub mod Past

@@ -33,7 +33,8 @@ use Rattle.sl_places.proofs.Wider.{wider_items}
 use Rattle.sl_places.proofs.RaisedParts.{wider_whole, wider_whole_pattern}
 use Rattle.sl_laws.specs.Counting as mode
 use Rattle.sl_laws.specs.Counting.{GoesPast, NestingIsCounted, Mode, State, counted, counted_from, going_on, step}
-use Rattle.sl_laws.proofs.Counting.{chosen, counts_inside, counts_item, counts_parameters, enters, head_table, over, some_behind, trees_keep, begins_here, counts_action, counts_actions, counts_constructor, counts_display, counts_here, counts_pattern, counts_star, counts_statement, section_counts, size_written, stepped, table_first, value_counts}
+use Rattle.sl_laws.proofs.Counting.{chosen, counts_inside, counts_item, counts_parameters, enters, head_table, over, trees_keep, begins_here, counts_action, counts_actions, counts_constructor, counts_display, counts_here, counts_pattern, counts_star, counts_statement, section_counts, size_written, stepped, table_first, value_counts}
+use Rattle.sl_laws.proofs.Within.{some_behind}
 use Rattle.sl_laws.proofs.Rooms.{whole_past, whole_pattern_past}
 
 -- ---- two readings, of which the first has less room

@@ -1,4 +1,4 @@
-use Rattle.sl_laws.proofs.Counting as law
+use Rattle.sl_laws.proofs.Within as law
 use Rattle.sl_laws.proofs.laws.counted_trees_are_within.Goals as goal
 
 pub returns : goal.returns
