@@ -1,10 +1,12 @@
 -- What a change at a key of bytes leaves at other keys.
-use Rattle.std.proofs.Common.{◌≡◌, ℕ, Bool, true, false, cond, List, Option, Some, sym, subst, ap, ◌∙◌, refl, ⊎_elim, ap₂}
+use Rattle.std.proofs.Common.{◌≡◌, Ordering, ℕ, Bool, true, false, cond, List, Option, Some, sym, subst, ap, ◌∙◌, refl, ⊎_elim, ap₂}
 use Rattle.std.specs.Prelude.{option_map}
 use Rattle.std.specs.Global.{Vec}
 use Rattle.std.specs.Str.{bytes_eq}
-use Rattle.std.specs.Cmp.Lexicographic.{bytes_decides, nat_list_eq_equiv}
-use Rattle.std.specs.HashMap.{HashMap, UpdatesBy, get_by}
+use Rattle.std.specs.Cmp.Lexicographic.{bytes_decides, nat_list_eq_equiv, slice_cmp}
+use Rattle.std.specs.Ordering.{eq_by_cmp, is_eq, nat_cmp}
+use Rattle.std.proofs.lemmas.Map.Text.{is_eq-slice_cmp}
+use Rattle.std.specs.BTreeMap.{BTreeMap, UpdatesBy, get_by, is_at}
 use Rattle.std.specs.Map.{lookup, KeepsOthers, IsKeyTest, AreApart}
 use Rattle.std.proofs.lemmas.Bool.{cases_Bool, cond-true, cond-false}
 use Rattle.std.proofs.Math.Path.{fun_ext}
@@ -25,38 +27,54 @@ by_bytes f g bs w here other cs =
     (λ n. other cs n ∙ sym (cond-false (bytes_eq bs cs) w (f cs) n))
     (cases_Bool (bytes_eq bs cs))
 
-abbrev at_bytes : {X S : Type 0} → HashMap (Vec ℕ) X S → List ℕ → Option X
-at_bytes m name = get_by (λ k. bytes_eq name k.items) m
+-- the order of the bytes
+abbrev bytes_cmp : List ℕ → Vec ℕ → Ordering
+bytes_cmp bs k = slice_cmp nat_cmp bs k.items
 
-at_key : (bs : List ℕ) {X S : Type 0} (m n : HashMap (Vec ℕ) X S) (w : Option X) → UpdatesBy (λ x y. bytes_eq x.items y.items) (λ k. bytes_eq bs k.items) m n w
+abbrev key_cmp : Vec ℕ → Vec ℕ → Ordering
+key_cmp x y = slice_cmp nat_cmp x.items y.items
+
+-- a search for bytes finds one of two equal keys where it finds the other
+same_key : (bs xs ys : List ℕ) → is_eq (slice_cmp nat_cmp bs xs) ≡ true → is_eq (slice_cmp nat_cmp bs ys) ≡ is_eq (slice_cmp nat_cmp xs ys)
+same_key bs xs ys h = is_eq-slice_cmp bs ys ∙ nat_list_eq_equiv.congr bs xs ys (sym (is_eq-slice_cmp bs xs) ∙ h) ∙ sym (is_eq-slice_cmp xs ys)
+
+apart_key : (bs cs ks : List ℕ) → bytes_eq bs cs ≡ false → is_eq (slice_cmp nat_cmp bs ks) ≡ true → is_eq (slice_cmp nat_cmp cs ks) ≡ false
+apart_key bs cs ks n y = is_eq-slice_cmp cs ks ∙ apart bs cs ks n (sym (is_eq-slice_cmp bs ks) ∙ y)
+
+abbrev at_bytes : {X : Type 0} → BTreeMap (Vec ℕ) X → List ℕ → Option X
+at_bytes m name = get_by (bytes_cmp name) m
+
+at_key : (bs : List ℕ) {X : Type 0} (m n : BTreeMap (Vec ℕ) X) (w : Option X) → UpdatesBy key_cmp (bytes_cmp bs) m n w
     → (cs : List ℕ) → at_bytes n cs ≡ cond (bytes_eq bs cs) w (at_bytes m cs)
-at_key bs m n w h = by_bytes (at_bytes m) (at_bytes n) bs w h.1 (λ cs e. other_entries _ _ _ _ h.3 _ (λ x y. nat_list_eq_equiv.congr cs x.items y.items) (λ k. apart bs cs k.items e))
+at_key bs m n w h =
+    by_bytes (at_bytes m) (at_bytes n) bs w h.1
+    (λ cs e. other_entries (eq_by_cmp key_cmp) (is_at (bytes_cmp bs)) m.entries n.entries h.3 (is_at (bytes_cmp cs)) (λ x y. same_key cs x.items y.items) (λ k. apart_key bs cs k.items e))
 
 option_cond : {A B : Type 0} (f : A → B) (b : Bool) (x y : Option A) → option_map f (cond b x y) ≡ cond b (option_map f x) (option_map f y)
 option_cond f true x y = refl
 option_cond f false x y = refl
 
 module _ {X Y : Type 0} (view : X → Y) where
-  abbrev held : {S : Type 0} → HashMap (Vec ℕ) X S → List ℕ → Option Y
+  abbrev held : BTreeMap (Vec ℕ) X → List ℕ → Option Y
   held m name = option_map view (at_bytes m name)
 
-  abbrev changed : {S : Type 0} → HashMap (Vec ℕ) X S → List ℕ → Option Y → List ℕ → Option Y
+  abbrev changed : BTreeMap (Vec ℕ) X → List ℕ → Option Y → List ℕ → Option Y
   changed m bs w name = cond (bytes_eq bs name) w (held m name)
 
   -- what is held after a change at a key
-  pub held_after : (bs : List ℕ) {S : Type 0} (m n : HashMap (Vec ℕ) X S) (w : Option X) → UpdatesBy (λ x y. bytes_eq x.items y.items) (λ k. bytes_eq bs k.items) m n w
+  pub held_after : (bs : List ℕ) (m n : BTreeMap (Vec ℕ) X) (w : Option X) → UpdatesBy key_cmp (bytes_cmp bs) m n w
       → held n ≡ changed m bs (option_map view w)
   held_after bs m n w h = fun_ext (λ name. ap (option_map view) (at_key bs m n w h name) ∙ option_cond view (bytes_eq bs name) w (at_bytes m name))
 
-  pub held_more : (bs : List ℕ) (value : Y) {S : Type 0} (m n : HashMap (Vec ℕ) X S) (k : Vec ℕ) (v : X) → k.items ≡ bs → view v ≡ value
-      → UpdatesBy (λ x y. bytes_eq x.items y.items) (λ x. bytes_eq k.items x.items) m n (Some v) → held n ≡ changed m bs (Some value)
+  pub held_more : (bs : List ℕ) (value : Y) (m n : BTreeMap (Vec ℕ) X) (k : Vec ℕ) (v : X) → k.items ≡ bs → view v ≡ value
+      → UpdatesBy key_cmp (key_cmp k) m n (Some v) → held n ≡ changed m bs (Some value)
   held_more bs value m n k v e f h = held_after k.items m n (Some v) h ∙ ap₂ (λ (b : List ℕ) (w : Y). changed m b (Some w)) e f
 
 -- the values after a change at a key
-pub values_after : (bs : List ℕ) {S : Type 0} (m n : HashMap (Vec ℕ) (Vec ℕ) S) (w : Option (Vec ℕ)) → UpdatesBy (λ x y. bytes_eq x.items y.items) (λ k. bytes_eq bs k.items) m n w
+pub values_after : (bs : List ℕ) (m n : BTreeMap (Vec ℕ) (Vec ℕ)) (w : Option (Vec ℕ)) → UpdatesBy key_cmp (bytes_cmp bs) m n w
     → held (λ (v : Vec ℕ). v.items) n ≡ changed (λ (v : Vec ℕ). v.items) m bs (option_map (λ (v : Vec ℕ). v.items) w)
 values_after bs m n w h = held_after (λ (v : Vec ℕ). v.items) bs m n w h
 
-pub values_defined : (bs value : List ℕ) {S : Type 0} (m n : HashMap (Vec ℕ) (Vec ℕ) S) (k v : Vec ℕ) → k.items ≡ bs → v.items ≡ value
-    → UpdatesBy (λ x y. bytes_eq x.items y.items) (λ x. bytes_eq k.items x.items) m n (Some v) → held (λ (v : Vec ℕ). v.items) n ≡ changed (λ (v : Vec ℕ). v.items) m bs (Some value)
+pub values_defined : (bs value : List ℕ) (m n : BTreeMap (Vec ℕ) (Vec ℕ)) (k v : Vec ℕ) → k.items ≡ bs → v.items ≡ value
+    → UpdatesBy key_cmp (key_cmp k) m n (Some v) → held (λ (v : Vec ℕ). v.items) n ≡ changed (λ (v : Vec ℕ). v.items) m bs (Some value)
 values_defined bs value m n k v e f h = held_more (λ (v : Vec ℕ). v.items) bs value m n k v e f h

@@ -5,13 +5,14 @@ ghost use Rattle.sl_directive.specs.Parts.{Reads};
 ghost use Rattle.sl_directive.specs.Definitions.{no_definitions, with_value, without};
 ghost use Rattle.sl_directive.specs.Held.{values_of};
 
-use indexmap::IndexMap;
 use std::alloc::{AllocError, Global};
+use std::collections::BTreeMap;
 
-/// The value of each name that is defined. `values_of` is what contracts see.
+/// The value of each name that is defined. `values_of` is what contracts see. The names are in the
+/// order of their bytes, so that no choice of names makes them slow to find.
 #[derive(Drop)]
 pub struct Definitions {
-    values: IndexMap<Vec<u8>, Vec<u8>>,
+    values: BTreeMap<Vec<u8>, Vec<u8>>,
 }
 
 impl Definitions {
@@ -19,7 +20,7 @@ impl Definitions {
         ensures { values_of result ≡ no_definitions }
     {
         Definitions {
-            values: IndexMap::new(alloc),
+            values: BTreeMap::new(alloc),
         }
     }
 
@@ -53,6 +54,6 @@ impl Definitions {
     pub fn undefine(&mut self, name: &[u8])
         ensures { values_of self.new ≡ without name.now (values_of self.old) }
     {
-        let _value = self.values.swap_remove(name);
+        let _value = self.values.remove(name);
     }
 }

@@ -5,8 +5,8 @@ ghost use Rattle.sl_directive.specs.Parts.{Reads};
 ghost use Rattle.sl_directive.specs.HeldWholes.{wholes_of};
 ghost use Rattle.sl_directive.specs.Wholes.{nothing_known, with_whole};
 
-use indexmap::IndexMap;
 use std::alloc::{AllocError, Global};
+use std::collections::BTreeMap;
 
 /// The whole value of a name, in which each name has its value too.
 #[derive(Drop)]
@@ -19,7 +19,7 @@ pub struct Whole {
 /// The whole values that are known. `wholes_of` is what contracts see.
 #[derive(Drop)]
 pub struct Wholes {
-    names: IndexMap<Vec<u8>, Whole>,
+    names: BTreeMap<Vec<u8>, Whole>,
 }
 
 impl Wholes {
@@ -27,7 +27,7 @@ impl Wholes {
         ensures { wholes_of result ≡ nothing_known }
     {
         Wholes {
-            names: IndexMap::new(alloc),
+            names: BTreeMap::new(alloc),
         }
     }
 
@@ -36,8 +36,7 @@ impl Wholes {
     pub fn forget(&mut self)
         ensures { wholes_of self.new ≡ nothing_known }
     {
-        let alloc = *self.names.allocator();
-        self.names = IndexMap::new(alloc);
+        self.names.clear();
     }
 
     pub fn get(&self, name: &[u8]) -> Option<&Whole>
