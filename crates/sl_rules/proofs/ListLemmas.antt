@@ -1,5 +1,5 @@
 -- Tests over lists that are seen by a view.
-use Rattle.std.proofs.Common.{◌≡◌, ◌&&◌, ◌||◌, Bool, true, false, cond, List, [], ◌∷◌, map, Some, option_map, find, refl, ap, if◌then◌else◌}
+use Rattle.std.proofs.Common.{◌≡◌, ◌&&◌, ◌||◌, Bool, true, false, cond, List, [], ◌∷◌, map, Some, option_map, find, refl, ap}
 use Rattle.std.specs.List.{list_any, list_all}
 
 pub any_map : {A B : Type 0} (p : B → Bool) (f : A → B) (xs : List A) → list_any p (map f xs) ≡ list_any (λ x. p (f x)) xs
@@ -18,7 +18,3 @@ found_map p f x xs false rest = rest
 pub find_map : {A B : Type 0} (p : B → Bool) (f : A → B) (xs : List A) → option_map f (find (λ x. p (f x)) xs) ≡ find p (map f xs)
 find_map p f [] = refl
 find_map p f (x ∷ xs) = found_map p f x xs (p (f x)) (find_map p f xs)
-
-pub if_false : {A : Type 0} (b : Bool) (x y : A) → b ≡ false → (if b then x else y) ≡ y
-if_false false x y h = refl
-if_false true x y h = absurd (cc)

@@ -4,22 +4,22 @@ ghost use Rattle.std.specs.Prelude.{◌≡◌, ◌∷◌, [], ◌++◌, OnOk, On
 ghost use Rattle.std.specs.Prelude.{length, option_map, slice_get};
 ghost use Rattle.sl_rules.specs.Names.{are_distinct, is_among};
 
-use indexmap::IndexSet;
+use sl_index::NameIndex;
 use std::alloc::{AllocError, Global};
 use std::marker::Model;
 
 /// Names, each once, in the order in which they were added. Contracts see the list of them.
 #[derive(Debug, Drop)]
 pub struct NameSet<'a> {
-    names: IndexSet<&'a [u8]>,
+    names: NameIndex<'a>,
 }
 
 impl<'a> Model for NameSet<'a> {
-    ghost use Rattle.std.specs.Prelude.{List, ℕ, map};
+    ghost use Rattle.std.specs.Prelude.{List, ℕ};
 
     ghost Value = { List (List ℕ) };
 
-    ghost view = { λ s. map (λ name. name.now) s.names.keys };
+    ghost view = { λ s. s.names };
 }
 
 impl<'a> NameSet<'a> {
@@ -27,7 +27,7 @@ impl<'a> NameSet<'a> {
         ensures { result ≡ [] }
     {
         NameSet {
-            names: IndexSet::new(alloc),
+            names: NameIndex::new(alloc),
         }
     }
 
@@ -35,7 +35,7 @@ impl<'a> NameSet<'a> {
     pub fn has(&self, name: &[u8]) -> bool
         ensures { result ≡ is_among self.now name.now }
     {
-        self.names.contains(name)
+        self.names.has(name)
     }
 
     /// How many names there are.
@@ -49,10 +49,7 @@ impl<'a> NameSet<'a> {
     pub fn at(&self, index: usize) -> Option<&'a [u8]>
         ensures { option_map (λ name. name.now) result ≡ slice_get self.now index }
     {
-        match self.names.get_index(index) {
-            Some(name) => Some(*name),
-            None => None,
-        }
+        self.names.at(index)
     }
 
     /// Adds a name that isn't there yet.
@@ -61,8 +58,7 @@ impl<'a> NameSet<'a> {
         ensures added { OnOk result (self.new ≡ self.old ++ name.now ∷ []) }
         ensures kept { OnErr result (self.new ≡ self.old) }
     {
-        self.names.insert(name)?;
-        Ok(())
+        self.names.add(name)
     }
 }
 
