@@ -1,30 +1,16 @@
--- Tables with one more constructor, by name and by index, and a map with a value written at an index.
-use Rattle.std.proofs.Common.{◌≡◌, ◌<◌, ◌+◌, ℕ, zero, suc, Bool, true, false, cond, ◌||◌, List, [], ◌∷◌, ◌++◌, length, slice_get, Some, None, Result, Ok, Err, OnOk, refl, sym, ap, ◌∙◌, arith}
-use Rattle.std.specs.Prelude.{if◌then◌else◌, unwrap_or, not, nat_lt, get_or}
+-- Tables with one more constructor, by name and by index.
+use Rattle.std.proofs.Common.{◌≡◌, ◌<◌, ◌+◌, ℕ, zero, suc, Bool, true, false, cond, ◌||◌, List, [], ◌∷◌, ◌++◌, length, Some, None, Result, Ok, Err, OnOk, refl, sym, ap, ◌∙◌, arith}
+use Rattle.std.specs.Prelude.{if◌then◌else◌, not, nat_lt, get_or}
 use Rattle.std.specs.List.{position_or_len}
 use Rattle.std.specs.Str.{bytes_eq}
 use Rattle.std.proofs.lemmas.List.Quantifiers.{position-Some}
-use Rattle.indexmap.specs.IndexMap.{set_value_at}
 use Rattle.sl_spec.specs.Begun.{with_constructor, with_number, with_number_at}
 use Rattle.sl_spec.specs.Named.{has_name, index_named}
 use Rattle.sl_spec.specs.Tables.{Name, Table}
-use Rattle.sl_spec.proofs.KeyedLemmas.{AreKeyed, entry_values}
 
 pub on_ok : {X E : Type 0} {A B : Type 0} (r : Result X E) → (A → B) → OnOk r A → OnOk r B
 on_ok (Ok x) f h = f h
 on_ok (Err e) f h = h
-
-module _ {K X V : Type 0} (seen : K → V) (key_of : X → V) where
-  pub keyed_set : (es : List (K × X)) (i : ℕ) (b w : X) → AreKeyed seen key_of es → slice_get (entry_values es) i ≡ Some b → key_of w ≡ key_of b → AreKeyed seen key_of (set_value_at es i w)
-  keyed_set [] i b w h at same = h
-  keyed_set (e ∷ es) zero b w h at same = (h.0 ∙ ap (λ o. key_of (unwrap_or o b)) at ∙ sym same, h.1)
-  keyed_set (e ∷ es) (suc i) b w h at same = (h.0, keyed_set es i b w h.1 at same)
-
-pub values_set : {K : Type 0} (es : List (K × Table)) (i n : ℕ) (b w : Table) → slice_get (entry_values es) i ≡ Some b → w ≡ with_number b n
-    → entry_values (set_value_at es i w) ≡ with_number_at (entry_values es) i n
-values_set [] i n b w at is = refl
-values_set (e ∷ es) zero n b w at is = ap (λ x. x ∷ entry_values es) (is ∙ ap (λ o. with_number (unwrap_or o b) n) (sym at))
-values_set (e ∷ es) (suc i) n b w at is = ap (λ xs. e.1 ∷ xs) (values_set es i n b w at is)
 
 -- ---- by name and by index
 

@@ -1,8 +1,7 @@
 -- The entries of a map against the list of its values, where each value stands under its own key.
-use Rattle.std.proofs.Common.{◌≡◌, Bool, true, false, cond, ◌||◌, List, [], ◌∷◌, ◌++◌, map, length, position, Option, Some, None, is_some, find, refl, sym, ap, ◌∙◌}
-use Rattle.std.specs.List.{list_any, AllByRecursion, position_or_len}
-use Rattle.std.specs.Map.{keys_of, lookup}
-use Rattle.std.proofs.lemmas.List.{length-map}
+use Rattle.std.proofs.Common.{◌≡◌, Bool, true, false, cond, ◌||◌, List, [], ◌∷◌, ◌++◌, map, Option, Some, None, is_some, find, refl, ap, ◌∙◌}
+use Rattle.std.specs.List.{list_any, AllByRecursion}
+use Rattle.std.specs.Map.{lookup}
 
 abbrev pub entry_values : {K X : Type 0} → List (K × X) → List X
 entry_values es = map (λ e. e.1) es
@@ -16,15 +15,6 @@ module _ {K X V : Type 0} (seen : K → V) (key_of : X → V) where
     pub get_is : (es : List (K × X)) → AreKeyed es → lookup (λ k. same (seen k)) es ≡ find (λ x. same (key_of x)) (entry_values es)
     get_is [] h = refl
     get_is (e ∷ es) h = rw (h.0, get_is es h.1) refl
-
-    position_is : (es : List (K × X)) → AreKeyed es → position_or_len (λ k. same (seen k)) (keys_of es) ≡ position_or_len (λ x. same (key_of x)) (entry_values es)
-    position_is [] h = refl
-    position_is (e ∷ es) h = rw (h.0, position_is es h.1) refl
-
-    pub index_is : (es : List (K × X)) → AreKeyed es → position (λ k. same (seen k)) (keys_of es) ≡ position (λ x. same (key_of x)) (entry_values es)
-    index_is es h =
-        let n : length (keys_of es) ≡ length (entry_values es) = length-map es (λ e. e.0) ∙ sym (length-map es (λ e. e.1)) in
-        rw (position_is es h, n) refl
 
     some_any : (x : X) (xs : List X) (b : Bool) → is_some (find (λ y. same (key_of y)) xs) ≡ list_any (λ y. same (key_of y)) xs
         → is_some (cond b (Some x) (find (λ y. same (key_of y)) xs)) ≡ (b || list_any (λ y. same (key_of y)) xs)

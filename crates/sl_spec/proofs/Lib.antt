@@ -2,5 +2,6 @@ pub mod FieldLemmas
 mod BegunLemmas
 pub mod KeyedLemmas
 pub mod SeenLemmas
+mod ThingLemmas
 pub mod TokenLemmas
 pub mod WalkLemmas

@@ -4,16 +4,17 @@ ghost use Rattle.std.specs.Prelude.{◌≡◌, ◌<◌, ◌∷◌, [], ◌++◌,
 ghost use Rattle.std.specs.Prelude.{OnOk, OnErr, option_copied, slice_get, length};
 ghost use Rattle.std.specs.List.{list_any};
 ghost use Rattle.std.specs.Str.{bytes_eq};
-ghost use Rattle.std.specs.Map.Iter.{ShowsInOrder, deref};
+ghost use Rattle.std.specs.Iterator.Adapters.{IterYieldsInOrder};
+ghost use Rattle.std.specs.Slice.Iter.{iter_rest};
 ghost use Rattle.sl_spec.specs.Begun.{with_constructor, with_number, with_number_at};
 ghost use Rattle.sl_spec.specs.Named.{has_name, named, index_named};
 
 use crate::constructors::Table;
 use crate::ids::CtorId;
-use indexmap::IndexMap;
-use indexmap::map::Values;
+use sl_index::NameIndex;
 use std::alloc::{AllocError, Global};
 use std::marker::Model;
+use std::slice::Iter;
 
 /// What has a name.
 pub trait Entry {
@@ -24,18 +25,18 @@ pub trait Entry {
 /// see the list.
 #[derive(Drop)]
 pub struct Named<'a, T: Entry + Drop> {
-    by_name: IndexMap<&'a [u8], T>,
+    names: NameIndex<'a>,
+    things: Vec<T>,
 }
 
 impl<'a, T: Entry + Drop> Model for Named<'a, T> {
     ghost use Rattle.std.specs.Prelude.{List, map, ◌≡◌};
-    ghost use Rattle.std.specs.List.{AllByRecursion};
 
     ghost Value = { List T };
 
-    ghost view = { λ t. map (λ e. e.1) t.by_name.entries };
+    ghost view = { λ t. t.things.items };
 
-    ghost invariant = { λ t. AllByRecursion (λ e. e.0.now ≡ T.name_of e.1) t.by_name.entries };
+    ghost invariant = { λ t. t.names ≡ map T.name_of t.things.items };
 }
 
 impl<'a, T: Entry + Drop> Named<'a, T> {
@@ -43,7 +44,8 @@ impl<'a, T: Entry + Drop> Named<'a, T> {
         ensures { result ≡ [] }
     {
         Named {
-            by_name: IndexMap::new(alloc),
+            names: NameIndex::new(alloc),
+            things: Vec::new(alloc),
         }
     }
 
@@ -51,31 +53,31 @@ impl<'a, T: Entry + Drop> Named<'a, T> {
     pub fn has(&self, name: &[u8]) -> bool
         ensures { result ≡ has_name T.name_of name.now self.now }
     {
-        self.by_name.contains_key(name)
+        self.names.has(name)
     }
 
     /// What has this name.
     pub fn get(&self, name: &[u8]) -> Option<&T>
         ensures { option_copied result ≡ named T.name_of name.now self.now }
     {
-        self.by_name.get(name)
+        match self.index_of(name) {
+            Some(index) => self.at(index),
+            None => None,
+        }
     }
 
     /// The index of what has this name.
     pub fn index_of(&self, name: &[u8]) -> Option<usize>
         ensures { result ≡ index_named T.name_of name.now self.now }
     {
-        self.by_name.get_index_of(name)
+        self.names.find(name)
     }
 
     /// The thing at an index.
     pub fn at(&self, index: usize) -> Option<&T>
         ensures { option_copied result ≡ slice_get self.now index }
     {
-        match self.by_name.get_index(index) {
-            Some((_, thing)) => Some(thing),
-            None => None,
-        }
+        self.things.get(index)
     }
 
     /// The thing at an index at which there is one.
@@ -87,18 +89,18 @@ impl<'a, T: Entry + Drop> Named<'a, T> {
     }
 
     /// The things in order.
-    pub fn iter(&self) -> Values<'_, &'a [u8], T>
-        ensures rest { result ≡ self.now }
-        ensures runs { ShowsInOrder (deref {X = T}) }
+    pub fn iter(&self) -> Iter<'_, T>
+        ensures rest { iter_rest result ≡ self.now }
+        ensures runs { IterYieldsInOrder T }
     {
-        self.by_name.values()
+        self.things.iter()
     }
 
     /// How many things there are.
     pub fn len(&self) -> usize
         ensures { result ≡ length self.now }
     {
-        self.by_name.len()
+        self.things.len()
     }
 
     /// Adds something whose name isn't there yet.
@@ -108,8 +110,14 @@ impl<'a, T: Entry + Drop> Named<'a, T> {
         ensures added { OnOk result (self.new ≡ self.old ++ added ∷ []) }
         ensures kept { OnErr result (self.new ≡ self.old) }
     {
-        self.by_name.insert(name, added)?;
-        Ok(())
+        self.things.push(added)?;
+        match self.names.add(name) {
+            Ok(_) => Ok(()),
+            Err(_) => {
+                let _added = self.things.pop();
+                Err(AllocError)
+            }
+        }
     }
 }
 
@@ -128,7 +136,7 @@ impl<'a> Named<'a, Table<'a>> {
         requires { index < length self.old }
         ensures { OnOk result (self.new ≡ with_number_at self.old index number) }
     {
-        add_number(&mut self.by_name[index], number)
+        add_number(&mut self.things[index], number)
     }
 
     /// Adds the number of a constructor to the table of this name, which is added as the last one

@@ -1,11 +1,11 @@
-use Rattle.std.proofs.Common.{ap, ◌∙◌}
-use Rattle.std.specs.Str.{bytes_eq}
-use Rattle.sl_spec.specs.Named.{named}
-use Rattle.sl_spec.proofs.KeyedLemmas.{get_is}
+use Rattle.std.proofs.Common.{sym, ◌∙◌}
+use Rattle.sl_spec.specs.Named.{is_named}
+use Rattle.sl_spec.proofs.ThingLemmas.{found_nowhere, found_there}
 use Rattle.sl_spec.proofs.named.Named.get.Goals as goal
 
-pub returns : goal.returns
-returns g c =
-    let name_of = g.T.Entry.name_of in
-    c.get.ensures.value ∙ get_is (λ k. k.now) name_of (bytes_eq c.args.name.now) c.self.inside.by_name.entries c.self.invariant
-    ∙ ap (λ xs. named name_of c.args.name.now xs) c.self.view_is
+pub returns-in-Some : goal.returns-in-Some
+returns-in-Some g c =
+    c.at.ensures ∙ found_there (is_named g.T.Entry.name_of c.args.name.now) c.args.self.now c.in-Some.index (sym c.index_of.ensures ∙ c.in-Some.is)
+
+pub returns-in-None : goal.returns-in-None
+returns-in-None g c = sym (found_nowhere (is_named g.T.Entry.name_of c.args.name.now) c.args.self.now (sym c.index_of.ensures ∙ c.in-None.is))
