@@ -94,13 +94,6 @@ fn chosen(entries: &[Entry]) -> Option<Point>
     wished(entries)
 }
 
-/// The entries once more.
-fn copied(alloc: Global, entries: &[Entry]) -> Result<Vec<Entry>, AllocError>
-    ensures { IfOk result (λ copy. copy.items ≡ entries.now) }
-{
-    entries.iter().copied().collect(alloc)
-}
-
 /// A leaf of all entries, in order.
 fn leaf(
     alloc: Global,
@@ -114,8 +107,7 @@ fn leaf(
         → (p : Point) → IsTreeOf sets.now node entries.now p) }
     ensures right { IfOk result (λ node. AreRight sets.now answers.new) }
 {
-    let all = copied(alloc, entries)?;
-    let in_order = ordered(alloc, sets, answers, all)?;
+    let in_order = ordered(alloc, sets, answers, entries)?;
     Ok(Node::Leaf(in_order))
 }
 
