@@ -115,7 +115,7 @@ module _ (top : ℕ) (g : Setting) (f : Frame) where
       (ap (λ a. o.store_to space a (value top g f (p.term_value (form g f) 0 e)) ∷ []) (value_is top g f 1 pointer)
       ∙ ap (λ v. o.store_to space (term_operand top g f 1 pointer) v ∷ []) (value_is top g f 0 e)))
 
-  user_is : (op : ℕ) (es : Terms) → all (p.user_pieces (form g f) op es) ≡ terms_before top g f 0 es ++ o.call_user op (terms_operands top g f 0 es) ∷ []
+  user_is : (op : ℕ) (es : Terms) → all (p.user_pieces (form g f) 0 op es) ≡ terms_before top g f 0 es ++ o.call_user op (terms_operands top g f 0 es) ∷ []
   user_is op es =
       joined top g f (p.terms_before (form g f) 0 es) _ _ _ (all_before top g f 0 es) (ap (λ vs. o.call_user op vs ∷ []) (values_are top g f 0 es))
 
@@ -156,7 +156,7 @@ module _ (top : ℕ) (g : Setting) (f : Frame) where
     part_is (s.set a e) label_place at = plain (p.set_pieces (form g f) a e) _ (set_is a e)
     part_is (s.set_bits a low count e) label_place at = plain (p.set_bits_pieces (form g f) a low count e) _ (set_bits_is a low count e)
     part_is (s.store space n pointer x e) label_place at = plain (p.store_pieces (form g f) (p.space_in (form g f) space) pointer e) _ (store_is (p.space_in (form g f) space) pointer e)
-    part_is (s.run_user op es) label_place at = plain (p.user_pieces (form g f) op (chain es)) _ (user_is op (chain es))
+    part_is (s.run_user op es) label_place at = plain (p.user_pieces (form g f) 0 op (chain es)) _ (user_is op (chain es))
     part_is (s.build i) label_place at = refl
     part_is (s.label l) label_place at = refl
     part_is (s.branch (s.to_label l)) label_place at =

@@ -264,8 +264,8 @@ module _ (h : Form) where
   store_pieces space pointer e = term_before 0 e
       ++ (term_before 1 pointer ++ store space (term_value 1 pointer) (term_value 0 e) ∷ [])
 
-  abbrev pub user_pieces : (op : ℕ) → Terms → List Piece
-  user_pieces op es = terms_before 0 es ++ user op (terms_values 0 es) ∷ []
+  abbrev pub user_pieces : (t op : ℕ) → Terms → List Piece
+  user_pieces t op es = terms_before t es ++ user op (terms_values t es) ∷ []
 
   abbrev pub exit_pieces : Code → Term → List Piece
   exit_pieces kind e = term_before 0 e ++ exit kind (term_value 0 e) ∷ []
@@ -294,7 +294,7 @@ module _ (h : Form) where
   part_of_step (s.set_bits a low count e) = part (set_bits_pieces a low count e) nothing
   part_of_step (s.store space n pointer x e) =
       part (store_pieces (space_in space) pointer e) nothing
-  part_of_step (s.run_user op es) = part (user_pieces op (chain es)) nothing
+  part_of_step (s.run_user op es) = part (user_pieces 0 op (chain es)) nothing
   part_of_step (s.build i) = part [] (build i)
   part_of_step (s.label l) = part [] (label l)
   part_of_step (s.branch (s.to_label l)) = part [] (branch l)

@@ -13,7 +13,7 @@ use crate::piece::{Part, Piece, Tail};
 use crate::puts::put;
 use crate::slot::Slot;
 use crate::statements::{exit_by, set, set_bits, store, target_slot};
-use crate::terms::{temp_of, term_slot, term_value, user_call};
+use crate::terms::{temp_of, term_slot, term_value, user_into};
 use sl_pcode::Code;
 use sl_section::{Direct, Step, Symbol, Term};
 use std::alloc::{AllocError, Global};
@@ -80,7 +80,7 @@ fn put_step(
         Step::Store(space, _, pointer, _, e) => {
             store(alloc, form, out, space_in(form, *space), pointer, e)
         }
-        Step::User(op, es) => user_call(alloc, form, out, *op, es.as_slice()),
+        Step::User(op, es) => user_into(alloc, form, out, 0, *op, es.as_slice()),
         Step::Build(_) => Ok(()),
         Step::Label(_) => Ok(()),
         Step::Branch(to) => branch(form, out, to),

@@ -43,6 +43,7 @@ pub(crate) fn temp_of(form: &Form<'_>, t: u32, e: &Term) -> Slot
 }
 
 /// An expression is put into a varnode.
+#[cycle(terms)]
 pub(crate) fn term_into(
     alloc: Global,
     form: &Form<'_>,
@@ -65,125 +66,39 @@ pub(crate) fn term_into(
         }
         Term::Name(a, _) => symbol_into(out, t, *a, to),
         Term::Paren(e, _) => term_into(alloc, form, out, t, e, to),
-        Term::Kept(e, _, _) => match term_slot(form, t, e) {
-            Some(a) => {
-                put_reads(out, a)?;
-                put(out, Piece::Binary(Op2::Subpiece, to, a, number(0)))
-            }
-            None => {
-                let a = temp_of(form, t, e);
-                term_into(alloc, form, out, t, e, a)?;
-                put(out, Piece::Binary(Op2::Subpiece, to, a, number(0)))
-            }
-        },
-        Term::Dropped(e, n, _) => match term_slot(form, t, e) {
-            Some(a) => {
-                put_reads(out, a)?;
-                put(
-                    out,
-                    Piece::Binary(Op2::Subpiece, to, a, number(u64::from(*n))),
-                )
-            }
-            None => {
-                let a = temp_of(form, t, e);
-                term_into(alloc, form, out, t, e, a)?;
-                put(
-                    out,
-                    Piece::Binary(Op2::Subpiece, to, a, number(u64::from(*n))),
-                )
-            }
-        },
-        Term::Bits(e, span, _) => match term_slot(form, t, e) {
-            Some(a) => {
-                put_reads(out, a)?;
-                bits_into(out, t, a, *span, to)
-            }
-            None => {
-                let a = temp_of(form, t, e);
-                term_into(alloc, form, out, t, e, a)?;
-                bits_into(out, t, a, *span, to)
-            }
-        },
-        Term::Load(space, _, e, _) => match term_slot(form, t, e) {
-            Some(a) => {
-                put_reads(out, a)?;
-                put(out, Piece::Load(to, space_in(form, *space), a))
-            }
-            None => {
-                let a = temp_of(form, t, e);
-                term_into(alloc, form, out, t, e, a)?;
-                put(out, Piece::Load(to, space_in(form, *space), a))
-            }
-        },
-        Term::One(op, e, _) => match term_slot(form, t, e) {
-            Some(a) => {
-                put_reads(out, a)?;
-                put(out, Piece::Unary(*op, to, a))
-            }
-            None => {
-                let a = temp_of(form, t, e);
-                term_into(alloc, form, out, t, e, a)?;
-                put(out, Piece::Unary(*op, to, a))
-            }
-        },
+        Term::Kept(e, _, _) => {
+            let a = term_value(alloc, form, out, t, e)?;
+            put(out, Piece::Binary(Op2::Subpiece, to, a, number(0)))
+        }
+        Term::Dropped(e, n, _) => {
+            let a = term_value(alloc, form, out, t, e)?;
+            let dropped = number(u64::from(*n));
+            put(out, Piece::Binary(Op2::Subpiece, to, a, dropped))
+        }
+        Term::Bits(e, span, _) => {
+            let a = term_value(alloc, form, out, t, e)?;
+            bits_into(out, t, a, *span, to)
+        }
+        Term::Load(space, _, e, _) => {
+            let a = term_value(alloc, form, out, t, e)?;
+            put(out, Piece::Load(to, space_in(form, *space), a))
+        }
+        Term::One(op, e, _) => {
+            let a = term_value(alloc, form, out, t, e)?;
+            put(out, Piece::Unary(*op, to, a))
+        }
         Term::Two(op, order, a, b, _) => {
             let above = next_temp(t)?;
-            match term_slot(form, t, a) {
-                Some(va) => {
-                    put_reads(out, va)?;
-                    match term_slot(form, above, b) {
-                        Some(vb) => {
-                            put_reads(out, vb)?;
-                            put_ordered(out, *op, *order, to, va, vb)
-                        }
-                        None => {
-                            let vb = temp_of(form, above, b);
-                            term_into(alloc, form, out, above, b, vb)?;
-                            put_ordered(out, *op, *order, to, va, vb)
-                        }
-                    }
-                }
-                None => {
-                    let va = temp_of(form, t, a);
-                    term_into(alloc, form, out, t, a, va)?;
-                    match term_slot(form, above, b) {
-                        Some(vb) => {
-                            put_reads(out, vb)?;
-                            put_ordered(out, *op, *order, to, va, vb)
-                        }
-                        None => {
-                            let vb = temp_of(form, above, b);
-                            term_into(alloc, form, out, above, b, vb)?;
-                            put_ordered(out, *op, *order, to, va, vb)
-                        }
-                    }
-                }
-            }
+            let a = term_value(alloc, form, out, t, a)?;
+            let b = term_value(alloc, form, out, above, b)?;
+            put_ordered(out, *op, *order, to, a, b)
         }
-        Term::User(op, es, _) => {
-            let es = es.as_slice();
-            let mut inputs = Vec::new(alloc);
-            let mut free = t;
-            'arguments: for index in 0..es.len() {
-                match term_slot(form, free, &es[index]) {
-                    Some(a) => {
-                        put_reads(out, a)?;
-                        inputs.push(a)?;
-                    }
-                    None => {
-                        let a = temp_of(form, free, &es[index]);
-                        term_into(alloc, form, out, free, &es[index], a)?;
-                        inputs.push(a)?;
-                    }
-                }
-                free = next_temp(free)?;
-            }
-            put(out, Piece::User(*op, inputs))
-        }
+        Term::User(op, es, _) => user_into(alloc, form, out, t, *op, es),
     }
 }
 
 /// An expression is read: the pieces before, and the slot that has its value.
+#[cycle(terms)]
 pub(crate) fn term_value(
     alloc: Global,
     form: &Form<'_>,
@@ -209,18 +124,20 @@ pub(crate) fn term_value(
 }
 
 /// A user operation, behind the pieces of its arguments.
-pub(crate) fn user_call(
+#[cycle(terms)]
+pub(crate) fn user_into(
     alloc: Global,
     form: &Form<'_>,
     out: &mut Vec<Piece>,
+    t: u32,
     op: UserId,
     es: &[Term],
 ) -> Result<(), AllocError>
     ensures { OnOk result (pieces_of out.new.items ≡ pieces_of out.old.items
-        ++ p.user_pieces (form_of form.now) op.0 (chain (terms_of es.now))) }
+        ++ p.user_pieces (form_of form.now) t op.0 (chain (terms_of es.now))) }
 {
     let mut inputs = Vec::new(alloc);
-    let mut free: u32 = 0;
+    let mut free = t;
     'arguments: for index in 0..es.len() {
         let a = term_value(alloc, form, out, free, &es[index])?;
         inputs.push(a)?;
