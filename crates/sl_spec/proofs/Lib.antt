@@ -1,4 +1,5 @@
 pub mod FieldLemmas
+mod AttachmentLemmas
 mod BegunLemmas
 pub mod KeyedLemmas
 pub mod SeenLemmas

@@ -1,11 +1,9 @@
-use Rattle.std.proofs.Common.{ℕ, List, nat_eq, ap, ◌∙◌}
-use Rattle.sl_spec.specs.Attachments.{is_attached}
+use Rattle.std.proofs.Common.{nat_eq, is_some, ap, ◌∙◌}
 use Rattle.sl_spec.specs.Tables.{Attached}
-use Rattle.sl_spec.proofs.KeyedLemmas.{entry_values, has_is}
+use Rattle.sl_spec.proofs.AttachmentLemmas.{copied_some, some_found}
 use Rattle.sl_spec.proofs.attachments.Attachments.has.Goals as goal
 
 pub returns : goal.returns
 returns c =
-    let es = c.self.inside.by_field.entries in
-    c.contains_key.ensures ∙ has_is (λ (k : ℕ). k) (λ (a : Attached). a.field) (nat_eq c.number.result) es c.self.invariant
-    ∙ ap (λ (f : ℕ). is_attached f (entry_values es)) c.number.ensures ∙ ap (λ (xs : List Attached). is_attached c.args.field xs) c.self.view_is
+    c.is_some.ensures ∙ copied_some c.get.result ∙ ap is_some c.get.ensures
+    ∙ some_found (λ (a : Attached). nat_eq c.args.field a.field) c.args.self.now
