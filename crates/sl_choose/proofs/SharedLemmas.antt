@@ -9,6 +9,7 @@ use Rattle.std.proofs.lemmas.Nat.{and-not, and_assoc, and_comm, and_le_l}
 use Rattle.std.proofs.lemmas.Nat.Bits.{bit_at_and, bit_at_or, bit_at-lt, bit_at-pow_other, bit_at-pow_same, bit_at-trailing_zeros, bit_at-zero, same_from_bits}
 use Rattle.std.proofs.lemmas.Bool.{cases_lt}
 use Rattle.std.proofs.lemmas.List.Elements.{at_read}
+use Rattle.sl_cube.specs.Points.{InRange}
 use Rattle.sl_cube.specs.declared.Cube.{Cube}
 use Rattle.sl_cube.specs.declared.Point.{Point}
 use Rattle.sl_choose.specs.declared.Entry.{Entry}
@@ -52,7 +53,7 @@ all_in w n within =
 -- ---- one more entry
 
 pub record SharedFirst (entries : List Entry) (s : Shared) (n : ℕ) : Type 0 where
-  pub fixed : (bits : Point) → bits.bytes < 2 ^ 128 → bits.context < 2 ^ 64 → AllCover entries bits → HasAll s.fixed bits
+  pub fixed : (bits : Point) → InRange bits → AllCover entries bits → HasAll s.fixed bits
   pub some : (bits : Point) → HasNone s.some bits → (k : ℕ) → k < n → HoldsAt (λ (e : Entry). SetsNone e.cube bits) entries k
   pub all : (bits : Point) (k : ℕ) → k < n → HoldsAt (λ (e : Entry). SetsNone e.cube bits → HasNone s.all bits) entries k
 
@@ -65,7 +66,7 @@ nothing = record {
 
 pub shared_none : (entries : List Entry) (s : Shared) → s ≡ nothing → SharedFirst entries s 0
 shared_none entries s is = record {
-  fixed = λ bits bytes context cover. subst (λ (x : Shared). HasAll x.fixed bits) (sym is) (all_in 128 bits.bytes bytes, all_in 64 bits.context context);
+  fixed = λ bits range cover. subst (λ (x : Shared). HasAll x.fixed bits) (sym is) (all_in 128 bits.bytes range.0, all_in 64 bits.context range.1);
   some = λ bits none k below. absurd (omega arith);
   all = λ bits k below. absurd (omega arith);
 }
@@ -98,7 +99,7 @@ none_come s t c bits joins none = (
 pub shared_more : (entries : List Entry) (s t : Shared) (e : Entry) (n : ℕ) → n < length entries → e ≡ get_or entries n e → Joins s e.cube t
     → SharedFirst entries s n → SharedFirst entries t (n + 1)
 shared_more entries s t e n below is joins first = record {
-  fixed = λ bits bytes context cover. has_more s t e.cube bits joins (first.fixed bits bytes context cover) (cover e (n, below, sym is));
+  fixed = λ bits range cover. has_more s t e.cube bits joins (first.fixed bits range cover) (cover e (n, below, sym is));
   some = λ bits none.
       let less = some_less s t e.cube bits joins none in
       below_more _ _ (first.some bits less.0) (at_read entries (λ (x : Entry). SetsNone x.cube bits) n e below is less.1);
@@ -169,7 +170,7 @@ bit_fits k w below = pow-lt below
 pub none_byte : (entries : List Entry) (s : Shared) (n k : ℕ) → n ≤ 128 → IsShared entries s → HasNoneBefore byte_bit s n → k < n → IsForced entries (byte_bit k) → ⊥
 none_byte entries s n k most shared none below forced =
     none k below (record {
-      fixed = shared.fixed (byte_bit k) (bit_fits k 128 (omega arith)) (omega arith) forced.all;
+      fixed = shared.fixed (byte_bit k) (bit_fits k 128 (omega arith), omega arith) forced.all;
       some = shared.some (byte_bit k) forced.set;
       all = shared.all (byte_bit k) forced.clear;
     })
@@ -177,7 +178,7 @@ none_byte entries s n k most shared none below forced =
 pub none_context : (entries : List Entry) (s : Shared) (n k : ℕ) → n ≤ 64 → IsShared entries s → HasNoneBefore context_bit s n → k < n → IsForced entries (context_bit k) → ⊥
 none_context entries s n k most shared none below forced =
     none k below (record {
-      fixed = shared.fixed (context_bit k) (omega arith) (bit_fits k 64 (omega arith)) forced.all;
+      fixed = shared.fixed (context_bit k) (omega arith, bit_fits k 64 (omega arith)) forced.all;
       some = shared.some (context_bit k) forced.set;
       all = shared.all (context_bit k) forced.clear;
     })

@@ -1,5 +1,6 @@
 -- step: what the cubes of entries have in common, and what it tells of bits.
-use Rattle.std.specs.Prelude.{◌≡◌, ℕ, ◌<◌, ◌^◌, List, bit_and, bit_or}
+use Rattle.std.specs.Prelude.{◌≡◌, ℕ, ◌<◌, List, bit_and, bit_or}
+use Rattle.sl_cube.specs.Points.{InRange}
 use Rattle.sl_cube.specs.declared.Cube.{Cube}
 use Rattle.sl_cube.specs.declared.Point.{Point}
 use Rattle.sl_choose.specs.declared.Entry.{Entry}
@@ -20,7 +21,7 @@ pub record Joins (s : Shared) (c : Cube) (t : Shared) : Type 0 where
 
 -- What holds of the bits of all cubes, and of some cube, shows in what they have in common.
 pub record IsShared (entries : List Entry) (s : Shared) : Type 0 where
-  pub fixed : (bits : Point) → bits.bytes < 2 ^ 128 → bits.context < 2 ^ 64 → AllCover entries bits → HasAll s.fixed bits
+  pub fixed : (bits : Point) → InRange bits → AllCover entries bits → HasAll s.fixed bits
   pub some : (bits : Point) → SomeSet entries bits → HasNone s.some bits → ⊥
   pub all : (bits : Point) → SomeClear entries bits → HasNone s.all bits
 

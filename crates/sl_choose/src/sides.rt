@@ -1,10 +1,13 @@
 //! Entries at the two sides of bits.
 
 ghost use Rattle.std.specs.Prelude.{◌≡◌, ◌↔◌, ◌≤◌, IsTrue, IfOk, MatchOption, length};
+ghost use Rattle.sl_cube.specs.Points.{InRange};
 ghost use Rattle.sl_cube.specs.Search.{Lacks};
 ghost use Rattle.sl_choose.specs.Picked.{lacks};
 ghost use Rattle.sl_choose.specs.Shared.{IsShared};
-ghost use Rattle.sl_choose.specs.Sides.{SetsNone, Covers, IsPut, IsSides, IsForced, HasNoForced, HasNoForcedByte, HasNoForcedContext, IsDivided, AllCover, SomeClear, SomeSet};
+ghost use Rattle.sl_choose.specs.Sides.{SetsNone, Covers, AllCover, SomeClear, SomeSet};
+ghost use Rattle.sl_choose.specs.Sides.{IsPut, IsSides, IsDivided};
+ghost use Rattle.sl_choose.specs.Sides.{IsForced, HasNoForced, HasNoForcedByte, HasNoForcedContext};
 
 use super::shared::{Shared, first_byte_bit, first_context_bit, may_differ, shared_by};
 use super::{Entry, Halves};
@@ -42,7 +45,8 @@ fn put(
     low: &mut Vec<Entry>,
     high: &mut Vec<Entry>,
 ) -> Result<(), AllocError>
-    ensures { IfOk result (λ done. IsPut entry.now bits.now low.old.items high.old.items low.new.items high.new.items) }
+    ensures { IfOk result (λ done. IsPut entry.now bits.now
+        low.old.items high.old.items low.new.items high.new.items) }
 {
     if !sets_none(&entry.cube, bits) {
         high.push(*entry)?;
@@ -116,11 +120,10 @@ fn differ(entries: &[Entry], bits: &Point) -> bool
 
 /// The same, looked at only where it may be by what the cubes have in common.
 fn is_forced(shared: &Shared, entries: &[Entry], bits: &Point) -> bool
-    requires { IsShared entries.now shared.now }
+    requires shared { IsShared entries.now shared.now }
+    requires range { InRange bits.now }
     ensures { IsTrue result ↔ IsForced entries.now bits.now }
 {
-    let _bytes = bits.bytes;
-    let _context = bits.context;
     may_differ(shared, bits) && differ(entries, bits)
 }
 
