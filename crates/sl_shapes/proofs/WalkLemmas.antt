@@ -33,6 +33,10 @@ pub compared_front : (zs xs ys : List ℕ) → compared (zs ++ xs) (zs ++ ys) �
 compared_front [] xs ys = refl
 compared_front (z ∷ zs) xs ys = ap (λ b. cond b (compared (zs ++ xs) (zs ++ ys)) Apart) (same_test z) ∙ compared_front zs xs ys
 
+pub compared_itself : (xs : List ℕ) → compared xs xs ≡ Same
+compared_itself [] = refl
+compared_itself (x ∷ xs) = ap (λ b. cond b (compared xs xs) Apart) (same_test x) ∙ compared_itself xs
+
 pub common_front : (zs xs ys : List ℕ) → common_prefix (zs ++ xs) (zs ++ ys) ≡ zs ++ common_prefix xs ys
 common_front [] xs ys = refl
 common_front (z ∷ zs) xs ys = ap (λ b. cond b (z ∷ common_prefix (zs ++ xs) (zs ++ ys)) []) (same_test z) ∙ ap (λ l. z ∷ l) (common_front zs xs ys)

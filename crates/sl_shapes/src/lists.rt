@@ -56,8 +56,20 @@ impl Lists {
         self.nodes.len()
     }
 
+    /// The number of the last list, where it has this token alone.
+    fn last_of(&self, token: u32) -> Option<usize>
+        ensures there { IsAmong self.now result }
+        ensures list { IfSome result (λ _. list_at self.now result ≡ token ∷ []) }
+    {
+        let last = self.nodes.len().checked_sub(1)?;
+        match self.nodes[last] {
+            Node::One(other) => { if other == token { Some(last) } else { None } }
+            Node::Joined(_, _) => None,
+        }
+    }
+
     /// Adds the list of one token.
-    pub(crate) fn one(&mut self, token: u32) -> Result<TokenList, AllocError>
+    fn add_one(&mut self, token: u32) -> Result<TokenList, AllocError>
         ensures keeps { Keeps self.old self.new }
         ensures there { IfOk result (λ l. IsAmong self.new l.0) }
         ensures list { IfOk result (λ l. list_of self.new l ≡ token ∷ []) }
@@ -65,6 +77,19 @@ impl Lists {
         let number = self.nodes.len();
         self.nodes.push(Node::One(token))?;
         Ok(TokenList(Some(number)))
+    }
+
+    /// The list of one token: the last one, or else a new one.
+    pub(crate) fn one(&mut self, token: u32) -> Result<TokenList, AllocError>
+        ensures keeps { Keeps self.old self.new }
+        ensures there { IfOk result (λ l. IsAmong self.new l.0) }
+        ensures list { IfOk result (λ l. list_of self.new l ≡ token ∷ []) }
+    {
+        let last = self.last_of(token);
+        if last.is_some() {
+            return Ok(TokenList(last));
+        }
+        self.add_one(token)
     }
 
     /// The number of the list, if it has a token.
@@ -112,6 +137,20 @@ impl Lists {
         }
     }
 
+    /// How the lists of two numbers lie to one another.
+    fn compare_at(&self, alloc: Global, first: usize, second: usize) -> Result<Compared, AllocError>
+        requires first { first < length self.now }
+        requires second { second < length self.now }
+        ensures { IfOk result (λ c. c
+            ≡ compared (list_at self.now (Some first)) (list_at self.now (Some second))) }
+    {
+        if first == second {
+            return Ok(Compared::Same);
+        }
+        let found = split_of(alloc, self.nodes.as_slice(), first, second)?;
+        Ok(found.compared)
+    }
+
     /// How two lists lie to one another.
     pub(crate) fn compare(
         &self,
@@ -126,10 +165,7 @@ impl Lists {
         let right = self.some(second);
         match left {
             Some(one) => match right {
-                Some(two) => {
-                    let found = split_of(alloc, self.nodes.as_slice(), one, two)?;
-                    Ok(found.compared)
-                }
+                Some(two) => self.compare_at(alloc, one, two),
                 None => Ok(Compared::SecondShorter),
             },
             None => match right {

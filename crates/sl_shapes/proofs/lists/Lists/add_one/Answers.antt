@@ -1,7 +1,7 @@
 use Rattle.std.proofs.Common.{arith}
 use Rattle.sl_shapes.specs.declared.nodes.Node.TheVariants.{One}
 use Rattle.sl_shapes.proofs.ListLemmas.{added_keeps, added_list, added_there}
-use Rattle.sl_shapes.proofs.lists.Lists.one.Goals as goal
+use Rattle.sl_shapes.proofs.lists.Lists.add_one.Goals as goal
 
 pub returns-clause-keeps : goal.returns-clause-keeps
 returns-clause-keeps c =
