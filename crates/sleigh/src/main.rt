@@ -1,8 +1,9 @@
 //! The program `sleigh`: the tool over the files of the machine, its standard output, and the emulator.
 #![tactic(auto)]
 
+use sl_buffered::BufferedSink;
 use sl_emu::KeepingEmu;
-use sl_outside::{DiskFiles, StdSink};
+use sl_outside::{DiskFiles, SinkError, StdSink};
 use sl_tool::{Status, run_tool};
 use std::io::{self, ErrorKind};
 use std::process::ExitCode;
@@ -25,7 +26,18 @@ fn words(rt: &HostRuntime) -> io::Result<Vec<String>> {
 fn called(rt: &HostRuntime, words: &[String]) -> Status {
     let alloc = rt.alloc();
     let mut files = DiskFiles::new(alloc, rt);
-    let mut out = StdSink::new(rt);
+    let Ok(mut out) = BufferedSink::new(alloc, StdSink::new(rt)) else {
+        return Status::NoMemory;
+    };
     let mut runner = KeepingEmu::new(alloc);
-    run_tool(alloc, words, &mut files, &mut out, &mut runner)
+    let status = run_tool(alloc, words, &mut files, &mut out, &mut runner);
+    // What still waits is written, too, unless the writing has failed already.
+    if status == Status::WriteFault {
+        return status;
+    }
+    match out.flush() {
+        Ok(()) => status,
+        Err(SinkError::Failed) => Status::WriteFault,
+        Err(SinkError::NoMemory) => Status::NoMemory,
+    }
 }

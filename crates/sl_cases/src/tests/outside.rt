@@ -1,3 +1,4 @@
+use sl_buffered::BufferedSink;
 use sl_outside::{DiskFiles, FetchError, Files, MemFiles, MemSink, Sink, SinkError, StdSink};
 use std::test::Fail;
 use std::{env, fs};
@@ -51,6 +52,35 @@ fn a_sink_takes_what_fits(rt: HostRuntime) {
     sink.room(1);
     assert!(rt; sink.put(b"four") == Ok(1));
     assert_eq!(rt; sink.bytes(), b"onetf".as_slice());
+}
+
+#[test]
+fn a_buffered_sink_hands_on_what_it_has_gathered(rt: HostRuntime) -> Result<(), Fail> {
+    let mut sink = BufferedSink::new(rt.alloc(), MemSink::new(rt.alloc()))?;
+    assert!(rt; sink.put(b"one") == Ok(3));
+    assert!(rt; sink.put(b", two") == Ok(5));
+    assert_eq!(rt; sink.sink.bytes(), b"".as_slice());
+    assert!(rt; sink.flush() == Ok(()));
+    assert_eq!(rt; sink.sink.bytes(), b"one, two".as_slice());
+    sink.sink.room(1);
+    assert!(rt; sink.put(b"ab") == Ok(2));
+    assert!(rt; sink.flush() == Err(SinkError::Failed));
+    assert_eq!(rt; sink.sink.bytes(), b"one, twoa".as_slice());
+    sink.sink.room(9);
+    assert!(rt; sink.flush() == Ok(()));
+    assert_eq!(rt; sink.sink.bytes(), b"one, twoab".as_slice());
+    Ok(())
+}
+
+#[test]
+fn a_full_buffer_is_handed_on(rt: HostRuntime) -> Result<(), Fail> {
+    let mut sink = BufferedSink::new(rt.alloc(), MemSink::new(rt.alloc()))?;
+    let piece = Vec::from_elem(rt.alloc(), b'a', 65_537)?;
+    assert!(rt; sink.put(&piece) == Ok(65_536));
+    assert_eq!(rt; sink.sink.bytes().len(), 0);
+    assert!(rt; sink.put(b"b") == Ok(1));
+    assert_eq!(rt; sink.sink.bytes().len(), 65_536);
+    Ok(())
 }
 
 #[test]
