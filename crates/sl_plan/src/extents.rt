@@ -16,15 +16,26 @@ pub enum Extent {
     Greater(Box<Extent>, Box<Extent>),
 }
 
-/// What it comes to; 2^64 - 1 stands for all that is more.
-pub fn extent_of(e: &Extent, lengths: &[u32]) -> u64
+/// What it comes to, whatever it is; 2^64 - 1 stands for all that is more.
+fn reckoned(e: &Extent, lengths: &[u32]) -> u64
     ensures { result ≡ min (extent e.now lengths.now) (2 ^ 64 - 1) }
 {
     match e {
         Extent::Fixed(n) => *n,
         Extent::Operand(index) => u64::from(lengths.get(*index).copied().unwrap_or(0)),
-        Extent::Sum(a, b) => extent_of(a, lengths).saturating_add(extent_of(b, lengths)),
-        Extent::Greater(a, b) => extent_of(a, lengths).max(extent_of(b, lengths)),
+        Extent::Sum(a, b) => reckoned(a, lengths).saturating_add(reckoned(b, lengths)),
+        Extent::Greater(a, b) => reckoned(a, lengths).max(reckoned(b, lengths)),
+    }
+}
+
+/// What it comes to; 2^64 - 1 stands for all that is more. Most are fixed, and known at once.
+#[inline(always)]
+pub fn extent_of(e: &Extent, lengths: &[u32]) -> u64
+    ensures { result ≡ min (extent e.now lengths.now) (2 ^ 64 - 1) }
+{
+    match e {
+        Extent::Fixed(n) => *n,
+        _ => reckoned(e, lengths),
     }
 }
 
