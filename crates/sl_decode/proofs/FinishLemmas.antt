@@ -4,7 +4,7 @@ use Rattle.std.proofs.Common.{drop, get_or, drop-cons, add-one, Result, Ok, Err,
 use Rattle.std.proofs.Common.{arith, append_assoc, append-nil, length-append, zero-add, add-zero}
 use Rattle.sl_contexts.specs.declared.commits.Commit.{Commit}
 use Rattle.sl_decode.specs.Finishing.{Kept, Told, begun_of, commits_kept, finish_kept, keep, kept}
-use Rattle.sl_decode.specs.Finishing.{roots, told_of}
+use Rattle.sl_decode.specs.Finishing.{roots, told, told_of}
 use Rattle.sl_decode.specs.Sprouts.{all_notes, sprout_of, sprouts}
 use Rattle.sl_decode.specs.declared.walk.Sprout.{Sprout}
 use Rattle.sl_decode.proofs.SproutLemmas.{length_sprouts}
@@ -13,11 +13,27 @@ use Rattle.sl_decoding.specs.Actions.{Own, own}
 use Rattle.sl_decoding.specs.Decoding.{Ended, Input, commits_in, commits_of, ended, finish}
 use Rattle.sl_decoding.specs.Decoding.{finish_node, trees_of, values_in}
 use Rattle.sl_decoding.specs.Flat.{all_values, count, entries, entry_of}
-use Rattle.sl_decoding.specs.Outcomes.{◌>>=◌}
+use Rattle.sl_decoding.specs.Outcomes.{◌>>=◌, in_turn}
 use Rattle.sl_decoding.specs.Trees.{Begun, Node, Trees, lengths_of, none, tree, with_values}
 use Rattle.sl_decoding.specs.declared.entries.Entry.{Entry}
+use Rattle.sl_decoding.specs.Values.{Site}
 use Rattle.sl_decoding.specs.declared.faults.Fault.{Fault}
+use Rattle.sl_plan.specs.Plans.{done}
+use Rattle.sl_plan.specs.Steps.{late_step, look_step}
+use Rattle.sl_plan.specs.declared.late.Late.{Late}
+use Rattle.sl_plan.specs.declared.late.Look.{Look}
+use Rattle.sl_plan.specs.declared.plans.Plan.{Plan}
+use Rattle.sl_spec.specs.declared.tables.Tables.{Tables}
 use Rattle.sl_decoding.specs.declared.notes.Noted.{Noted}
+
+-- ---- a node at which nothing is left to do
+
+pub idle_late : (t : Tables) (p : Plan) (s : Site) (notes : List Noted) (commits : List Commit) → (p.looks.items ≡ []) × (p.late.items ≡ [])
+    → told_of ((done t p).late s (own notes [] commits)) ≡ Ok (told [] commits)
+idle_late t p s notes commits idle =
+    let c : Own = own notes [] commits in
+    ap (λ (ls : List Look). told_of (in_turn (look_step t s) ls c >>= in_turn (late_step t s) p.late.items)) idle.0
+    ∙ ap (λ (ls : List Late). told_of (in_turn (late_step t s) ls c)) idle.1
 
 -- ---- fronts of lists
 

@@ -1,13 +1,15 @@
 //! The late moments of a decode: all nodes once more in the same order.
 
-ghost use Rattle.std.specs.Prelude.{◌≡◌, ◌++◌, ◌∷◌, List, length, IfOk, OnOk};
+ghost use Rattle.std.specs.Prelude.{◌≡◌, ◌++◌, ◌∷◌, [], List, length, IsTrue, IfOk, OnOk};
 ghost use Rattle.sl_contexts.specs.declared.commits.Commit.{Commit as CommitOf};
 ghost use Rattle.sl_decode.specs.Finishing as spec;
 ghost use Rattle.sl_decode.specs.Finishing.{begun_of, finish_kept, kept, roots, told, told_of};
 ghost use Rattle.sl_decode.specs.Inputs.{input_of};
 ghost use Rattle.sl_decode.specs.Outcomes.{Gives};
 ghost use Rattle.sl_decode.specs.declared.walk.Sprout.{Sprout as SproutOf};
-ghost use Rattle.sl_decoding.specs.Decoding.{finish_node};
+ghost use Rattle.sl_decoding.specs.Actions as at;
+ghost use Rattle.sl_decoding.specs.Decoding.{finish_node, site_at};
+ghost use Rattle.sl_plan.specs.Plans.{done};
 
 use crate::decode::{Choose, Decode};
 use crate::late::{look_all, tell_all};
@@ -16,7 +18,7 @@ use crate::points::divided;
 use crate::walk::Sprout;
 use sl_contexts::Commit;
 use sl_decoding::{Entry, Noted};
-use sl_plan::Scope;
+use sl_plan::{Plan, Scope};
 use sl_spec::{CtorId, TableId};
 use std::alloc::AllocError;
 
@@ -44,6 +46,16 @@ fn add_lengths(sprouts: &[Sprout], lengths: &mut Vec<u32>) -> Result<(), AllocEr
     Ok(())
 }
 
+/// Adds values, if there are any.
+fn add_values(own: &[i64], values: &mut Vec<i64>) -> Result<(), AllocError>
+    ensures { OnOk result (values.new.items ≡ values.old.items ++ own.now) }
+{
+    if own.is_empty() {
+        return Ok(());
+    }
+    values.extend_from_slice(own)
+}
+
 /// Adds a node with its values.
 fn keep(
     sprout: &Sprout,
@@ -55,7 +67,7 @@ fn keep(
         ≡ spec.keep sprout.now (told own.now ds) (kept nodes.old.items values.old.items cs)) }
 {
     let first = values.len();
-    values.extend_from_slice(own)?;
+    add_values(own, values)?;
     nodes.push(Entry {
         ctor: sprout.ctor,
         at: sprout.at,
@@ -68,11 +80,20 @@ fn keep(
     Ok(())
 }
 
+/// Whether nothing is done at a node of the plan when the whole tree stands.
+fn is_idle(plan: &Plan) -> bool
+    ensures { IsTrue result → (plan.now.looks.items ≡ []) × (plan.now.late.items ≡ []) }
+{
+    plan.looks.is_empty() && plan.late.is_empty()
+}
+
 impl<C: Choose> Decode<'_, '_, C> {
-    /// The late moments of a node: its values are put in place of those of `own`, and commits are
-    /// added.
-    fn finish_one(
+    /// The late moments of a node by the plan of its constructor: values are added to `own`, which
+    /// is empty, and commits to the others.
+    #[tactic(auto, using(crate::proofs::FinishLemmas::idle_late))]
+    fn finish_by(
         &self,
+        plan: &Plan,
         next: u64,
         sprout: &Sprout,
         below: &[Sprout],
@@ -81,15 +102,17 @@ impl<C: Choose> Decode<'_, '_, C> {
         own: &mut Vec<i64>,
         commits: &mut Vec<Commit>,
     ) -> Result<(), DecodeError>
+        requires { own.old.items ≡ [] }
         ensures { Gives (λ _. told own.new.items commits.new.items) result
-            (told_of (finish_node (input_of C.chosen self.now) next
-            (begun_of sprout.now notes.now) (roots 0 below.now) commits.old.items)) }
+            (told_of ((done self.now.tables.now plan.now).late
+            (site_at (input_of C.chosen self.now) sprout.now.ctor sprout.now.at (roots 0 below.now)
+            sprout.now.context next) (at.own notes.now [] commits.old.items))) }
     {
+        if is_idle(plan) {
+            return Ok(());
+        }
         lengths.clear();
-        own.clear();
         add_lengths(below, lengths)?;
-        let CtorId(number) = sprout.ctor;
-        let plan = self.plan_of(sprout.ctor, TableId(number), sprout.at)?;
         let scope = Scope {
             ctor: sprout.ctor,
             bytes: self.bytes,
@@ -110,6 +133,28 @@ impl<C: Choose> Decode<'_, '_, C> {
             commits,
         )?;
         Ok(())
+    }
+
+    /// The late moments of a node: its values are put in place of those of `own`, and commits are
+    /// added.
+    fn finish_one(
+        &self,
+        next: u64,
+        sprout: &Sprout,
+        below: &[Sprout],
+        notes: &[Noted],
+        lengths: &mut Vec<u32>,
+        own: &mut Vec<i64>,
+        commits: &mut Vec<Commit>,
+    ) -> Result<(), DecodeError>
+        ensures { Gives (λ _. told own.new.items commits.new.items) result
+            (told_of (finish_node (input_of C.chosen self.now) next
+            (begun_of sprout.now notes.now) (roots 0 below.now) commits.old.items)) }
+    {
+        own.clear();
+        let CtorId(number) = sprout.ctor;
+        let plan = self.plan_of(sprout.ctor, TableId(number), sprout.at)?;
+        self.finish_by(plan, next, sprout, below, notes, lengths, own, commits)
     }
 
     /// The late moments of all nodes, `next` being the address behind the instruction. Nodes, values

@@ -105,6 +105,11 @@ impl<C: Choose> Decode<'_, '_, C> {
         ensures longer { OnOk result (length sprouts.old.items ≤ length sprouts.new.items) }
     {
         let slots = plan.slots.as_slice();
+        if slots.is_empty() {
+            let length = length_of(&plan.length, &[])?;
+            let after = context;
+            return Ok(Grown { length, after });
+        }
         if slots.len() > MOST_OPERANDS {
             return Err(DecodeError::NoMemory);
         }
