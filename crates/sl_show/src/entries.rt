@@ -76,17 +76,30 @@ fn length_of(nodes: &[Entry], number: usize) -> u64
     }
 }
 
-/// What a number of bytes comes to, by the lengths of these operands; 2^64 - 1 stands for all that
-/// is more.
-pub(crate) fn extent_among(e: &Extent, kids: &[Entry]) -> u64
+/// What a number of bytes comes to, whatever it is, by the lengths of these operands; 2^64 - 1
+/// stands for all that is more.
+fn reckoned(e: &Extent, kids: &[Entry]) -> u64
     ensures { (values : List ℤ) (f : Trees Node) → rows_of values kids.now ≡ rows f
         → result ≡ min (extent e.now (lengths_of f)) (2 ^ 64 - 1) }
 {
     match e {
         Extent::Fixed(n) => *n,
         Extent::Operand(number) => length_of(kids, *number),
-        Extent::Sum(a, b) => extent_among(a, kids).saturating_add(extent_among(b, kids)),
-        Extent::Greater(a, b) => extent_among(a, kids).max(extent_among(b, kids)),
+        Extent::Sum(a, b) => reckoned(a, kids).saturating_add(reckoned(b, kids)),
+        Extent::Greater(a, b) => reckoned(a, kids).max(reckoned(b, kids)),
+    }
+}
+
+/// What a number of bytes comes to, by the lengths of these operands; 2^64 - 1 stands for all that
+/// is more. Most are fixed, and known at once.
+#[inline(always)]
+pub(crate) fn extent_among(e: &Extent, kids: &[Entry]) -> u64
+    ensures { (values : List ℤ) (f : Trees Node) → rows_of values kids.now ≡ rows f
+        → result ≡ min (extent e.now (lengths_of f)) (2 ^ 64 - 1) }
+{
+    match e {
+        Extent::Fixed(n) => *n,
+        _ => reckoned(e, kids),
     }
 }
 
