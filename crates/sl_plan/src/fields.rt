@@ -1,16 +1,20 @@
 //! What fields give.
 
-ghost use Rattle.std.specs.Prelude.{◌≡◌, ◌+◌, ◌-◌, ◌/◌, ◌^◌, min, nat_le, length, take, drop, Ok, Some};
-ghost use Rattle.std.specs.Prelude.{if◌then◌else◌, option_copied, slice_get};
+ghost use Rattle.std.specs.Prelude.{◌≡◌, ◌+◌, ◌-◌, ◌/◌, ◌^◌, ◌<◌, min, nat_le, length, take, drop};
+ghost use Rattle.std.specs.Prelude.{ℕ, List, IsTrue, Ok, Some, if◌then◌else◌, option_copied};
+ghost use Rattle.std.specs.Prelude.{slice_get};
 ghost use Rattle.sl_decoding.specs.Lookups as spec;
 ghost use Rattle.sl_decoding.specs.Lookups.{entry_at, given_by, has_entry, number_at, number_for};
 ghost use Rattle.sl_decoding.specs.Lookups.{shown_by};
 ghost use Rattle.sl_plan.specs.Values.{own_if};
-ghost use Rattle.sl_spec.specs.FieldValues.{token_integer, token_of};
+ghost use Rattle.sl_spec.specs.FieldValues.{bits_of, token_integer, token_of};
 ghost use Rattle.sl_spec.specs.Views.{entries_of};
 
 use sl_decoding::Fault;
 use sl_spec::{Entries, Field, FieldId, Tables, Token};
+
+/// The width in bits of the widest field for which entries are looked for at all its values.
+const WIDEST: u8 = 8;
 
 /// The integer of a token that begins at the place; 0 where it isn't whole there.
 fn whole_number(token: &Token, bytes: &[u8], at: u64) -> u64
@@ -147,5 +151,40 @@ pub fn shown(t: &Tables, id: FieldId, bytes: &[u8], at: u64, context: u64) -> Re
     match t.fields.at(id.number() as usize) {
         Some(of) => shown_by(t, id, of, number_at(t, of, bytes, at, context)),
         None => Ok(()),
+    }
+}
+
+/// Whether each of the first `count` indices has an entry.
+fn has_entries(entries: &Entries, count: u64) -> bool
+    ensures { IsTrue result → (index : ℕ) → index < count
+        → IsTrue (has_entry (entries_of entries.now) index) }
+{
+    'indices: for index in 0..count {
+        if !has_entry(entries, index) {
+            return false;
+        }
+    }
+    true
+}
+
+/// Whether there is an entry at each index that a field's bits can have; `false` of a field that is
+/// wider than `WIDEST`.
+fn has_every_entry(entries: &Entries, of: &Field) -> bool
+    ensures { IsTrue result → (number : ℕ)
+        → IsTrue (has_entry (entries_of entries.now) (bits_of of.now.low of.now.high number)) }
+{
+    let width = of.width();
+    width <= WIDEST && has_entries(entries, 1 << width)
+}
+
+/// Whether the look-up of a field never fails: nothing is attached to it, or its bits have an entry
+/// whatever they are.
+pub(crate) fn is_always_shown(t: &Tables, id: FieldId) -> bool
+    ensures { IsTrue result → (bytes : List ℕ) (at context : ℕ)
+        → spec.shown t.now id bytes at context ≡ Ok tt }
+{
+    match (t.attached.get(id), t.fields.at(id.number() as usize)) {
+        (Some(attached), Some(of)) => has_every_entry(&attached.entries, of),
+        _ => true,
     }
 }

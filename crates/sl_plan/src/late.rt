@@ -14,7 +14,7 @@ ghost use Rattle.sl_plan.specs.Values.{site_of};
 
 use crate::expressions::{address, compile};
 use crate::extents::{Extent, again, extent_of};
-use crate::fields::shown;
+use crate::fields::{is_always_shown, shown};
 use crate::kinds::kind_of;
 use crate::leaves::Leaf;
 use crate::steps::{add, context_field};
@@ -52,8 +52,7 @@ pub fn look_up(t: &Tables, scope: &Scope, look: &Look) -> Result<(), Fault>
     shown(t, look.field, scope.bytes, at, scope.context)
 }
 
-/// The look-up of a leaf.
-#[tactic(auto, using(crate::proofs::LookLemmas::unattached))]
+/// The look-up of a leaf; none where it never fails.
 fn look_of(
     alloc: Global,
     t: &Tables,
@@ -68,7 +67,7 @@ fn look_of(
     }
     match kind_of(t, operands, leaf.name)? {
         Kind::Field(field) => {
-            if t.attached.get(field).is_none() {
+            if is_always_shown(t, field) {
                 return Ok(None);
             }
             let place = again(alloc, &leaf.place)?;
