@@ -22,7 +22,8 @@ use Rattle.sl_order.specs.Orders.{graph}
 use Rattle.sl_rules.specs.Demands.{◌>>=◌}
 use Rattle.sl_section_sizes.proofs.OneLemmas.{one_outcome}
 use Rattle.sl_section_sizes.proofs.SomeLemmas.{some_outcome_of_text}
-use Rattle.sl_section_sizes.proofs.Surely.{Surely, surely, surely_map}
+use Rattle.sl_surely.specs.Surely.{Surely}
+use Rattle.sl_surely.proofs.SurelyLemmas.{surely, surely_map}
 use Rattle.sl_section_sizes.specs.SectionSizes.{AreSizes, IsSizesError}
 use Rattle.sl_section_sizes.specs.declared.faults.SizesError.{SizesError}
 use Rattle.sl_section_sizes.specs.declared.faults.SizesError.TheVariants as sizes

@@ -12,7 +12,8 @@ use Rattle.sl_constructors.specs.Listed.{AreListed}
 use Rattle.sl_cube.specs.Points.{InRange}
 use Rattle.sl_cube.specs.declared.Point.{Point}
 use Rattle.sl_decoding.specs.Laws.{Choice}
-use Rattle.sl_settle.proofs.Surely.{Surely, surely_each, surely_either, surely_map}
+use Rattle.sl_surely.specs.Surely.{Surely}
+use Rattle.sl_surely.proofs.SurelyLemmas.{surely_each, surely_either, surely_map}
 use Rattle.sl_settle.specs.Sets.{HasAt, IsChoice, IsWithin, LiesBelow}
 use Rattle.sl_sound.specs.Soundness.{IsSound, has_in, numbers}
 use Rattle.sl_spec.specs.declared.tables.Tables.{Tables}

@@ -9,7 +9,8 @@ use Rattle.sl_compile.specs.Outcomes.{Binds, Compiles, IsAmbiguous, IsFaulty, Ju
 use Rattle.sl_compile.proofs.ResultLemmas.{err_is, ok_is, ok_not_err}
 use Rattle.sl_compile.proofs.StandLemmas.{stands}
 use Rattle.sl_settle.specs.declared.report.Report.{Report}
-use Rattle.sl_settle.proofs.Surely.{Surely, surely, surely_map, surely_then}
+use Rattle.sl_surely.specs.Surely.{Surely}
+use Rattle.sl_surely.proofs.SurelyLemmas.{surely, surely_map, surely_then}
 use Rattle.sl_shape.specs.declared.faults.Fault.{Fault}
 use Rattle.sl_sound.specs.Soundness.{Stand}
 use Rattle.sl_sound.proofs.SoundLemmas.{Verdict, faulty_not_ambiguous, one_ambiguous, one_fault, some_judgement, sound_not_ambiguous, sound_not_faulty}

@@ -9,7 +9,8 @@ use Rattle.sl_settle.specs.declared.report.Report.{Report}
 use Rattle.sl_settle.proofs.AlikeLemmas.{AreAlike, report_alike, settled_alike}
 use Rattle.sl_settle.proofs.OneReport.{report_is_one, settled_has_no_report}
 use Rattle.sl_settle.proofs.SomeReport.{some_report}
-use Rattle.sl_settle.proofs.Surely.{IsLeastNumber, Surely, surely_each, surely_either, surely_function, surely_least, surely_map, surely_then}
+use Rattle.sl_surely.specs.Surely.{Surely}
+use Rattle.sl_surely.proofs.SurelyLemmas.{IsLeastNumber, surely_each, surely_either, surely_function, surely_least, surely_map, surely_then}
 use Rattle.sl_spec.specs.Tables.{Ctor}
 use Rattle.sl_conflict.specs.Ambiguity.{AppearsBefore, AreSettled, IsFirstAmbiguous, IsOf, IsTableSettled}
 

@@ -6,6 +6,5 @@ pub mod SetLemmas
 pub mod ShiftLemmas
 pub mod ValueLemmas
 pub mod WindowLemmas
-pub mod Surely
 pub mod OneCount
 pub mod SomeCount

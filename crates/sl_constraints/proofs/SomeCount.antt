@@ -6,7 +6,8 @@ use Rattle.sl_blocks.proofs.BlockLemmas.{least_full, least_halves, least_none, n
 use Rattle.sl_constraints.specs.Counts.{HasCount}
 use Rattle.sl_constraints.specs.Values.{Constraint, HoldsOf, width}
 use Rattle.sl_constraints.specs.Windows.{Constrains, HasBitOfField, IsEnd, byte_of}
-use Rattle.sl_constraints.proofs.Surely.{Surely, surely, surely_either, surely_map, surely_then}
+use Rattle.sl_surely.specs.Surely.{Surely}
+use Rattle.sl_surely.proofs.SurelyLemmas.{surely, surely_either, surely_map, surely_then}
 use Rattle.sl_spec.specs.FieldValues.{token_of}
 use Rattle.sl_spec.specs.Tables as spec
 use Rattle.sl_word.specs.declared.word.Endian.{Endian}

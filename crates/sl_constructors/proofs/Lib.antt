@@ -5,4 +5,3 @@ pub mod NumberLemmas
 pub mod OperandLemmas
 mod RowTheorems
 pub mod TableLemmas
-pub mod ValueLemmas

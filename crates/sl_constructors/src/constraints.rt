@@ -1,80 +1,16 @@
 //! The values of expressions in constraints: rule 20.
 
-ghost use Rattle.std.specs.Prelude.{◌≡◌, pos};
+ghost use Rattle.std.specs.Prelude.{◌≡◌};
 ghost use Rattle.sl_ast.specs.Views.{expression_of, head_of, pattern_of};
 ghost use Rattle.sl_constructors.specs.ConstraintValues.{both, constraint_value, has_values};
-ghost use Rattle.sl_constructors.specs.ConstraintValues.{left_by, prefix_value, quotient, right_by};
-ghost use Rattle.sl_constructors.specs.ConstraintValues.{value_of, wrapped};
 ghost use Rattle.sl_constructors.specs.Blocks.{head_has_values};
 ghost use Rattle.sl_spec.specs.Unfolded.{placed};
 
 use sl_ast::constructors::Head;
-use sl_ast::expressions::{BinaryOp, Expr, PrefixOp};
+use sl_ast::expressions::Expr;
 use sl_ast::patterns::Pattern;
+use sl_operators::{literal, prefix_value, value_of};
 use sl_spec::Unfolded;
-
-/// A literal in 64-bit two's complement.
-fn literal(n: u64) -> i64
-    ensures { result ≡ wrapped (pos n) }
-{
-    n.cast_signed()
-}
-
-/// The quotient rounded toward zero, in 64-bit two's complement; none by 0.
-fn quotient(a: i64, b: i64) -> Option<i64>
-    ensures { result ≡ quotient a b }
-{
-    if b == 0 {
-        None
-    } else {
-        Some(a.wrapping_div(b))
-    }
-}
-
-/// A number whose bits are moved up; 0 from 64 places on.
-fn left_by(a: i64, amount: u64) -> i64
-    ensures { result ≡ left_by a amount }
-{
-    if amount < 64 { a << amount } else { 0 }
-}
-
-/// A number whose bits are moved down with its sign kept.
-fn right_by(a: i64, amount: u64) -> i64
-    ensures { result ≡ right_by a amount }
-{
-    if amount < 64 { a >> amount } else { a >> 63 }
-}
-
-/// What an operator gives, in 64-bit two's complement. None where a divisor is 0, and where neither
-/// constraints nor actions have such an operator.
-#[tactic(auto, using(std::proofs::lemmas::Int::wraps))]
-fn value_of(op: BinaryOp, a: i64, b: i64) -> Option<i64>
-    ensures { result ≡ value_of op a b }
-{
-    match op {
-        BinaryOp::Multiply => Some(a.wrapping_mul(b)),
-        BinaryOp::Divide => quotient(a, b),
-        BinaryOp::Add => Some(a.wrapping_add(b)),
-        BinaryOp::Subtract => Some(a.wrapping_sub(b)),
-        BinaryOp::ShiftLeft => Some(left_by(a, b.cast_unsigned())),
-        BinaryOp::ShiftRight => Some(right_by(a, b.cast_unsigned())),
-        BinaryOp::And | BinaryOp::WordAnd => Some(a & b),
-        BinaryOp::Xor | BinaryOp::WordXor => Some(a ^ b),
-        BinaryOp::Or | BinaryOp::WordOr => Some(a | b),
-        _ => None,
-    }
-}
-
-#[tactic(auto, using(std::proofs::lemmas::Int::wraps))]
-fn prefix_value(op: PrefixOp, a: i64) -> Option<i64>
-    ensures { result ≡ prefix_value op a }
-{
-    match op {
-        PrefixOp::Negate => Some(a.wrapping_neg()),
-        PrefixOp::Complement => Some(!a),
-        PrefixOp::Not => None,
-    }
-}
 
 /// The value of an expression in 64-bit two's complement. None where a divisor is 0, and of a form
 /// that constraints lack.

@@ -28,7 +28,8 @@ use Rattle.sl_lister.proofs.AcceptedLemmas.{accepted, aligned}
 use Rattle.sl_lister.specs.Laws.{ListingIsOne, SomeListing}
 use Rattle.sl_lister.specs.Listing.{Image, IsListing, subject}
 use Rattle.sl_lister.specs.Writing.{Writes, WritesFront}
-use Rattle.sl_settle.proofs.Surely.{Surely, surely_map}
+use Rattle.sl_surely.specs.Surely.{Surely}
+use Rattle.sl_surely.proofs.SurelyLemmas.{surely_map}
 use Rattle.sl_conflict.proofs.NumberLemmas.{numbers_are_of}
 use Rattle.sl_shape.specs.Readings.{HasPoint}
 use Rattle.sl_spec.specs.Tables.{Ctor}

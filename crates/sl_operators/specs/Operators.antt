@@ -1,5 +1,5 @@
--- meaning: the operators of disassembly actions, in 64-bit two's complement (SLEIGH manual,
--- "Disassembly Actions Section").
+-- meaning: the operators of constraints and of disassembly actions, in 64-bit two's complement
+-- (SLEIGH manual, "Constraints" and "Disassembly Actions Section").
 use Rattle.std.specs.Prelude.{ℕ, ℤ, pos, negsuc, neg_ℤ, ◌+ℤ◌, ◌-ℤ◌, ◌*ℤ◌, ◌==◌, nat_lt}
 use Rattle.std.specs.Prelude.{Option, Some, None, if◌then◌else◌}
 use Rattle.std.specs.Int.{w64, cast_unsigned, int_wrap, int_wrapping_div, int_shl, int_shr}
@@ -25,7 +25,8 @@ left_by a n = if nat_lt n 64 then int_shl w64 a n else pos 0
 abbrev pub right_by : ℤ → ℕ → ℤ
 right_by a n = if nat_lt n 64 then int_shr a n else int_shr a 63
 
--- what an operator gives; none where a divisor is 0, or where actions have no such operator
+-- what an operator gives; none where a divisor is 0, or where constraints and actions have no such
+-- operator
 abbrev pub value_of : BinaryOp → ℤ → ℤ → Option ℤ
 value_of op.Multiply a b = Some (wrapped (a *ℤ b))
 value_of op.Divide a b = quotient a b

@@ -1,4 +1,4 @@
-//! The operators of disassembly actions, on 64-bit two's complement.
+//! The operators of constraints and of disassembly actions, on 64-bit two's complement.
 #![tactic(auto)]
 
 mod operators;

@@ -1,4 +1,4 @@
-//! The operators of disassembly actions.
+//! The operators of constraints and of disassembly actions.
 
 ghost use Rattle.std.specs.Prelude.{◌≡◌, pos};
 ghost use Rattle.sl_operators.specs.Operators.{left_by, prefix_value, quotient, right_by};
@@ -38,8 +38,8 @@ fn right_by(a: i64, amount: u64) -> i64
     if amount < 64 { a >> amount } else { a >> 63 }
 }
 
-/// What an operator gives, in 64-bit two's complement. None where a divisor is 0, and where actions
-/// have no such operator.
+/// What an operator gives, in 64-bit two's complement. None where a divisor is 0, and where neither
+/// constraints nor actions have such an operator.
 #[tactic(auto, using(std::proofs::lemmas::Int::wraps))]
 pub fn value_of(op: BinaryOp, a: i64, b: i64) -> Option<i64>
     ensures { result ≡ value_of op a b }

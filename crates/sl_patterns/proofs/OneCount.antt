@@ -4,7 +4,8 @@ use Rattle.sl_ast.specs.Trees as t
 use Rattle.sl_constraints.specs.Values.{Constraint}
 use Rattle.sl_constraints.proofs.OneCount.{count_one}
 use Rattle.sl_constraints.proofs.SomeCount.{some_count}
-use Rattle.sl_constraints.proofs.Surely.{Surely, surely, surely_map, surely_then}
+use Rattle.sl_surely.specs.Surely.{Surely}
+use Rattle.sl_surely.proofs.SurelyLemmas.{surely, surely_map, surely_then}
 use Rattle.sl_patterns.specs.Counts.{HasPatternCount, IfCount, joined_count}
 use Rattle.sl_patterns.specs.Patterns.{constraint_of}
 use Rattle.sl_spec.specs.declared.tables.Tables.{Tables}

@@ -9,7 +9,8 @@ use Rattle.sl_cube.specs.Points.{InRange, IsIn}
 use Rattle.sl_cube.specs.declared.Cube.{Cube}
 use Rattle.sl_cube.specs.declared.Point.{Point}
 use Rattle.sl_cube.proofs.BitLemmas.{and_within}
-use Rattle.sl_constraints.proofs.Surely.{Surely, below_next, surely, surely_either, surely_map, surely_then}
+use Rattle.sl_surely.specs.Surely.{Surely}
+use Rattle.sl_surely.proofs.SurelyLemmas.{below_next, surely, surely_either, surely_map, surely_then}
 use Rattle.sl_patterns.specs.Hulls.{IsHullOrNone, IsHullWhere, SharedWhere}
 
 -- ---- a mask of the numbers for which something holds

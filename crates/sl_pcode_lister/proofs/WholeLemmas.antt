@@ -22,7 +22,7 @@ use Rattle.sl_pcode_lister.proofs.StringLemmas.{some_names}
 use Rattle.sl_pcode_lister.specs.Listing.{BeginsPcodeListing, Decodes, IsBehind, IsPcodeListing, Shown, bytes_from, misaligned, operations, undecoded, unimplemented}
 use Rattle.sl_pcode_lister.specs.Names.{AreNames, op_lines, unimplemented_line}
 use Rattle.sl_pcode_lister.specs.WholeLaws.{BegunGoOn, SomePcodeListing}
-use Rattle.sl_settle.proofs.Surely.{surely_map}
+use Rattle.sl_surely.proofs.SurelyLemmas.{surely_map}
 use Rattle.sl_spec.specs.declared.tables.Tables.{Tables}
 use Rattle.sl_word.specs.declared.word.Size.{Size}
 

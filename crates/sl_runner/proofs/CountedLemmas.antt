@@ -21,7 +21,8 @@ use Rattle.sl_pcode.specs.declared.operation.Op.{Op}
 use Rattle.sl_runner.proofs.LawLemmas.{some_text}
 use Rattle.sl_runner.specs.CountedLaws.{SomeCountedRun, SomeCountedRunText}
 use Rattle.sl_runner.specs.Running.{IsCountedRunText, Outcome, RunsCountedTo, opened}
-use Rattle.sl_settle.proofs.Surely.{Surely, surely_map}
+use Rattle.sl_surely.specs.Surely.{Surely}
+use Rattle.sl_surely.proofs.SurelyLemmas.{surely_map}
 use Rattle.sl_spec.specs.declared.tables.Tables.{Tables}
 use Rattle.sl_steps.proofs.StepLemmas.{some_step}
 use Rattle.sl_steps.specs.Counted.{Counts, IsCountedRun, ended, executed, faulted, off, ran, undecoded, unimplemented}

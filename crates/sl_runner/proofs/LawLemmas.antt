@@ -14,7 +14,7 @@ use Rattle.sl_runner.proofs.ChangeLemmas.{some_spaces, spaces_are_one}
 use Rattle.sl_runner.specs.Laws.{CountedIsText, RunTextIsOne, SomeRunText}
 use Rattle.sl_runner.specs.RunLines.{counter_line, fault_line, register_lines, steps_line}
 use Rattle.sl_runner.specs.Running.{IsRunText, Outcome, RunsTo, Tells, opened, opening}
-use Rattle.sl_settle.proofs.Surely.{surely_map}
+use Rattle.sl_surely.proofs.SurelyLemmas.{surely_map}
 use Rattle.sl_spec.specs.declared.tables.Tables.{Tables}
 use Rattle.sl_steps.proofs.StepLemmas as steps
 use Rattle.sl_steps.specs.Steps.{IsRun, Machine, StepFault}

@@ -28,7 +28,8 @@ use Rattle.sl_section_sizes.specs.Ordering.{address_of, below, constructors, in_
 use Rattle.sl_section_sizes.specs.SectionSizes.{numbers_by, shaped, unknown}
 use Rattle.sl_section_sizes.specs.declared.faults.SizeFault.{SizeFault}
 use Rattle.sl_section_sizes.specs.declared.faults.SizeFault.TheVariants as fault
-use Rattle.sl_section_sizes.proofs.Surely.{Surely, IsLeastNumber, surely, surely_then, surely_map, surely_either, surely_least}
+use Rattle.sl_surely.specs.Surely.{Surely}
+use Rattle.sl_surely.proofs.SurelyLemmas.{IsLeastNumber, surely, surely_then, surely_map, surely_either, surely_least}
 use Rattle.sl_sizes.specs.Solutions.{Holds, IsAbout, IsFirstClash, IsFirstUnfixed, IsOnlySolution, Meets, Solves, bytes_at}
 use Rattle.sl_sizes.specs.declared.Equation.{Equation}
 use Rattle.sl_sizes.specs.declared.Equation.TheVariants as e

@@ -8,5 +8,4 @@ pub mod AnswerLemmas
 pub mod ReportLemmas
 pub mod AlikeLemmas
 pub mod OneReport
-pub mod Surely
 pub mod SomeReport

@@ -11,7 +11,8 @@ use Rattle.sl_settle.specs.declared.report.Apart.{Apart}
 use Rattle.sl_settle.specs.declared.report.Apart.TheVariants.{Same, Two}
 use Rattle.sl_settle.specs.declared.report.Report.{Report}
 use Rattle.sl_settle.proofs.PairLemmas.{settled_without_pair}
-use Rattle.sl_settle.proofs.Surely.{Surely, IsLeastNumber, surely, surely_then, surely_map, surely_either, surely_function, surely_least, surely_each}
+use Rattle.sl_surely.specs.Surely.{Surely}
+use Rattle.sl_surely.proofs.SurelyLemmas.{IsLeastNumber, surely, surely_then, surely_map, surely_either, surely_function, surely_least, surely_each}
 
 -- ---- points
 

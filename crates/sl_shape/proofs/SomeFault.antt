@@ -8,7 +8,8 @@ use Rattle.sl_ast.specs.declared.patterns.PatternOp.TheVariants.{And, Then, Or}
 use Rattle.sl_constraints.specs.Values.{Constraint}
 use Rattle.sl_constraints.specs.Windows.{IsEnd}
 use Rattle.sl_constraints.proofs.SomeCount.{bytes_in, constrains_within, some_end}
-use Rattle.sl_constraints.proofs.Surely.{Surely, surely, surely_each, surely_either, surely_map, surely_then}
+use Rattle.sl_surely.specs.Surely.{Surely}
+use Rattle.sl_surely.proofs.SurelyLemmas.{surely, surely_each, surely_either, surely_map, surely_then}
 use Rattle.sl_cube.specs.Points.{InRange}
 use Rattle.sl_cube.specs.declared.Cube.{Cube}
 use Rattle.sl_cube.specs.declared.Point.{Point}

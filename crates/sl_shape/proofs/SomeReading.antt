@@ -4,7 +4,8 @@ use Rattle.std.proofs.lemmas.List.{append-nil, length-map, length-set}
 use Rattle.std.specs.List.{AllByRecursion, Any}
 use Rattle.sl_ast.specs.Trees.{Constructor}
 use Rattle.sl_ast.specs.Unfolding.{Placed}
-use Rattle.sl_constraints.proofs.Surely.{Surely, surely, surely_map, surely_then}
+use Rattle.sl_surely.specs.Surely.{Surely}
+use Rattle.sl_surely.proofs.SurelyLemmas.{surely, surely_map, surely_then}
 use Rattle.sl_constructors.specs.Listed.{AreListed}
 use Rattle.sl_cube.specs.declared.Cube.{Cube}
 use Rattle.sl_heights.specs.Heights.{AreHeights}

@@ -23,7 +23,8 @@ use Rattle.sl_spec.specs.Tables.{Ctor}
 use Rattle.sl_settle.specs.declared.CubeSet.{CubeSet}
 use Rattle.sl_settle.specs.declared.report.Report.{Report}
 use Rattle.sl_settle.proofs.AlikeLemmas.{AreAlike}
-use Rattle.sl_settle.proofs.Surely.{Surely, surely, surely_map, surely_then}
+use Rattle.sl_surely.specs.Surely.{Surely}
+use Rattle.sl_surely.proofs.SurelyLemmas.{surely, surely_map, surely_then}
 use Rattle.sl_shape.specs.Readings.{HasPoint, IsShaped}
 use Rattle.sl_shape.specs.Tables.{AreShaped, IsFirstFault}
 use Rattle.sl_shape.specs.declared.faults.Fault.{Fault}

@@ -7,7 +7,8 @@ use Rattle.sl_outside.specs.Causes.{Rose}
 use Rattle.sl_outside.specs.Folder.{Folder}
 use Rattle.sl_outside.specs.Uses.{Names, Asks, AsksFront, UsesFiles, UsesSink}
 use Rattle.sl_preproc.specs.Asks.{AsksFor as AsksForText}
-use Rattle.sl_settle.proofs.Surely.{Surely, surely, surely_map}
+use Rattle.sl_surely.specs.Surely.{Surely}
+use Rattle.sl_surely.proofs.SurelyLemmas.{surely, surely_map}
 use Rattle.sl_tool.specs.Answers.{AsksFrom, Due, Shows, UsesFilesFor, asked_after}
 use Rattle.sl_tool.specs.Answers.AsksFrom.{sound, unsound}
 use Rattle.sl_tool.specs.Outcomes.{FailsToRead, FailsToWrite, Gives, Grew, IsEarly, IsReadFault, Obtains, RanNone, StopsEarly, Streams, Writes, WritesFront}

@@ -10,13 +10,14 @@ use Rattle.sl_pcode_lister.proofs.WholeLemmas.{some_pcode_listing}
 use Rattle.sl_pcode_lister.specs.Listing.{IsPcodeListing}
 use Rattle.sl_runner.proofs.CountedLemmas.{some_counted_outcome, some_counted_text}
 use Rattle.sl_runner.specs.Running.{IsCountedRunText, Outcome, RunsCountedTo}
-use Rattle.sl_settle.proofs.Surely.{surely, surely_map, surely_then}
+use Rattle.sl_surely.proofs.SurelyLemmas.{surely, surely_map, surely_then}
 use Rattle.sl_tool.specs.Answers.{Answers, Shows, counts_of, figures_of, generated, shows_of}
 use Rattle.sl_tool.specs.Endings.{ending_of}
 use Rattle.sl_tool.specs.Generated.{generated_image}
 use Rattle.sl_tool.specs.Lines.{count_line}
 use Rattle.sl_tool.specs.Request.{CheckSpec, Generate, Request, Show, ShowImage, Listing, Operations, Run, spec_of}
-use Rattle.sl_tool.specs.Stage.{HasSomeResult, Surely}
+use Rattle.sl_surely.specs.Surely.{Surely}
+use Rattle.sl_tool.specs.Stage.{HasSomeResult}
 use Rattle.sl_tool.specs.Values.{Compiled, Loaded, Shown, shown}
 use Rattle.sl_tool.specs.declared.refusal.Refusal.{Refusal}
 use Rattle.sl_tool.specs.declared.status.Ending.TheVariants.{Done}

@@ -24,7 +24,8 @@ use Rattle.sl_places.specs.Laws.{IsSpelled}
 use Rattle.sl_places.proofs.Places.{any_have, faults_are_one, trees_have_none}
 use Rattle.sl_preproc.specs.Expanded.{expanded}
 use Rattle.sl_request.specs.Requests.{Target}
-use Rattle.sl_settle.proofs.Surely.{Surely, surely, surely_map}
+use Rattle.sl_surely.specs.Surely.{Surely}
+use Rattle.sl_surely.proofs.SurelyLemmas.{surely, surely_map}
 use Rattle.sl_spec.specs.declared.tables.Tables as spec
 use Rattle.sl_symbols.specs.Symbols.{symbols_of}
 use Rattle.sl_tool.specs.Places.{place_of_byte, place_of_token}

@@ -14,7 +14,8 @@ use Rattle.sl_tool.specs.Lines.{count_line}
 use Rattle.sl_tool.specs.Problems.{refusal_text}
 use Rattle.sl_tool.specs.Request.{Request, CheckSpec, ShowImage, Generate, Show, Listing, Operations, Run, spec_of}
 use Rattle.sl_tool.specs.Shows.{IsOperations, IsRun}
-use Rattle.sl_tool.specs.Stage.{Stage, Surely, Then}
+use Rattle.sl_surely.specs.Surely.{Surely}
+use Rattle.sl_tool.specs.Stage.{Stage, Then}
 use Rattle.sl_tool.specs.Stages.{Loads, Specifies}
 use Rattle.sl_tool.specs.Values.{Compiled, Loaded, Shown}
 use Rattle.sl_tool.specs.declared.refusal.Refusal.{Refusal}

@@ -1,5 +1,6 @@
 -- meaning: stages, each of which makes one value of another or refuses it.
 use Rattle.std.specs.Prelude.{◌≡◌, Result, Ok, Err}
+use Rattle.sl_surely.specs.Surely.{Surely}
 
 -- what becomes of an A: a B, or a refusal
 abbrev pub Stage : Type 0 → Type 0 → Type 0 → Type 1
@@ -13,10 +14,6 @@ pub data Then {E A B C : Type 0} (S : Stage E A B) (T : Stage E B C) (a : A) : R
 -- A value has one result at most.
 abbrev pub HasOneResult : {E A B : Type 0} → Stage E A B → Type 0
 HasOneResult {E = E} {A = A} {B = B} S = (a : A) (r q : Result B E) → S a r → S a q → r ≡ q
-
--- It can't be that there is none.
-abbrev pub Surely : Type 0 → Type 0
-Surely P = (P → ⊥) → ⊥
 
 -- It can't be that the value has no result.
 abbrev pub HasSomeResult : {E A B : Type 0} → Stage E A B → A → Type 0

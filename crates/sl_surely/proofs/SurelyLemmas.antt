@@ -1,10 +1,7 @@
--- What is surely so: it can't be that it isn't.
+-- What is surely so, of what is surely so, and least numbers.
 use Rattle.std.proofs.Common.{◌≡◌, ℕ, zero, suc, ◌<◌, ◌⊎◌, sym, subst, inl, inr, arith}
 use Rattle.std.proofs.lemmas.Bool.{cases_lt}
-
--- It can't be that this isn't so.
-abbrev pub Surely : Type 0 → Type 0
-Surely P = (P → ⊥) → ⊥
+use Rattle.sl_surely.specs.Surely.{Surely}
 
 pub surely : {P : Type 0} → P → Surely P
 surely p = λ none. none p
