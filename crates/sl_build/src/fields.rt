@@ -1,8 +1,6 @@
 //! What fields stand for.
 
-ghost use Rattle.std.specs.Prelude.{◌≡◌, ◌+◌, List, option_and_then, option_copied, slice_get};
-ghost use Rattle.sl_decoding.specs.Lookups.{entry_at};
-ghost use Rattle.sl_decoding.specs.Values.{value_or_zero};
+ghost use Rattle.std.specs.Prelude.{◌≡◌, ◌+◌, List, option_copied};
 ghost use Rattle.sl_emit.specs.Views.{reference_of};
 ghost use Rattle.sl_instruction.specs.Operands as spec;
 ghost use Rattle.sl_plan.specs.Extents.{extent};
@@ -12,23 +10,8 @@ ghost use Rattle.sl_spec.specs.Views.{entries_of};
 use crate::numbers::{nothing, plain};
 use crate::references::storage;
 use sl_emit::Reference;
-use sl_plan::{Extent, extent_of, number_at};
-use sl_spec::{Entries, Field, FieldId, RegId, Register, Tables};
-
-/// The register at an index of a list.
-fn register_at<'t, 'a>(
-    t: &'t Tables<'a>,
-    ids: &[Option<RegId>],
-    index: u64,
-) -> Option<&'t Register<'a>>
-    ensures { option_copied result
-        ≡ option_and_then (λ id. slice_get t.now.registers id) (entry_at ids.now index) }
-{
-    match ids.get(index as usize) {
-        Some(Some(id)) => t.registers.at(id.0 as usize),
-        _ => None,
-    }
-}
+use sl_plan::{Extent, extent_of, number_at, number_of, register_at};
+use sl_spec::{Entries, Field, FieldId, Register, Tables};
 
 fn register_reference(register: Option<&Register>) -> Reference
     ensures { reference_of result ≡ spec.register_reference (option_copied register.entry) }
@@ -36,16 +19,6 @@ fn register_reference(register: Option<&Register>) -> Reference
     match register {
         Some(r) => storage(r.space, r.offset, r.size),
         None => nothing(),
-    }
-}
-
-/// The number at an index of a list; 0 where there is none.
-fn number_in(numbers: &[Option<i64>], index: u64) -> i64
-    ensures { result ≡ value_or_zero (entry_at numbers.now index) }
-{
-    match numbers.get(index as usize) {
-        Some(Some(number)) => *number,
-        _ => 0,
     }
 }
 
@@ -57,7 +30,7 @@ fn entry_reference(t: &Tables, entries: &Entries, index: u64, own: i64) -> Refer
     match entries {
         Entries::Registers(ids) => register_reference(register_at(t, ids, index)),
         Entries::Texts(_) => plain(own),
-        Entries::Values(numbers) => plain(number_in(numbers, index)),
+        Entries::Values(numbers) => plain(number_of(numbers, index)),
     }
 }
 

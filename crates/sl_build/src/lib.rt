@@ -15,4 +15,4 @@ mod unimplemented;
 mod work;
 
 pub use built::{Built, Decoded};
-pub use sections::{Sections, address_sizes};
+pub use sections::Sections;

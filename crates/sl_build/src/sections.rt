@@ -1,6 +1,6 @@
 //! What is known of the sections of a specification, made once.
 
-ghost use Rattle.std.specs.Prelude.{◌≡◌, map, position, IfOk};
+ghost use Rattle.std.specs.Prelude.{◌≡◌, position, IfOk};
 ghost use Rattle.sl_ast.specs.Views.{items_of};
 ghost use Rattle.sl_build.specs.Stands.{StandsFor};
 ghost use Rattle.sl_flat_sections.specs.FlatSections.{flat_sections};
@@ -8,7 +8,6 @@ ghost use Rattle.sl_flat_sections.specs.Views.{scopes_view};
 ghost use Rattle.sl_instruction.specs.Instructions.{default_space, specification_of};
 ghost use Rattle.sl_sizing.specs.Sizings.{lists_of};
 ghost use Rattle.sl_spec.specs.Unfolded.{all_placed};
-ghost use Rattle.sl_word.specs.Sizes.{byte_counts};
 
 use crate::slots::{Slot, all_slots};
 use crate::templates::all_templates;
@@ -17,7 +16,8 @@ use crate::work::small;
 use sl_bind::Bound;
 use sl_flat_sections::{Text, flat_sections, text_of};
 use sl_section::Section;
-use sl_spec::{Space, Tables};
+use sl_section_sizes::address_sizes;
+use sl_spec::Tables;
 use sl_template::Part;
 use sl_word::{AddressSize, Size, SpaceId};
 use std::alloc::{AllocError, Global};
@@ -36,24 +36,6 @@ pub struct Sections<'b, 'a> {
     pub(crate) default: SpaceId,
     /// The templates of all sections, statement by statement.
     pub(crate) templates: Vec<Vec<Part<'a>>>,
-}
-
-/// The size of a space's addresses.
-fn address_size(space: &Space) -> AddressSize
-    ensures { result.bytes ≡ space.now.size }
-{
-    AddressSize { bytes: space.size }
-}
-
-/// The sizes of the addresses of all spaces, in their order. The only error is want of memory.
-pub fn address_sizes(alloc: Global, t: &Tables) -> Result<Vec<AddressSize>, AllocError>
-    ensures { IfOk result (λ v. byte_counts v.items ≡ map (λ z. z.size) t.now.spaces) }
-{
-    let mut sizes = Vec::new(alloc);
-    'spaces: for index in 0..t.spaces.len() {
-        sizes.push(address_size(t.spaces.member(index)))?;
-    }
-    Ok(sizes)
 }
 
 /// The number of the default space.

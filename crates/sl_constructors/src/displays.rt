@@ -10,12 +10,14 @@ use sl_ast::constructors::Shown;
 use sl_rules::NameSet;
 use sl_spec::Tables;
 
-fn is_blank(piece: &Shown) -> bool
+/// Whether a piece is a blank.
+pub fn is_blank(piece: &Shown) -> bool
     ensures { result ≡ is_blank (piece_of piece.now) }
 {
     matches!(piece, Shown::Blank(_))
 }
 
+/// Whether a piece is a `^`.
 fn is_caret(piece: &Shown) -> bool
     ensures { result ≡ is_caret (piece_of piece.now) }
 {
@@ -23,14 +25,14 @@ fn is_caret(piece: &Shown) -> bool
 }
 
 /// Whether a piece goes on a mnemonic.
-fn is_literal(piece: &Shown) -> bool
+pub fn is_literal(piece: &Shown) -> bool
     ensures { result ≡ is_literal (piece_of piece.now) }
 {
     !(is_blank(piece) || is_caret(piece))
 }
 
-/// The index of the first piece that is no blank.
-fn blanks(pieces: &[Shown]) -> usize
+/// The index of the first piece that is no blank, or the number of pieces.
+pub fn blanks(pieces: &[Shown]) -> usize
     ensures most { result ≤ length pieces.now }
     ensures rest { drop result (map piece_of pieces.now)
         ≡ behind is_blank (map piece_of pieces.now) }

@@ -11,5 +11,6 @@ mod whole_text;
 
 pub use constraints::constraint_value;
 pub use constructors::define_constructor;
+pub use displays::{blanks, is_blank, is_literal};
 pub use laws::tables_stand_in_order;
 pub use whole_text::{all_tables, table_name};

@@ -10,7 +10,7 @@ ghost use Rattle.sl_decoding.specs.Actions.{mask_of, with_bits};
 ghost use Rattle.sl_operators.specs.Operators.{wrapped};
 ghost use Rattle.sl_request.specs.Views.{field as word_view};
 
-use sl_plan::mask_in;
+use sl_plan::{greatest, mask_in};
 use sl_request::FieldValue;
 use sl_spec::{Field, Tables};
 
@@ -40,19 +40,6 @@ fn context_field<'t, 'a>(t: &'t Tables<'a>, name: &[u8]) -> Option<&'t Field<'a>
             Some(_) => None,
         },
         None => None,
-    }
-}
-
-/// The greatest number of `width` bits.
-fn greatest(width: u8) -> u64
-    requires some { 1 ≤ width }
-    requires most { width ≤ 64 }
-    ensures { result + 1 ≡ 2 ^ width }
-{
-    if width == 64 {
-        u64::MAX
-    } else {
-        (1u64 << width) - 1
     }
 }
 

@@ -2,7 +2,7 @@
 use Rattle.std.specs.Prelude.{ℕ, List, Option, Some, None, map, option_and_then, option_map}
 use Rattle.std.specs.Prelude.{slice_get, unwrap_or}
 use Rattle.sl_section.specs.Views.{bytes_of}
-use Rattle.sl_word.specs.declared.word.AddressSize.{AddressSize}
+use Rattle.sl_word.specs.Sizes.{byte_counts}
 use Rattle.sl_word.specs.declared.word.Size.{Size}
 use Rattle.sl_equations.specs.declared.known.KnownSizes.{KnownSizes}
 
@@ -15,15 +15,12 @@ address_in spaces default (Some space) = unwrap_or (slice_get spaces space) defa
 abbrev pub size_in : List (Option ℕ) → ℕ → Option ℕ
 size_in sizes i = option_and_then (λ n. n) (slice_get sizes i)
 
-abbrev pub addresses_of : List AddressSize → List ℕ
-addresses_of spaces = map (λ a. a.bytes) spaces
-
 abbrev pub exports_of : List (Option Size) → List (Option ℕ)
 exports_of sizes = map (option_map bytes_of) sizes
 
 -- the size of the addresses of a space
 abbrev pub address_size : KnownSizes → Option ℕ → ℕ
-address_size known = address_in (addresses_of known.spaces.now) known.default.bytes
+address_size known = address_in (byte_counts known.spaces.now) known.default.bytes
 
 -- the size of what an operand exports
 abbrev pub operand_size : KnownSizes → ℕ → Option ℕ

@@ -3,8 +3,8 @@
 ghost use Rattle.std.specs.Prelude.{◌≡◌, IfOk, map, string_bytes};
 ghost use Rattle.sl_pcode_lister.specs.Names.{AreNames};
 
-use sl_build::address_sizes;
 use sl_pcode::Names;
+use sl_section_sizes::address_sizes;
 use sl_spec::{Space, Tables, UserOp};
 use std::alloc::{AllocError, Global};
 

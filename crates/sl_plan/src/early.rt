@@ -32,7 +32,7 @@ pub enum Early {
 }
 
 /// The greatest number of so many bits.
-fn greatest(width: u8) -> u64
+pub fn greatest(width: u8) -> u64
     requires some { 1 ≤ width }
     requires most { width ≤ 64 }
     ensures { result + 1 ≡ 2 ^ width }

@@ -2,16 +2,17 @@
 
 ghost use Rattle.std.specs.Prelude.{◌≡◌, ◌+◌, ◌-◌, ◌/◌, ◌^◌, ◌<◌, min, nat_le, length, take, drop};
 ghost use Rattle.std.specs.Prelude.{ℕ, List, IsTrue, Ok, Some, if◌then◌else◌, option_copied};
-ghost use Rattle.std.specs.Prelude.{slice_get};
+ghost use Rattle.std.specs.Prelude.{option_and_then, slice_get};
 ghost use Rattle.sl_decoding.specs.Lookups as spec;
 ghost use Rattle.sl_decoding.specs.Lookups.{entry_at, given_by, has_entry, number_at, number_for};
 ghost use Rattle.sl_decoding.specs.Lookups.{shown_by};
+ghost use Rattle.sl_decoding.specs.Values.{value_or_zero};
 ghost use Rattle.sl_plan.specs.Values.{own_if};
 ghost use Rattle.sl_spec.specs.FieldValues.{bits_of, token_integer, token_of};
 ghost use Rattle.sl_spec.specs.Views.{entries_of};
 
 use sl_decoding::Fault;
-use sl_spec::{Entries, Field, FieldId, Tables, Token};
+use sl_spec::{Entries, Field, FieldId, RegId, Register, Tables, Token};
 
 /// The width in bits of the widest field for which entries are looked for at all its values.
 const WIDEST: u8 = 8;
@@ -59,6 +60,31 @@ fn entry(numbers: &[Option<i64>], index: u64) -> Option<i64>
     match numbers.get(index as usize) {
         Some(entry) => *entry,
         None => None,
+    }
+}
+
+/// The number at an index of a list; 0 where there is none.
+pub fn number_of(numbers: &[Option<i64>], index: u64) -> i64
+    ensures { result ≡ value_or_zero (entry_at numbers.now index) }
+{
+    match entry(numbers, index) {
+        Some(number) => number,
+        None => 0,
+    }
+}
+
+/// The register at an index of a list, if there is one.
+pub fn register_at<'t, 'a>(
+    t: &'t Tables<'a>,
+    ids: &[Option<RegId>],
+    index: u64,
+) -> Option<&'t Register<'a>>
+    ensures { option_copied result
+        ≡ option_and_then (λ id. slice_get t.now.registers id) (entry_at ids.now index) }
+{
+    match ids.get(index as usize) {
+        Some(Some(id)) => t.registers.at(id.0 as usize),
+        _ => None,
     }
 }
 

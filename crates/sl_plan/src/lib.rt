@@ -13,10 +13,10 @@ mod plans;
 mod steps;
 mod values;
 
-pub use early::{Early, mask_in};
+pub use early::{Early, greatest, mask_in};
 pub use expressions::{address, compile};
 pub use extents::{Extent, again, extent_of, greater, sum};
-pub use fields::{given, number_at, shown};
+pub use fields::{given, number_at, number_of, register_at, shown};
 pub use kinds::operand_named;
 pub use late::{Late, Look, look_up};
 pub use leaves::{Leaf, bare};

@@ -1,8 +1,8 @@
 //! The sizes of the addresses of spaces.
 
 ghost use Rattle.std.specs.Prelude.{◌≡◌, map, IfOk};
-ghost use Rattle.sl_equations.specs.Known.{addresses_of};
 ghost use Rattle.sl_section_sizes.specs.Ordering.{default_size};
+ghost use Rattle.sl_word.specs.Sizes.{byte_counts};
 
 use sl_spec::{Space, Tables};
 use sl_word::AddressSize;
@@ -15,9 +15,9 @@ fn address_size(space: &Space) -> AddressSize
     AddressSize { bytes: space.size }
 }
 
-/// The sizes of the addresses of all spaces.
+/// The sizes of the addresses of all spaces, in their order. The only error is want of memory.
 pub fn address_sizes(alloc: Global, t: &Tables) -> Result<Vec<AddressSize>, AllocError>
-    ensures { IfOk result (λ v. addresses_of v.items ≡ map (λ s. s.size) t.now.spaces) }
+    ensures { IfOk result (λ v. byte_counts v.items ≡ map (λ s. s.size) t.now.spaces) }
 {
     let mut sizes = Vec::new(alloc);
     'spaces: for index in 0..t.spaces.len() {

@@ -10,6 +10,7 @@ mod putting;
 mod rows;
 mod sizes;
 
+pub use addresses::address_sizes;
 pub use faults::{SizeFault, SizesError};
 pub use laws::outcome_is_one;
 pub use sizes::section_sizes;

@@ -15,24 +15,12 @@ ghost use Rattle.sl_spec.specs.declared.tables.Tables.{Tables as TablesOf};
 
 use crate::templates::{Maker, Part, Template};
 use sl_ast::constructors::Shown;
+use sl_constructors::{blanks, is_blank, is_literal};
 use sl_plan::{Leaf, bare, operand_named, slot_number};
 use sl_spec::{Means, Operand};
 use std::alloc::{AllocError, Global};
 
 // ---- pieces
-
-fn is_blank(piece: &Shown) -> bool
-    ensures { result ≡ is_blank (piece_of piece.now) }
-{
-    matches!(piece, Shown::Blank(_))
-}
-
-/// Whether a piece goes on a mnemonic.
-fn is_literal(piece: &Shown) -> bool
-    ensures { result ≡ is_literal (piece_of piece.now) }
-{
-    !matches!(piece, Shown::Blank(_) | Shown::Caret(_))
-}
 
 /// The bytes of a quoted text between its quotes.
 fn unquoted(text: &[u8]) -> &[u8]
@@ -42,20 +30,6 @@ fn unquoted(text: &[u8]) -> &[u8]
         [_, inside @ .., _] => inside,
         _ => &[],
     }
-}
-
-/// The index of the first piece that is no blank.
-fn blanks(pieces: &[Shown]) -> usize
-    ensures most { result ≤ length pieces.now }
-    ensures rest { drop result (map piece_of pieces.now)
-        ≡ behind is_blank (map piece_of pieces.now) }
-{
-    'pieces: for index in 0..pieces.len() {
-        if !is_blank(&pieces[index]) {
-            return index;
-        }
-    }
-    pieces.len()
 }
 
 /// Whether a blank before the piece of an index is shown with it.

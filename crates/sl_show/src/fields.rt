@@ -1,41 +1,14 @@
 //! Fields as text.
 
-ghost use Rattle.std.specs.Prelude.{◌≡◌, ◌++◌, OnOk, option_and_then, option_copied, slice_get};
-ghost use Rattle.sl_decoding.specs.Lookups.{entry_at};
-ghost use Rattle.sl_decoding.specs.Values.{value_or_zero};
+ghost use Rattle.std.specs.Prelude.{◌≡◌, ◌++◌, OnOk};
 ghost use Rattle.sl_show.specs.Texts.{entry_text, field_text, field_text_by};
 ghost use Rattle.sl_spec.specs.Attachments.{attached_to};
 ghost use Rattle.sl_spec.specs.Views.{entries_of};
 
 use crate::numbers::push_number;
-use sl_plan::number_at;
-use sl_spec::{Entries, Field, FieldId, RegId, Register, Tables};
+use sl_plan::{number_at, number_of, register_at};
+use sl_spec::{Entries, Field, FieldId, Tables};
 use std::alloc::AllocError;
-
-/// The register at an index of a list.
-fn register_at<'t, 'a>(
-    t: &'t Tables<'a>,
-    ids: &[Option<RegId>],
-    index: u64,
-) -> Option<&'t Register<'a>>
-    ensures { option_copied result
-        ≡ option_and_then (λ id. slice_get t.now.registers id) (entry_at ids.now index) }
-{
-    match ids.get(index as usize) {
-        Some(Some(id)) => t.registers.at(id.0 as usize),
-        _ => None,
-    }
-}
-
-/// The number at an index of a list; 0 where there is none.
-fn number_of(numbers: &[Option<i64>], index: u64) -> i64
-    ensures { result ≡ value_or_zero (entry_at numbers.now index) }
-{
-    match numbers.get(index as usize) {
-        Some(Some(number)) => *number,
-        _ => 0,
-    }
-}
 
 /// Appends the entry at an index.
 fn push_entry(

@@ -2,7 +2,8 @@
 
 ghost use Rattle.std.specs.Prelude.{◌≡◌, IfErr, IfOk, replicate, None, option_map};
 ghost use Rattle.sl_section.specs.Views.{bytes_of};
-ghost use Rattle.sl_equations.specs.Known.{address_in, address_size, addresses_of, exports_of};
+ghost use Rattle.sl_equations.specs.Known.{address_in, address_size, exports_of};
+ghost use Rattle.sl_word.specs.Sizes.{byte_counts};
 ghost use Rattle.sl_equations.specs.Known.{operand_size, size_in};
 ghost use Rattle.sl_sizing.specs.Constructors.{constructor_of, constructors_of};
 ghost use Rattle.sl_sizing.specs.Sizings as z;
@@ -60,9 +61,9 @@ fn sized_behind(
     constructor: &Constructor<'_, '_>,
 ) -> Result<Vec<Size>, Stop>
     ensures sizes { IfOk result (λ sizes.
-        z.IsSized (address_in (addresses_of spaces.now) default.bytes) (exports_of exports.now)
+        z.IsSized (address_in (byte_counts spaces.now) default.bytes) (exports_of exports.now)
         (constructor_of constructor.now) sizes.items) }
-    ensures stop { IfErr result (z.StopsAt (address_in (addresses_of spaces.now) default.bytes)
+    ensures stop { IfErr result (z.StopsAt (address_in (byte_counts spaces.now) default.bytes)
         (exports_of exports.now) (constructor_of constructor.now)) }
 {
     let operands = match operand_sizes(alloc, exports, constructor.operands) {
@@ -88,12 +89,12 @@ fn next_sizes(
     constructor: &Constructor<'_, '_>,
 ) -> Result<Vec<Size>, Stop>
     ensures sizes { IfOk result (λ sizes.
-        z.IsSized (address_in (addresses_of spaces.now) default.bytes)
+        z.IsSized (address_in (byte_counts spaces.now) default.bytes)
         (exports_of exports.old.items) (constructor_of constructor.now) sizes.items) }
     ensures kept { IfOk result (λ sizes. exports_of exports.new.items
-        ≡ z.after (address_in (addresses_of spaces.now) default.bytes)
+        ≡ z.after (address_in (byte_counts spaces.now) default.bytes)
         (exports_of exports.old.items) (constructor_of constructor.now) sizes.items) }
-    ensures stop { IfErr result (z.StopsAt (address_in (addresses_of spaces.now) default.bytes)
+    ensures stop { IfErr result (z.StopsAt (address_in (byte_counts spaces.now) default.bytes)
         (exports_of exports.old.items) (constructor_of constructor.now)) }
 {
     match sized_behind(alloc, spaces, default, exports.as_slice(), constructor) {
@@ -125,11 +126,11 @@ pub fn all_sizes(
     constructors: &[Constructor<'_, '_>],
 ) -> Result<Sizes, SizingError>
     ensures sizes { IfOk result (λ v.
-        z.AreSized (address_in (addresses_of spaces.now) default.bytes) (replicate tables None)
+        z.AreSized (address_in (byte_counts spaces.now) default.bytes) (replicate tables None)
         (constructors_of constructors.now) (z.lists_of v.sections.items)
         (exports_of v.exports.items)) }
     ensures error { IfErr result (
-        z.IsError (address_in (addresses_of spaces.now) default.bytes) (replicate tables None)
+        z.IsError (address_in (byte_counts spaces.now) default.bytes) (replicate tables None)
         (constructors_of constructors.now)) }
 {
     let mut exports = match unknown(alloc, tables) {

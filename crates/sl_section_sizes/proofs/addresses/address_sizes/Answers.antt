@@ -1,6 +1,6 @@
 use Rattle.std.proofs.Common.{◌<◌, ℕ, length, map, ap, ◌∙◌, arith}
 use Rattle.std.proofs.lemmas.List.{take_all}
-use Rattle.sl_equations.specs.Known.{addresses_of}
+use Rattle.sl_word.specs.Sizes.{byte_counts}
 use Rattle.sl_spec.specs.Tables.{Space}
 use Rattle.sl_tables.proofs.PositionLemmas.{at_slice}
 use Rattle.sl_tables.proofs.RowLemmas.{made_more}
@@ -19,7 +19,7 @@ spaces-preserved c =
     let i = c.spaces.index in
     let s = c.member.result.now in
     let below : i < length spaces = omega (arith, c.spaces-test.true, c.len-index-end.ensures) in
-    ap addresses_of c.in_ok-push.ensures.items
+    ap byte_counts c.in_ok-push.ensures.items
     ∙ made_more bytes size spaces c.spaces.sizes.items c.address_size.result s i below (at_slice spaces i s c.member.ensures) c.address_size.ensures c.spaces.invariant
 
 pub returns : goal.returns

@@ -1,6 +1,7 @@
 use Rattle.std.proofs.Common.{◌≡◌, ◌+◌, ◌++◌, ◌∷◌, [], List, None, replicate, arith, rules, sym, subst}
 use Rattle.std.proofs.lemmas.List.{map-append}
-use Rattle.sl_equations.specs.Known.{address_in, addresses_of, exports_of}
+use Rattle.sl_equations.specs.Known.{address_in, exports_of}
+use Rattle.sl_word.specs.Sizes.{byte_counts}
 use Rattle.sl_word.specs.declared.word.Size.{Size}
 use Rattle.sl_sizing.specs.Constructors.{constructor_of, constructors_of}
 use Rattle.sl_sizing.specs.Sizings as z
@@ -10,7 +11,7 @@ use Rattle.sl_sizing.proofs.sizing.all_sizes.Goals as goal
 
 pub returns-in-Err-next_sizes-clause-error : goal.returns-in-Err-next_sizes-clause-error
 returns-in-Err-next_sizes-clause-error c =
-    let address = address_in (addresses_of c.args.spaces.now) c.args.default.bytes in
+    let address = address_in (byte_counts c.args.spaces.now) c.args.default.bytes in
     let start = replicate c.args.tables None in
     let cs = constructors_of c.args.constructors.now in
     let stop = c.in-Err-next_sizes.stop in
@@ -20,7 +21,7 @@ returns-in-Err-next_sizes-clause-error c =
 
 pub constructors-preserved : goal.constructors-preserved
 constructors-preserved c =
-    let address = address_in (addresses_of c.args.spaces.now) c.args.default.bytes in
+    let address = address_in (byte_counts c.args.spaces.now) c.args.default.bytes in
     let start = replicate c.args.tables None in
     let cs = constructors_of c.args.constructors.now in
     let sizes = c.in-Ok-next_sizes.sizes in
@@ -32,5 +33,5 @@ constructors-preserved c =
 
 pub returns-clause-sizes : goal.returns-clause-sizes
 returns-clause-sizes c =
-    run_ends (address_in (addresses_of c.args.spaces.now) c.args.default.bytes) (replicate c.args.tables None) (constructors_of c.args.constructors.now)
+    run_ends (address_in (byte_counts c.args.spaces.now) c.args.default.bytes) (replicate c.args.tables None) (constructors_of c.args.constructors.now)
     (exports_of c.constructors.exports.items) (z.lists_of c.constructors.sections.items) c.constructors.index (past_map constructor_of c.args.constructors.now c.constructors.index c.constructors-test.false) c.constructors.invariant

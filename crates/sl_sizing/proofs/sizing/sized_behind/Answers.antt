@@ -1,5 +1,6 @@
 use Rattle.std.proofs.Common.{IfErr, IfOk, Option, List, ℕ, ap, ◌∙◌}
-use Rattle.sl_equations.specs.Known.{address_in, addresses_of, exports_of, size_in}
+use Rattle.sl_equations.specs.Known.{address_in, exports_of, size_in}
+use Rattle.sl_word.specs.Sizes.{byte_counts}
 use Rattle.sl_sizing.specs.Constructors.{constructor_of}
 use Rattle.sl_sizing.specs.Sizings as z
 use Rattle.sl_sizing.proofs.ExportLemmas.{by_two}
@@ -7,12 +8,12 @@ use Rattle.sl_sizing.proofs.sizing.sized_behind.Goals as goal
 
 pub returns-clause-sizes : goal.returns-clause-sizes
 returns-clause-sizes c =
-    let address = address_in (addresses_of c.args.spaces.now) c.args.default.bytes in
+    let address = address_in (byte_counts c.args.spaces.now) c.args.default.bytes in
     by_two (λ (os : List (Option ℕ)) (e : Option ℕ). IfOk c.sized.result (λ sizes. z.IsSizedBy address (size_in os) e (constructor_of c.args.constructor.now) sizes.items))
     (ap exports_of c.as_slice-operands.ensures.value ∙ c.in-Ok.ensures) c.size_in-earlier.ensures c.sized.ensures.sizes
 
 pub returns-clause-stop : goal.returns-clause-stop
 returns-clause-stop c =
-    let address = address_in (addresses_of c.args.spaces.now) c.args.default.bytes in
+    let address = address_in (byte_counts c.args.spaces.now) c.args.default.bytes in
     by_two (λ (os : List (Option ℕ)) (e : Option ℕ). IfErr c.sized.result (z.StopsBy address (size_in os) e (constructor_of c.args.constructor.now)))
     (ap exports_of c.as_slice-operands.ensures.value ∙ c.in-Ok.ensures) c.size_in-earlier.ensures c.sized.ensures.stop

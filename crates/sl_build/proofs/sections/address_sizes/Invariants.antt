@@ -1,6 +1,0 @@
-use Rattle.std.proofs.Common.{◌≡◌, map, take}
-use Rattle.sl_word.specs.Sizes.{byte_counts}
-use Rattle.sl_build.proofs.sections.address_sizes.Given as goal
-
-abbrev pub invariant-spaces : goal.invariant-spaces
-invariant-spaces l = byte_counts l.sizes.items ≡ map (λ z. z.size) (take l.index l.t.spaces)
