@@ -20,40 +20,9 @@ use Rattle.sl_pcode.specs.declared.operation.Op.{Op}
 use Rattle.sl_pcode.specs.declared.varnode.Place2.{Place2}
 use Rattle.sl_pcode.specs.declared.varnode.Place2.TheVariants.{Const, Unique, In}
 use Rattle.sl_pcode.proofs.RunLaws.{jump_run-none, jump_run-taken, run_from-end, run_from-op}
+use Rattle.sl_pcode.proofs.StepLaws.{of_does}
 use Rattle.sl_word.specs.Memories.{Memory}
 use Rattle.sl_word.specs.declared.word.Endian.{Endian}
-
--- ---- a function of what an operation comes to
-
-of_choice : {R S : Type 0} (h : R → S) (b : Bool) (x y : R) (x' y' : S) → h x ≡ x' → h y ≡ y' → h (if b then x else y) ≡ (if b then x' else y')
-of_choice h true x y x' y' first second = first
-of_choice h false x y x' y' first second = second
-
-module _ (endian : Endian) (sizes : List ℕ) {R S : Type 0} (h : R → S) (next : Memory → Temporaries → R) (jump : ℕ → R) (leave fault : Ending → R) where
-  of_put : (place : Place2) (offset count number : ℕ) (m : Memory) (t : Temporaries)
-      → h (machine.put_at endian sizes place offset count number m t next) ≡ machine.put_at endian sizes place offset count number m t (λ m' t'. h (next m' t'))
-  of_put Const offset count number m t = refl
-  of_put Unique offset count number m t = refl
-  of_put (In space) offset count number m t = refl
-
-  of_target : (place : Place2) (offset : ℕ) → h (at_target place offset jump leave) ≡ at_target place offset (λ d. h (jump d)) (λ e. h (leave e))
-  of_target Const offset = refl
-  of_target Unique offset = refl
-  of_target (In space) offset = refl
-
-  of_does : (e : Effect) (m : Memory) (t : Temporaries)
-      → h (does endian sizes e m t next jump leave fault) ≡ does endian sizes e m t (λ m' t'. h (next m' t')) (λ d. h (jump d)) (λ x. h (leave x)) (λ x. h (fault x))
-  of_does (Unary f out a) m t = of_put out.place _ _ _ m t
-  of_does (Binary f out a b) m t =
-      of_choice h (has_no_value f (value_of endian sizes b m t)) _ _ _ _ refl (of_put out.place _ _ _ m t)
-  of_does (Load out space pointer) m t = of_put out.place _ _ _ m t
-  of_does (Store space pointer value) m t = refl
-  of_does (Branch target) m t = of_target target.place target.offset
-  of_does (CBranch target condition) m t =
-      of_choice h (value_of endian sizes condition m t == 0) _ _ _ _ refl (of_target target.place target.offset)
-  of_does (Call target) m t = refl
-  of_does (Indirect pointer) m t = refl
-  of_does (UserOp number) m t = refl
 
 -- ---- a value, or the fault in its place
 

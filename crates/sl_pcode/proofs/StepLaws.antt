@@ -35,7 +35,7 @@ module _ (endian : Endian) (sizes : List ℕ) {R S : Type 0} (h : R → S) (next
   of_target Unique offset = refl
   of_target (In space) offset = refl
 
-  of_does : (e : Effect) (m : Memory) (t : Temporaries)
+  pub of_does : (e : Effect) (m : Memory) (t : Temporaries)
       → h (does endian sizes e m t next jump leave fault) ≡ does endian sizes e m t (λ m' t'. h (next m' t')) (λ d. h (jump d)) (λ x. h (leave x)) (λ x. h (fault x))
   of_does (Unary f out a) m t = of_put out.place _ _ _ m t
   of_does (Binary f out a b) m t =
