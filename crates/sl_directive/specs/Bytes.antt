@@ -1,3 +1,4 @@
+-- meaning: classes of bytes: blanks, and what names have.
 use Rattle.std.specs.Prelude.{ℕ, ◌==◌, ◌&&◌, ◌||◌, Bool, not, nat_le}
 
 abbrev pub is_between : ℕ → ℕ → ℕ → Bool

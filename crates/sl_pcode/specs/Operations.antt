@@ -1,3 +1,4 @@
+-- view: a list of operations.
 use Rattle.std.specs.Prelude.{List}
 use Rattle.sl_pcode.specs.declared.list.OpList.{OpList}
 use Rattle.sl_pcode.specs.declared.operation.Op.{Op}

@@ -1,3 +1,4 @@
+-- view: where an expression stands.
 use Rattle.sl_ast.specs.Operators.{Kind, in_section, in_action, in_constraint}
 use Rattle.sl_phrases.specs.declared.operators.Kind as k
 use Rattle.sl_phrases.specs.declared.operators.Kind.TheVariants as v

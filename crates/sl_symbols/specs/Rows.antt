@@ -1,3 +1,4 @@
+-- view: tables of marks and words.
 use Rattle.std.specs.Prelude.{ℕ, List, map}
 use denote.Ref.{Bor}
 

@@ -1,3 +1,4 @@
+-- meaning: how numbers lie in bytes, in either byte order.
 use Rattle.std.specs.Prelude.{◌≡◌, ◌≢◌, ℕ, zero, suc, ◌+◌, ◌-◌, ◌*◌, ◌/◌, ◌%◌, ◌^◌, ◌<◌}
 use Rattle.sl_word.specs.declared.word.Endian.{Endian}
 use Rattle.sl_word.specs.declared.word.Endian.TheVariants.{Little, Big}

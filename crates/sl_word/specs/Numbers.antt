@@ -1,7 +1,6 @@
-use Rattle.std.specs.Prelude.{ℕ, ◌-◌, ◌*◌, ◌%◌, ◌^◌, Bool, ℤ, pos, negsuc, nat_lt, if◌then◌else◌}
-
--- A number of n bytes is below 256 ^ n. It is read as two's complement by taking 256 ^ n from its upper half.
+-- meaning: a number of n bytes is below 256 ^ n. It is read as two's complement by taking 256 ^ n from its upper half.
 -- `negsuc k` is -(k + 1).
+use Rattle.std.specs.Prelude.{ℕ, ◌-◌, ◌*◌, ◌%◌, ◌^◌, Bool, ℤ, pos, negsuc, nat_lt, if◌then◌else◌}
 
 -- What a number of `size` bytes means as a signed number.
 abbrev pub signed_value : ℕ → ℕ → ℤ

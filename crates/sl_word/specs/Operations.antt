@@ -1,3 +1,4 @@
+-- meaning: what operations of p-code make of numbers of so many bytes.
 use Rattle.std.specs.Prelude.{◌≡◌, ℕ, ◌+◌, ◌-◌, ◌*◌, ◌/◌, ◌%◌, ◌^◌, ◌≤◌, ◌==◌, not, pos, ◌-ℤ◌, ◌+ℤ◌, nat_lt, nat_le, bit_and, bit_or, bit_xor, count_ones, int_lt, int_le, int_div, int_rem}
 use Rattle.std.specs.Int.{from_bool, int_shr}
 use Rattle.std.specs.Int.Count.{count_leading_zeros}
