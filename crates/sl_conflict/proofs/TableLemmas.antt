@@ -1,5 +1,5 @@
 -- The tables as one constructor more is put to its table.
-use Rattle.std.proofs.Common.{◌≡◌, ℕ, zero, suc, ◌<◌, ◌≤◌, inl, inr, List, [], ◌∷◌, ◌++◌, map, set, length, get_or, Option, Some, None, Result, Ok, Err, refl, sym, ap, ◌∙◌, subst, arith}
+use Rattle.std.proofs.Common.{◌≡◌, ℕ, ◌<◌, ◌≤◌, inl, inr, List, [], ◌∷◌, ◌++◌, map, set, length, get_or, Option, Some, None, Result, Ok, Err, refl, sym, ap, ◌∙◌, subst, arith}
 use Rattle.std.specs.Prelude.{slice_get, All, OnOk, IfSome, MatchOption}
 use Rattle.std.specs.List.{HoldsAt}
 use Rattle.std.proofs.lemmas.Bool.{cases_eq}
@@ -10,6 +10,7 @@ use Rattle.sl_conflict.specs.Kept.{AreTablesOf, IsTableOf}
 use Rattle.sl_conflict.specs.Rows.{Row, of_table}
 use Rattle.sl_conflict.specs.declared.table_sets.TableSets.{TableSets}
 use Rattle.sl_conflict.proofs.RowLemmas.{more_of, same_of}
+use Rattle.sl_levels.proofs.ListLemmas.{get_set_other, get_set_same}
 
 pub ok_then : {A E : Type 0} {P Q : Type 0} (r : Result A E) → OnOk r P → (P → Q) → OnOk r Q
 ok_then (Ok a) h f = f h
@@ -20,18 +21,6 @@ pub found : {B X : Type 0} (Q : X → Type 0) (now : B → X) (xs : List X) (i :
     → MatchOption r P (λ b. (i < length xs) × HoldsAt (λ y. now b ≡ y) xs i) → All Q xs → IfSome r (λ b. Q (now b))
 found Q now xs i P None h all = tt
 found {X = X} Q now xs i P (Some b) h all = subst (λ (x : X). Q x) (sym (h.1 (now b))) (all i (now b) h.0)
-
-get_set_same : {X : Type 0} (xs : List X) (i : ℕ) (x : X) → i < length xs → slice_get (set xs i x) i ≡ Some x
-get_set_same [] i x below = absurd (omega arith)
-get_set_same (y ∷ xs) zero x below = refl
-get_set_same (y ∷ xs) (suc i) x below = get_set_same xs i x (omega arith)
-
-get_set_other : {X : Type 0} (xs : List X) (i j : ℕ) (x : X) → (j ≡ i → ⊥) → slice_get (set xs i x) j ≡ slice_get xs j
-get_set_other [] i j x other = refl
-get_set_other (y ∷ xs) zero zero x other = absurd (other refl)
-get_set_other (y ∷ xs) zero (suc j) x other = refl
-get_set_other (y ∷ xs) (suc i) zero x other = refl
-get_set_other (y ∷ xs) (suc i) (suc j) x other = get_set_other xs i j x (λ e. other (ap suc e))
 
 -- a table to which a constructor was added
 more_in : (rs : List Row) (r : Row) (t : ℕ) (old new : TableSets) → r.table ≡ t → IsTableOf rs t old

@@ -1,5 +1,6 @@
--- Lists of numbers that grow and shrink at their end.
-use Rattle.std.proofs.Common.{◌≡◌, ℕ, ◌-◌, ◌<◌, ◌≤◌, ◌⊎◌, inl, inr, List, [], ◌∷◌, ◌++◌, length, get_or, take, refl, sym, ap, ◌∙◌, arith}
+-- Lists of numbers that grow and shrink at their end, and lists of which a member is set.
+use Rattle.std.proofs.Common.{◌≡◌, ℕ, zero, suc, ◌-◌, ◌<◌, ◌≤◌, ◌⊎◌, inl, inr, List, [], ◌∷◌, ◌++◌, length, get_or, set, take, Some, refl, sym, ap, ◌∙◌, arith}
+use Rattle.std.specs.Prelude.{slice_get}
 use Rattle.std.specs.List.{Contains}
 use Rattle.std.proofs.lemmas.Bool.{cases_lt}
 use Rattle.std.proofs.lemmas.List.{get_or_append_left, get_or_push, length_push, get_or-take, length-take, get_or_default}
@@ -104,3 +105,17 @@ contained xs x c = (c.0, c.1, sym (get_or_default xs c.0 x 0 c.1) ∙ c.2)
 
 pub has_contained : (xs : List ℕ) (x : ℕ) → Has xs x → Contains xs x
 has_contained xs x c = (c.0, c.1, get_or_default xs c.0 x 0 c.1 ∙ c.2)
+
+-- ---- a member that is set
+
+pub get_set_same : {X : Type 0} (xs : List X) (i : ℕ) (x : X) → i < length xs → slice_get (set xs i x) i ≡ Some x
+get_set_same [] i x below = absurd (omega arith)
+get_set_same (y ∷ xs) zero x below = refl
+get_set_same (y ∷ xs) (suc i) x below = get_set_same xs i x (omega arith)
+
+pub get_set_other : {X : Type 0} (xs : List X) (i j : ℕ) (x : X) → (j ≡ i → ⊥) → slice_get (set xs i x) j ≡ slice_get xs j
+get_set_other [] i j x other = refl
+get_set_other (y ∷ xs) zero zero x other = absurd (other refl)
+get_set_other (y ∷ xs) zero (suc j) x other = refl
+get_set_other (y ∷ xs) (suc i) zero x other = refl
+get_set_other (y ∷ xs) (suc i) (suc j) x other = get_set_other xs i j x (λ e. other (ap suc e))

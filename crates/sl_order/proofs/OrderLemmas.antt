@@ -1,5 +1,5 @@
 -- Tables, constructor after constructor.
-use Rattle.std.proofs.Common.{◌≡◌, ℕ, zero, suc, ◌+◌, ◌<◌, ◌≤◌, ◌==◌, inl, inr, true, false, cond, List, [], ◌∷◌, ◌++◌, Vec, Global, length, get_or, set, take, map, fold, Some, refl, sym, ap, ◌∙◌, subst, arith}
+use Rattle.std.proofs.Common.{◌≡◌, ℕ, suc, ◌+◌, ◌<◌, ◌≤◌, ◌==◌, inl, inr, true, false, cond, List, [], ◌∷◌, ◌++◌, Vec, Global, length, get_or, set, take, map, fold, Some, refl, sym, ap, ◌∙◌, subst, arith}
 use Rattle.std.specs.Prelude.{slice_get}
 use Rattle.std.specs.List.{range_with_len}
 use Rattle.std.proofs.lemmas.Bool.{cases_eq}
@@ -7,21 +7,10 @@ use Rattle.std.proofs.lemmas.List.{append-nil, append_assoc, length-set, map_pus
 use Rattle.std.proofs.lemmas.List.Sums.{fold-append}
 use Rattle.std.proofs.lemmas.Option.{same_Some, slice_get_read, slice_get_within}
 use Rattle.sl_levels.specs.Views.{graph_of}
+use Rattle.sl_levels.proofs.ListLemmas.{get_set_other, get_set_same}
 use Rattle.sl_order.specs.Orders.{graph, met, named_by, tables_in}
 use Rattle.sl_order.specs.Steps.{IsGraphOf}
 use Rattle.sl_spec.specs.Tables.{Ctor}
-
-get_set_same : {X : Type 0} (xs : List X) (i : ℕ) (x : X) → i < length xs → slice_get (set xs i x) i ≡ Some x
-get_set_same [] i x below = absurd (omega arith)
-get_set_same (y ∷ xs) zero x below = refl
-get_set_same (y ∷ xs) (suc i) x below = get_set_same xs i x (omega arith)
-
-get_set_other : {X : Type 0} (xs : List X) (i j : ℕ) (x : X) → (j ≡ i → ⊥) → slice_get (set xs i x) j ≡ slice_get xs j
-get_set_other [] i j x other = refl
-get_set_other (y ∷ xs) zero zero x other = absurd (other refl)
-get_set_other (y ∷ xs) zero (suc j) x other = refl
-get_set_other (y ∷ xs) (suc i) zero x other = refl
-get_set_other (y ∷ xs) (suc i) (suc j) x other = get_set_other xs i j x (λ e. other (ap suc e))
 
 test_is : (a b : ℕ) → a ≡ b → (a == b) ≡ true
 test_is a b e = grind arith

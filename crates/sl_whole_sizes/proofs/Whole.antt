@@ -18,6 +18,7 @@ use Rattle.sl_flat_sections.specs.FlatSections.{Flat}
 use Rattle.sl_heights.specs.Heights.{above, by_height}
 use Rattle.sl_heights.proofs.OneHeight.{member_below}
 use Rattle.sl_levels.specs.Reaching.{successors}
+use Rattle.sl_levels.proofs.ListLemmas.{get_set_other, get_set_same}
 use Rattle.sl_order.specs.Orders.{IsShapingOrder, appearing, graph, has, met, named_by, table_of, tables_in}
 use Rattle.sl_rules.specs.Gathered.{gathered}
 use Rattle.sl_section_sizes.specs.Ordering.{address_of, below, constructors, in_order, numbers, numbers_of, put_all, table_meant, with_section}
@@ -35,18 +36,6 @@ use Rattle.sl_whole_sizes.specs.Laws.{IsExported, SectionsFitTheWhole}
 use Rattle.sl_word.specs.declared.word.Size.{Size}
 
 -- ---- lists
-
-get_set_same : {X : Type 0} (xs : List X) (i : ℕ) (x : X) → i < length xs → slice_get (set xs i x) i ≡ Some x
-get_set_same [] i x h = absurd (let no : ⊥ = omega arith in no)
-get_set_same (y ∷ xs) zero x h = refl
-get_set_same (y ∷ xs) (suc i) x h = get_set_same xs i x (omega arith)
-
-get_set_other : {X : Type 0} (xs : List X) (i j : ℕ) (x : X) → (j ≡ i → ⊥) → slice_get (set xs i x) j ≡ slice_get xs j
-get_set_other [] i j x other = refl
-get_set_other (y ∷ xs) zero zero x other = absurd (other refl)
-get_set_other (y ∷ xs) zero (suc j) x other = refl
-get_set_other (y ∷ xs) (suc i) zero x other = refl
-get_set_other (y ∷ xs) (suc i) (suc j) x other = get_set_other xs i j x (λ e. other (ap suc e))
 
 itself : (n : ℕ) → (n == n) ≡ true
 itself n = grind arith
