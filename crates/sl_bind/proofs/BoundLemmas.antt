@@ -29,7 +29,7 @@ none_late None t next is = (refl, ap (tables_or t) is)
     tables_or t (Err e) = t
 none_late (Some late) t next is = absurd (let e : ⊥ = cc in e)
 
-abbrev known_or : {E : Type 0} → Known → Result Known E → Known
+abbrev pub known_or : {E : Type 0} → Known → Result Known E → Known
 known_or k (Ok next) = next
 known_or k (Err e) = k
 

@@ -111,7 +111,7 @@ grows_by old next new token fs same tables constructors fields are = grows_as ol
 
 -- ---- definitions
 
-abbrev known_in : Known → Result Known ℕ → Known
+abbrev pub known_in : Known → Result Known ℕ → Known
 known_in k (Ok next) = next
 known_in k (Err rule) = k
 
@@ -121,7 +121,7 @@ put k next r is =
     let c = came_of r (λ t. Ok (record k { tables = t })) next is in
     (c.0, c.1, ap (λ r. (known_in next r).tables) c.2)
 
-put_judged : (k next : Known) (ds : List Demand) (t : Tables) → with_tables k (judged ds t) ≡ Ok next → (first_broken ds ≡ None) × (t ≡ next.tables)
+pub put_judged : (k next : Known) (ds : List Demand) (t : Tables) → with_tables k (judged ds t) ≡ Ok next → (first_broken ds ≡ None) × (t ≡ next.tables)
 put_judged k next ds t is =
     let p = put k next (judged ds t) is in
     let e = is_kept ds t p.0 p.1 in

@@ -37,7 +37,7 @@ constructors_both (x ∷ xs) ys =
     ap (λ (l : List (Placed Constructor)). constructor_at x.0 x.1 ++ l) (constructors_both xs ys)
     ∙ sym (append_assoc (constructor_at x.0 x.1) (constructors_in xs) (constructors_in ys))
 
-constructors_last : (xs : List (Placed Item)) (x : Placed Item) → constructors_in (xs ++ x ∷ []) ≡ constructors_in xs ++ constructor_at x.0 x.1
+pub constructors_last : (xs : List (Placed Item)) (x : Placed Item) → constructors_in (xs ++ x ∷ []) ≡ constructors_in xs ++ constructor_at x.0 x.1
 unfolding constructors_in
 constructors_last xs x = constructors_both xs (x ∷ []) ∙ ap (λ (l : List (Placed Constructor)). constructors_in xs ++ l) (append-nil (constructor_at x.0 x.1))
 
@@ -69,12 +69,12 @@ all_begin cs ds c =
 
 -- ---- what is known in a progress
 
-abbrev progress_in : Progress → Result Progress ℕ → Progress
+abbrev pub progress_in : Progress → Result Progress ℕ → Progress
 progress_in p (Ok next) = next
 progress_in p (Err rule) = p
 
 -- what is known is put
-put_known : (p next : Progress) (r : Result Known ℕ) → with_known p r ≡ Ok next → (k : Known) × (r ≡ Ok k) × (k ≡ next.known)
+pub put_known : (p next : Progress) (r : Result Known ℕ) → with_known p r ≡ Ok next → (k : Known) × (r ≡ Ok k) × (k ≡ next.known)
 put_known p next r is =
     let c = came_of r (λ k. Ok (record p { known = k })) next is in
     (c.0, c.1, ap (λ r. (progress_in next r).known) c.2)
@@ -165,7 +165,7 @@ abbrev rule_of : Result Progress Broken → Result Progress ℕ
 rule_of (Ok x) = Ok x
 rule_of (Err e) = Err e.0
 
-unplaced : (n : ℕ) (r : Result Progress ℕ) (p : Progress) → at n r ≡ Ok p → r ≡ Ok p
+pub unplaced : (n : ℕ) (r : Result Progress ℕ) (p : Progress) → at n r ≡ Ok p → r ≡ Ok p
 unplaced n (Ok x) p is = ap rule_of is
 unplaced n (Err e) p is = absurd (cc)
 

@@ -5,7 +5,7 @@ use Rattle.std.specs.List.{list_any}
 use Rattle.std.proofs.lemmas.Bool.{false≢true}
 use Rattle.sl_ast.specs.Trees.{Constructor, Item}
 use Rattle.sl_ast.specs.Unfolding.{Placed, unfolded}
-use Rattle.sl_bind.proofs.BoundLemmas.{is_whole, none_late, tables_listed}
+use Rattle.sl_bind.proofs.BoundLemmas.{is_whole, known_or, none_late, tables_listed}
 use Rattle.sl_bind.proofs.GrowLemmas.{came_of}
 use Rattle.sl_bind.proofs.SideLemmas.{pair_at}
 use Rattle.sl_bind.proofs.TakenLemmas.{some_named}
@@ -40,10 +40,6 @@ no_index {X = X} p xs none = by (position p xs) refl
     by : (o : Option ℕ) → position p xs ≡ o → o ≡ None
     by None is = refl
     by (Some i) is = absurd (false≢true (sym none ∙ some_named p xs i is))
-
-abbrev known_or : {E : Type 0} → Known → Result Known E → Known
-known_or k (Ok next) = next
-known_or k (Err e) = k
 
 taken_stand : (items : List Item) (t : Tables) → taken items ≡ Ok t → NamesStand (constructors_of items) t
 unfolding taken

@@ -1,12 +1,12 @@
 -- Definitions add fields behind those that are there, and none that is named `epsilon`.
-use Rattle.std.proofs.Common.{◌≡◌, ℕ, Bool, true, false, ◌||◌, List, [], ◌∷◌, ◌++◌, map, length, Option, Some, None, Result, Ok, Err, refl, sym, ap, subst, ◌∙◌, append-nil}
+use Rattle.std.proofs.Common.{◌≡◌, ℕ, Bool, true, false, ◌||◌, List, [], ◌∷◌, ◌++◌, map, length, Option, Some, None, Ok, refl, sym, ap, subst, ◌∙◌, append-nil}
 use Rattle.std.specs.Prelude.{codes, not}
 use Rattle.std.specs.List.{list_all}
 use Rattle.std.specs.Str.{bytes_eq}
 use Rattle.std.proofs.lemmas.Bool.{false≢true}
 use Rattle.std.proofs.lemmas.Slice.Eq.{bytes_eq-Decides}
 use Rattle.sl_ast.specs.Trees as tree
-use Rattle.sl_bind.proofs.GrowLemmas.{begins_as, came_of, first_holds, is_kept, put}
+use Rattle.sl_bind.proofs.GrowLemmas.{begins_as, came_of, first_holds, is_kept, known_in, put_judged}
 use Rattle.sl_definitions.proofs.BoolLemmas.{and_parts, not_true}
 use Rattle.sl_definitions.specs.AttachRules.{attach_demands}
 use Rattle.sl_definitions.specs.Beginning.{begin, is_alignment, is_endian, with_alignment, with_endian}
@@ -16,7 +16,7 @@ use Rattle.sl_definitions.specs.NewNames.{are_new, is_defined, is_new, reserved_
 use Rattle.sl_definitions.specs.RegisterRules.{bit_range_demands, register_demands}
 use Rattle.sl_definitions.specs.SpaceRules.{space_demands}
 use Rattle.sl_definitions.specs.declared.known.Known.{Known}
-use Rattle.sl_rules.specs.Demands.{Demand, first_broken, judged}
+use Rattle.sl_rules.specs.Demands.{Demand, judged}
 use Rattle.sl_rules.specs.Names.{Name, are_distinct, is_among}
 use Rattle.sl_spec.specs.Named.{has_name}
 use Rattle.sl_spec.specs.Tables.{Field}
@@ -71,16 +71,6 @@ adds_new old next new token fs same constructors fields are = subst (AddsFields 
 })
 
 -- ---- definitions
-
-abbrev known_in : Known → Result Known ℕ → Known
-known_in k (Ok next) = next
-known_in k (Err rule) = k
-
-put_judged : (k next : Known) (ds : List Demand) (t : Tables) → with_tables k (judged ds t) ≡ Ok next → (first_broken ds ≡ None) × (t ≡ next.tables)
-put_judged k next ds t is =
-    let p = put k next (judged ds t) is in
-    let e = is_kept ds t p.0 p.1 in
-    (e.0, e.1 ∙ p.2)
 
 pub put_none : (k next : Known) (ds : List Demand) (t : Tables) → with_tables k (judged ds t) ≡ Ok next
     → t.constructors ≡ k.tables.constructors → t.fields ≡ k.tables.fields → AddsFields k.tables next.tables

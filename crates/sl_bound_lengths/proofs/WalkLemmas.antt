@@ -1,5 +1,5 @@
 -- What the names of patterns stand for, behind each item.
-use Rattle.std.proofs.Common.{◌≡◌, ℕ, false, ◌||◌, List, [], ◌∷◌, ◌++◌, Result, Ok, Err, refl, sym, ap, subst, ◌∙◌, append_assoc, append-nil}
+use Rattle.std.proofs.Common.{◌≡◌, ℕ, false, ◌||◌, List, [], ◌∷◌, ◌++◌, Ok, refl, sym, ap, subst, ◌∙◌, append-nil}
 use Rattle.std.specs.Prelude.{codes}
 use Rattle.std.specs.Str.{bytes_eq}
 use Rattle.std.proofs.lemmas.List.Folds.{list_any-append}
@@ -7,8 +7,9 @@ use Rattle.sl_ast.specs.Trees.{Constructor, Item, Macro, constructor, block, def
 use Rattle.sl_ast.specs.Unfolding.{Placed, written}
 use Rattle.sl_bind.proofs.GrowLemmas.{begins_as, came_of, is_kept, put}
 use Rattle.sl_bind.proofs.KeptLemmas.{kept}
+use Rattle.sl_bind.proofs.RunLemmas.{constructors_last, progress_in, put_known, unplaced}
 use Rattle.sl_bind.proofs.SideLemmas.{EachPair, pair_each, pair_more}
-use Rattle.sl_bind.specs.Verdict.{Broken, at, beginning, item_step, last_operands, macro_step, macro_taken, placed_step, section_step, single_step, with_call_of, with_constructor_of, with_known, with_macro}
+use Rattle.sl_bind.specs.Verdict.{beginning, item_step, last_operands, macro_step, macro_taken, placed_step, section_step, single_step, with_call_of, with_constructor_of, with_known, with_macro}
 use Rattle.sl_bind.specs.declared.items.Progress.{Progress}
 use Rattle.sl_constructors.specs.ConstructorRules.{is_of_root}
 use Rattle.sl_constructors.specs.Operands.{operand_names}
@@ -71,29 +72,7 @@ constructor_stand all cs t next item c is are =
     } in
     subst (NamesStand (cs ++ (item, c) ∷ [])) same.1 whole
 
--- ---- the constructors among items
-
-constructors_both : (xs ys : List (Placed Item)) → constructors_in (xs ++ ys) ≡ constructors_in xs ++ constructors_in ys
-unfolding constructors_in
-constructors_both [] ys = refl
-constructors_both (x ∷ xs) ys =
-    ap (λ (l : List (Placed Constructor)). constructor_at x.0 x.1 ++ l) (constructors_both xs ys)
-    ∙ sym (append_assoc (constructor_at x.0 x.1) (constructors_in xs) (constructors_in ys))
-
-pub constructors_last : (xs : List (Placed Item)) (x : Placed Item) → constructors_in (xs ++ x ∷ []) ≡ constructors_in xs ++ constructor_at x.0 x.1
-unfolding constructors_in
-constructors_last xs x = constructors_both xs (x ∷ []) ∙ ap (λ (l : List (Placed Constructor)). constructors_in xs ++ l) (append-nil (constructor_at x.0 x.1))
-
 -- ---- items
-
-abbrev pub progress_in : Progress → Result Progress ℕ → Progress
-progress_in p (Ok next) = next
-progress_in p (Err rule) = p
-
-pub put_known : (p next : Progress) (r : Result Known ℕ) → with_known p r ≡ Ok next → (k : Known) × (r ≡ Ok k) × (k ≡ next.known)
-put_known p next r is =
-    let c = came_of r (λ k. Ok (record p { known = k })) next is in
-    (c.0, c.1, ap (λ r. (progress_in next r).known) c.2)
 
 module _ (cs : List (Placed Constructor)) (w : Whole) where
   -- a definition or an attached list
@@ -152,14 +131,6 @@ module _ (cs : List (Placed Constructor)) (w : Whole) where
   item_stand p next n (block h inside) is are = no_more next (single_stand p next n (block h inside) is are)
 
 -- ---- all items
-
-abbrev rule_of : Result Progress Broken → Result Progress ℕ
-rule_of (Ok x) = Ok x
-rule_of (Err e) = Err e.0
-
-pub unplaced : (n : ℕ) (r : Result Progress ℕ) (p : Progress) → at n r ≡ Ok p → r ≡ Ok p
-unplaced n (Ok x) p is = ap rule_of is
-unplaced n (Err e) p is = absurd (cc)
 
 pub all_stand : (w : Whole) (items : List (Placed Item)) (last : Progress) → run (placed_step w) beginning items ≡ Ok last → NamesStand (constructors_in items) last.known.tables
 unfolding constructors_in

@@ -1,12 +1,13 @@
 -- What holds of the definitions of a text, item by item.
-use Rattle.std.proofs.Common.{◌≡◌, ℕ, false, List, [], ◌∷◌, ◌++◌, None, Result, Ok, Err, refl, sym, ap, subst, ◌∙◌}
+use Rattle.std.proofs.Common.{◌≡◌, ℕ, false, List, [], ◌∷◌, ◌++◌, Ok, refl, sym, ap, subst, ◌∙◌}
 use Rattle.sl_ast.specs.Trees.{Constructor, Item, Macro, constructor, block, define, attach_list, attach_one, macro}
 use Rattle.sl_ast.specs.Unfolding.{Placed, unfolded, written}
-use Rattle.sl_bind.proofs.BoundLemmas.{none_late}
-use Rattle.sl_bind.proofs.GrowLemmas.{begins_as, came_of, is_kept, put}
+use Rattle.sl_bind.proofs.BoundLemmas.{known_or, none_late}
+use Rattle.sl_bind.proofs.GrowLemmas.{begins_as, came_of, is_kept, put_judged}
 use Rattle.sl_bind.proofs.KeptLemmas.{kept}
+use Rattle.sl_bind.proofs.RunLemmas.{progress_in, put_known, unplaced}
 use Rattle.sl_bind.specs.Verdict as verdict
-use Rattle.sl_bind.specs.Verdict.{Broken, at, beginning, item_step, known_behind, last_operands, macro_step, macro_taken, placed_step, section_step, single_step, unless_late, with_call_of, with_constructor_of, with_known, with_macro}
+use Rattle.sl_bind.specs.Verdict.{beginning, item_step, known_behind, last_operands, macro_step, macro_taken, placed_step, section_step, single_step, unless_late, with_call_of, with_constructor_of, with_known, with_macro}
 use Rattle.sl_bind.specs.declared.items.Progress.{Progress}
 use Rattle.sl_constructors.specs.ConstructorRules.{is_of_root}
 use Rattle.sl_constructors.specs.Operands.{operand_names}
@@ -17,7 +18,7 @@ use Rattle.sl_definitions.specs.Items.{definition_step, taken, with_tables}
 use Rattle.sl_definitions.specs.NewNames.{is_new}
 use Rattle.sl_definitions.specs.declared.known.Known.{Known}
 use Rattle.sl_parts.specs.Parts.{parts_of}
-use Rattle.sl_rules.specs.Demands.{Demand, first_broken, judged, run}
+use Rattle.sl_rules.specs.Demands.{run}
 use Rattle.sl_section_rules.specs.SectionRules.{macro_demands, section_demands}
 use Rattle.sl_section_rules.specs.WholeText.{Whole, whole_of}
 use Rattle.sl_spec.specs.Unfolded.{constructors_in}
@@ -40,37 +41,6 @@ none_between old new spaces registers bit_ranges attached userops =
 
 none_defined : (old next new : Tables) → next ≡ new → DefinesNone old next → DefinesNone old new
 none_defined old next new same none = subst (DefinesNone old) same none
-
--- ---- results
-
-abbrev progress_in : Progress → Result Progress ℕ → Progress
-progress_in p (Ok next) = next
-progress_in p (Err rule) = p
-
-put_known : (p next : Progress) (r : Result Known ℕ) → with_known p r ≡ Ok next
-    → (k : Known) × (r ≡ Ok k) × (k ≡ next.known)
-put_known p next r is =
-    let c = came_of r (λ k. Ok (record p { known = k })) next is in
-    (c.0, c.1, ap (λ r. (progress_in next r).known) c.2)
-
-abbrev rule_of : Result Progress Broken → Result Progress ℕ
-rule_of (Ok x) = Ok x
-rule_of (Err e) = Err e.0
-
-unplaced : (n : ℕ) (r : Result Progress ℕ) (p : Progress) → at n r ≡ Ok p → r ≡ Ok p
-unplaced n (Ok x) p is = ap rule_of is
-unplaced n (Err e) p is = absurd (cc)
-
-abbrev pub known_or : {E : Type 0} → Known → Result Known E → Known
-known_or k (Ok next) = next
-known_or k (Err e) = k
-
-pub put_judged : (k next : Known) (ds : List Demand) (t : Tables) → with_tables k (judged ds t) ≡ Ok next
-    → (first_broken ds ≡ None) × (t ≡ next.tables)
-put_judged k next ds t is =
-    let p = put k next (judged ds t) is in
-    let e = is_kept ds t p.0 p.1 in
-    (e.0, e.1 ∙ p.2)
 
 -- ---- macros and constructors define none of them
 

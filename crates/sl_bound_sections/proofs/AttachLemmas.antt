@@ -15,9 +15,9 @@ use Rattle.sl_ast.specs.Unfolding.{Placed, all_in_block, as_items, constructors_
 use Rattle.sl_ast.specs.Unfolding as blocks
 use Rattle.sl_ast.specs.declared.definitions.AttachKind.{AttachKind}
 use Rattle.sl_ast.specs.declared.definitions.AttachKind.TheVariants.{Variables, Names as Texts, Values}
-use Rattle.sl_bind.proofs.GrowLemmas.{is_kept, put}
+use Rattle.sl_bind.proofs.GrowLemmas.{is_kept, known_in, put}
 use Rattle.sl_bind.specs.Verdict.{taken}
-use Rattle.sl_bound_sections.proofs.ChangeLemmas.{Grown, demand_at, grown_same, known_in, taken_changes}
+use Rattle.sl_bound_sections.proofs.ChangeLemmas.{Grown, demand_at, grown_same, taken_changes}
 use Rattle.sl_bound_sections.proofs.JudgedLemmas.{of_taken, whole_text}
 use Rattle.sl_bound_sections.proofs.KindLemmas.{OperandsAlike, kind_in}
 use Rattle.sl_bound_sections.proofs.ListLemmas.{Begins, all_both, all_weaker, begins_long, contained, get_begins, index_far, index_inside, index_stays}

@@ -1,12 +1,12 @@
 -- What definitions add to the tables, and to what is defined before the next item.
-use Rattle.std.proofs.Common.{◌≡◌, ℕ, zero, suc, ◌+◌, ◌<◌, Bool, true, false, cond, List, [], ◌∷◌, ◌++◌, length, map, slice_get, unwrap_or, Some, None, Result, Ok, Err, refl, sym, ap, subst, ◌∙◌, append-nil, length-append, arith, if◌then◌else◌}
+use Rattle.std.proofs.Common.{◌≡◌, ℕ, zero, suc, ◌+◌, ◌<◌, Bool, true, false, cond, List, [], ◌∷◌, ◌++◌, length, map, slice_get, unwrap_or, Some, None, Result, Ok, refl, sym, ap, subst, ◌∙◌, append-nil, length-append, arith, if◌then◌else◌}
 use Rattle.std.specs.Prelude.{count_by, nat_lt, not}
 use Rattle.std.specs.List.{AllByRecursion, list_all}
 use Rattle.std.proofs.lemmas.Bool.Decides.{nat_tests}
 use Rattle.std.proofs.lemmas.List.{length-map}
 use Rattle.std.proofs.lemmas.List.Sums.{sum_by-cons}
 use Rattle.sl_ast.specs.Trees as tree
-use Rattle.sl_bind.proofs.GrowLemmas.{is_kept, put}
+use Rattle.sl_bind.proofs.GrowLemmas.{is_kept, known_in, put}
 use Rattle.sl_bound_sections.proofs.ListLemmas.{Begins, all_both, all_weaker, begins_more, begins_same, begins_then, longer}
 use Rattle.sl_definitions.proofs.BoolLemmas.{and_parts}
 use Rattle.sl_definitions.specs.AttachRules.{attach_demands}
@@ -119,10 +119,6 @@ laid_long space offset size (name ∷ names) =
         ≡ cond (not b) 1 0 + count_by (λ w. not (is_skipped w)) names
     by true rest = omega (arith, rest)
     by false rest = omega (arith, rest)
-
-abbrev pub known_in : Known → Result Known ℕ → Known
-known_in k (Ok next) = next
-known_in k (Err rule) = k
 
 changes_as : (old next new : Tables) (reach : Reach) → next ≡ new → Changes old next reach → Changes old new reach
 changes_as old next new reach same changes = subst (λ (t : Tables). Changes old t reach) same changes

@@ -1,14 +1,14 @@
 -- Of a text that keeps the rules, sections keep rules 26 to 31 by the tables before them, and macros rule 31.
-use Rattle.std.proofs.Common.{◌≡◌, ℕ, zero, suc, ◌+◌, ◌-◌, Bool, true, false, List, [], ◌∷◌, ◌++◌, length, slice_get, Option, Some, None, Result, Ok, Err, refl, sym, ap, subst, ◌∙◌, append-nil, length-append, arith, if◌then◌else◌}
+use Rattle.std.proofs.Common.{◌≡◌, ℕ, zero, suc, ◌+◌, ◌-◌, Bool, true, false, List, [], ◌∷◌, ◌++◌, length, slice_get, Option, Some, None, Ok, refl, sym, ap, subst, ◌∙◌, append-nil, length-append, arith, if◌then◌else◌}
 use Rattle.std.specs.List.{AllByRecursion, Contains}
 use Rattle.std.proofs.lemmas.List.Sums.{fold-append}
 use Rattle.sl_actions.specs.ActionNames.{action_names}
 use Rattle.sl_ast.specs.Trees.{Constructor, Item, Macro, constructor, block, define, attach_list, attach_one, macro}
 use Rattle.sl_ast.specs.Unfolding.{Placed, unfolded}
-use Rattle.sl_bind.proofs.BoundLemmas.{none_late}
+use Rattle.sl_bind.proofs.BoundLemmas.{known_or, none_late}
 use Rattle.sl_bind.proofs.GrowLemmas.{came_of, is_kept}
 use Rattle.sl_bind.specs.Verdict.{beginning, known_behind, last_operands, operands_in, placed_step, taken, unless_late, with_macro}
-use Rattle.sl_bound_lengths.proofs.WalkLemmas.{constructors_last}
+use Rattle.sl_bind.proofs.RunLemmas.{constructors_last}
 use Rattle.sl_bound_sections.proofs.ChangeLemmas.{Changes, Grown, RangesLie, demand_at, grown_same, grown_then, reach_behind, taken_changes}
 use Rattle.sl_bound_sections.proofs.ListLemmas.{EachThree, all_both, three_each, three_more}
 use Rattle.sl_bound_sections.proofs.QuietLemmas.{IsMacro}
@@ -262,10 +262,6 @@ module _ (w : Whole) where
   none_judged = record { reach = refl; lie = tt; macros = tt; each = tt }
 
 -- ---- a text
-
-abbrev known_or : {E : Type 0} → Known → Result Known E → Known
-known_or k (Ok next) = next
-known_or k (Err e) = k
 
 abbrev pub whole_text : List Item → Whole
 whole_text items = whole_of (all_tables (constructors_in (unfolded items))) items

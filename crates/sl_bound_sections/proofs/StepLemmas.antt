@@ -2,12 +2,11 @@
 use Rattle.std.proofs.Common.{◌≡◌, ℕ, Bool, true, false, List, [], ◌∷◌, ◌++◌, None, Ok, refl, sym, ap, subst, ◌∙◌}
 use Rattle.sl_ast.specs.Trees.{Constructor, Item, Macro, constructor, block, define, attach_list, attach_one, macro}
 use Rattle.sl_ast.specs.Unfolding.{Placed}
-use Rattle.sl_bind.proofs.GrowLemmas.{begins_as, came_of, is_kept, put}
+use Rattle.sl_bind.proofs.GrowLemmas.{begins_as, came_of, is_kept, known_in, put}
 use Rattle.sl_bind.proofs.KeptLemmas.{kept}
+use Rattle.sl_bind.proofs.RunLemmas.{progress_in, put_known, unplaced}
 use Rattle.sl_bind.specs.Verdict.{beginning, item_step, last_operands, macro_step, macro_taken, placed_step, section_step, single_step, with_call_of, with_constructor_of, with_known, with_macro}
 use Rattle.sl_bind.specs.declared.items.Progress.{Progress}
-use Rattle.sl_bound_lengths.proofs.WalkLemmas.{progress_in, put_known, unplaced}
-use Rattle.sl_bound_sections.proofs.ChangeLemmas.{known_in}
 use Rattle.sl_constructors.specs.ConstructorRules.{is_of_root}
 use Rattle.sl_constructors.specs.Steps.{constructor_step}
 use Rattle.sl_constructors.specs.WholeText.{table_name}

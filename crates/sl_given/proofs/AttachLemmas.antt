@@ -1,5 +1,5 @@
 -- Numbers that are attached to fields have 64 bits.
-use Rattle.std.proofs.Common.{◌≡◌, ℕ, zero, suc, ◌^◌, ◌≤◌, ℤ, pos, neg_ℤ, Bool, true, false, cond, List, [], ◌∷◌, ◌++◌, map, Some, None, Result, Ok, Err, refl, sym, ap, subst, ◌∙◌, arith}
+use Rattle.std.proofs.Common.{◌≡◌, ℕ, zero, suc, ◌^◌, ◌≤◌, ℤ, pos, neg_ℤ, Bool, true, false, cond, List, [], ◌∷◌, ◌++◌, map, Some, None, Ok, refl, sym, ap, subst, arith}
 use Rattle.std.specs.Prelude.{nat_le, nat_lt, slice_get, FitsSigned}
 use Rattle.std.specs.Int.{w64}
 use Rattle.std.specs.List.{AllByRecursion}
@@ -8,7 +8,7 @@ use Rattle.sl_ast.specs.Trees as tree
 use Rattle.sl_ast.specs.Trees.{Member, member_word, member_text, member_integer, member_negative}
 use Rattle.sl_ast.specs.declared.definitions.AttachKind.{AttachKind}
 use Rattle.sl_ast.specs.declared.definitions.AttachKind.TheVariants.{Variables, Names, Values}
-use Rattle.sl_bind.proofs.GrowLemmas.{begins_as, came_of, is_kept, put}
+use Rattle.sl_bind.proofs.GrowLemmas.{begins_as, came_of, is_kept, known_in, put_judged}
 use Rattle.sl_definitions.specs.AttachRules.{attach_demands, attachment, given_entries, value_entry, with_attached}
 use Rattle.sl_definitions.specs.Beginning.{begin, is_alignment, is_endian, with_alignment, with_endian}
 use Rattle.sl_definitions.specs.FieldRules.{context_demands, token_demands}
@@ -84,10 +84,6 @@ fit_at (b ∷ all) fit (suc i) a is = fit_at all fit.1 i a is
 
 -- ---- definitions
 
-abbrev known_in : Known → Result Known ℕ → Known
-known_in k (Ok next) = next
-known_in k (Err rule) = k
-
 -- What is attached fits where it did before.
 abbrev Keeps : Tables → Tables → Type 0
 Keeps old new = AllFit old.attached → AllFit new.attached
@@ -95,14 +91,9 @@ Keeps old new = AllFit old.attached → AllFit new.attached
 stays : (old next new : Tables) → next ≡ new → next.attached ≡ old.attached → Keeps old new
 stays old next new same attached fit = subst (λ (t : Tables). AllFit t.attached) same (subst AllFit (sym attached) fit)
 
-put_judged : (k next : Known) (ds : List Demand) (t : Tables) → with_tables k (judged ds t) ≡ Ok next → t ≡ next.tables
-put_judged k next ds t is =
-    let p = put k next (judged ds t) is in
-    (is_kept ds t p.0 p.1).1 ∙ p.2
-
 put_stays : (k next : Known) (ds : List Demand) (t : Tables) → with_tables k (judged ds t) ≡ Ok next
     → t.attached ≡ k.tables.attached → Keeps k.tables next.tables
-put_stays k next ds t is attached = stays k.tables t next.tables (put_judged k next ds t is) attached
+put_stays k next ds t is attached = stays k.tables t next.tables (put_judged k next ds t is).1 attached
 
 defined_keeps : (k next : Known) (d : tree.Definition) → defined k d ≡ Ok next → Keeps k.tables next.tables
 defined_keeps k next (tree.endian order) is =
@@ -129,7 +120,7 @@ attach_keeps : (k next : Known) (kind : AttachKind) (names : List Name) (members
 attach_keeps k next kind names members is fit =
     let more = map (attachment k.tables.fields (given_entries k.tables.registers kind members)) names in
     subst (λ (t : Tables). AllFit t.attached)
-    (put_judged k next (attach_demands k.tables kind names members) (with_attached k.tables more) is)
+    (put_judged k next (attach_demands k.tables kind names members) (with_attached k.tables more) is).1
     (both_fit k.tables.attached more fit
     (attached_fit k.tables.fields (given_entries k.tables.registers kind members) names
     (entries_fit k.tables.registers kind members)))

@@ -1,11 +1,12 @@
 -- What each definition, macro and constructor keeps holds of the tables of a whole text.
-use Rattle.std.proofs.Common.{◌≡◌, ℕ, false, List, [], ◌∷◌, ◌++◌, Result, Ok, Err, refl, sym, ap, subst, ◌∙◌, append_assoc, append-nil}
+use Rattle.std.proofs.Common.{◌≡◌, ℕ, false, List, [], ◌∷◌, ◌++◌, Ok, refl, sym, ap, subst, ◌∙◌, append-nil}
 use Rattle.sl_ast.specs.Trees.{Constructor, Item, Macro, constructor, block, define, attach_list, attach_one, macro}
 use Rattle.sl_ast.specs.Unfolding.{Placed, unfolded}
-use Rattle.sl_bind.proofs.BoundLemmas.{none_late}
+use Rattle.sl_bind.proofs.BoundLemmas.{known_or, none_late}
 use Rattle.sl_bind.proofs.GrowLemmas.{begins_as, came_of, is_kept, put}
 use Rattle.sl_bind.proofs.KeptLemmas.{kept}
-use Rattle.sl_bind.specs.Verdict.{Broken, at, beginning, item_step, known_behind, last_operands, macro_step, macro_taken, placed_step, section_step, single_step, taken, unless_late, with_call_of, with_constructor_of, with_known, with_macro}
+use Rattle.sl_bind.proofs.RunLemmas.{constructors_last, progress_in, put_known, unplaced}
+use Rattle.sl_bind.specs.Verdict.{beginning, item_step, known_behind, last_operands, macro_step, macro_taken, placed_step, section_step, single_step, taken, unless_late, with_call_of, with_constructor_of, with_known, with_macro}
 use Rattle.sl_bind.specs.declared.items.Progress.{Progress}
 use Rattle.sl_constructors.specs.ConstructorRules.{is_of_root}
 use Rattle.sl_constructors.specs.Steps.{constructor_step}
@@ -21,41 +22,6 @@ use Rattle.sl_section_rules.specs.WholeText.{Whole, whole_of}
 use Rattle.sl_spec.specs.Unfolded.{constructor_at, constructors_in}
 use Rattle.sl_spec.specs.declared.tables.Tables.{Tables}
 use Rattle.sl_tables.specs.TableRules.{late_fault}
-
--- ---- the constructors among items
-
-constructors_both : (xs ys : List (Placed Item)) → constructors_in (xs ++ ys) ≡ constructors_in xs ++ constructors_in ys
-unfolding constructors_in
-constructors_both [] ys = refl
-constructors_both (x ∷ xs) ys =
-    ap (λ (l : List (Placed Constructor)). constructor_at x.0 x.1 ++ l) (constructors_both xs ys)
-    ∙ sym (append_assoc (constructor_at x.0 x.1) (constructors_in xs) (constructors_in ys))
-
-constructors_last : (xs : List (Placed Item)) (x : Placed Item)
-    → constructors_in (xs ++ x ∷ []) ≡ constructors_in xs ++ constructor_at x.0 x.1
-unfolding constructors_in
-constructors_last xs x = constructors_both xs (x ∷ [])
-    ∙ ap (λ (l : List (Placed Constructor)). constructors_in xs ++ l) (append-nil (constructor_at x.0 x.1))
-
--- ---- what is known in a progress
-
-abbrev progress_in : Progress → Result Progress ℕ → Progress
-progress_in p (Ok next) = next
-progress_in p (Err rule) = p
-
-put_known : (p next : Progress) (r : Result Known ℕ) → with_known p r ≡ Ok next
-    → (k : Known) × (r ≡ Ok k) × (k ≡ next.known)
-put_known p next r is =
-    let c = came_of r (λ k. Ok (record p { known = k })) next is in
-    (c.0, c.1, ap (λ r. (progress_in next r).known) c.2)
-
-abbrev rule_of : Result Progress Broken → Result Progress ℕ
-rule_of (Ok x) = Ok x
-rule_of (Err e) = Err e.0
-
-unplaced : (n : ℕ) (r : Result Progress ℕ) (p : Progress) → at n r ≡ Ok p → r ≡ Ok p
-unplaced n (Ok x) p is = ap rule_of is
-unplaced n (Err e) p is = absurd (cc)
 
 -- ---- items
 
@@ -153,10 +119,6 @@ module _ (Holds : List (Placed Constructor) → Tables → Type 0)
       [] items beginning last refl is none
 
 -- ---- a text
-
-abbrev known_or : {E : Type 0} → Known → Result Known E → Known
-known_or k (Ok next) = next
-known_or k (Err e) = k
 
 abbrev pub whole_in : List Item → Whole
 whole_in items = whole_of (all_tables (constructors_in (unfolded items))) items
