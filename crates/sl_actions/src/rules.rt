@@ -1,8 +1,7 @@
 //! What each rule demands of one action.
 
 ghost use Rattle.std.specs.Prelude.{◌≡◌, IfOk};
-ghost use Rattle.std.specs.List.{list_all, list_any};
-ghost use Rattle.std.specs.Str.{bytes_eq};
+ghost use Rattle.std.specs.List.{list_all};
 ghost use Rattle.sl_ast.specs.Views.{action_of, operand_of_address};
 ghost use Rattle.sl_rules.specs.Names.{is_among};
 ghost use Rattle.sl_actions.specs.ActionRules.{built_in_names, has_address, has_new_left};
@@ -16,7 +15,7 @@ use crate::names_used::names_in;
 use crate::pattern_names::PatternNames;
 use crate::set_names::{is_context_field, is_token_field};
 use sl_ast::patterns::{Action, Address};
-use sl_rules::NameSet;
+use sl_rules::{NameSet, is_among};
 use sl_spec::{Named, Table, Tables};
 use std::alloc::{AllocError, Global};
 
@@ -40,13 +39,6 @@ fn is_next(name: &[u8]) -> bool
     ensures { result ≡ is_next name.now }
 {
     name == "inst_next".as_bytes()
-}
-
-/// Whether the name is one of the words.
-fn is_among(words: &[&str], name: &[u8]) -> bool
-    ensures { result ≡ list_any (λ w. bytes_eq name.now w.now) words.now }
-{
-    words.iter().any(|word| name == word.as_bytes())
 }
 
 /// Whether the name is there from the start.

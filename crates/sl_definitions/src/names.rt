@@ -1,13 +1,12 @@
 //! New names: rule 3.
 
 ghost use Rattle.std.specs.Prelude.{◌≡◌, true, false, IfOk, map};
-ghost use Rattle.std.specs.List.{list_all, list_any};
-ghost use Rattle.std.specs.Str.{bytes_eq};
+ghost use Rattle.std.specs.List.{list_all};
 ghost use Rattle.sl_rules.specs.Names.{is_among};
 ghost use Rattle.sl_definitions.specs.Free.{IsFree};
 ghost use Rattle.sl_definitions.specs.NewNames.{are_new, is_defined, is_new, reserved_words};
 
-use sl_rules::are_distinct;
+use sl_rules::{are_distinct, is_among};
 use sl_spec::Tables;
 use std::alloc::{AllocError, Global};
 
@@ -75,13 +74,6 @@ const RESERVED_WORDS: [&str; 60] = [
     "cpool",
     "newobject",
 ];
-
-/// Whether the name is one of the words.
-fn is_among(words: &[&str], name: &[u8]) -> bool
-    ensures { result ≡ list_any (λ w. bytes_eq name.now w.now) words.now }
-{
-    words.iter().any(|word| name == word.as_bytes())
-}
 
 /// Whether no definition may take the name.
 #[tactic(auto, unfolding(crate::specs::NewNames::reserved_words))]

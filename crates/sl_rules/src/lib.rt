@@ -7,4 +7,4 @@ mod names;
 
 pub use fault::Fault;
 pub use laws::{first_broken_is_first, refusal_is_first, steps_go_in_parts};
-pub use names::{NameSet, are_distinct};
+pub use names::{NameSet, are_distinct, is_among};

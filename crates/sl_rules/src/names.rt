@@ -2,6 +2,8 @@
 
 ghost use Rattle.std.specs.Prelude.{◌≡◌, ◌∷◌, [], ◌++◌, OnOk, OnErr, IfOk, false, map};
 ghost use Rattle.std.specs.Prelude.{length, option_map, slice_get};
+ghost use Rattle.std.specs.List.{list_any};
+ghost use Rattle.std.specs.Str.{bytes_eq};
 ghost use Rattle.sl_rules.specs.Names.{are_distinct, is_among};
 
 use sl_index::NameIndex;
@@ -60,6 +62,13 @@ impl<'a> NameSet<'a> {
     {
         self.names.add(name)
     }
+}
+
+/// Whether the name is one of the words.
+pub fn is_among(words: &[&str], name: &[u8]) -> bool
+    ensures { result ≡ list_any (λ w. bytes_eq name.now w.now) words.now }
+{
+    words.iter().any(|word| name == word.as_bytes())
 }
 
 /// Whether no two of the names are the same.
