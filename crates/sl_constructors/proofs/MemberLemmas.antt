@@ -1,7 +1,7 @@
 -- Members of lists that are filtered, mapped or gathered.
 use Rattle.std.proofs.Common.{◌≡◌, inl, inr, zero, suc, Bool, true, false, List, [], ◌∷◌, map, subst, refl, sym, ap, ◌∙◌, arith}
 use Rattle.std.specs.Prelude.{cond}
-use Rattle.std.specs.List.{Contains, filter}
+use Rattle.std.specs.List.{Contains, filter, flat_map}
 use Rattle.std.proofs.lemmas.Bool.{false≢true}
 use Rattle.std.proofs.lemmas.List.Elements.{Contains-append_cases, Contains-append_left, Contains-append_right}
 use Rattle.sl_rules.specs.Gathered.{gathered}
@@ -47,3 +47,9 @@ unfolding gathered
 in_gathered f [] x m c d = absurd (omega (arith, c.1))
 in_gathered f (y ∷ ys) x m (zero, below, here) d = Contains-append_left (f y) (gathered f ys) m (subst (λ z. Contains (f z) m) (sym here) d)
 in_gathered f (y ∷ ys) x m (suc k, below, here) d = Contains-append_right (f y) (gathered f ys) m (in_gathered f ys x m (k, omega (arith, below), here) d)
+
+-- what a member gives is in the flat list
+pub in_flat : {X M : Type 0} (f : X → List M) (xs : List X) (x : X) (m : M) → Contains xs x → Contains (f x) m → Contains (flat_map f xs) m
+in_flat f [] x m c d = absurd (omega (arith, c.1))
+in_flat f (y ∷ ys) x m (zero, below, here) d = Contains-append_left (f y) (flat_map f ys) m (subst (λ z. Contains (f z) m) (sym here) d)
+in_flat f (y ∷ ys) x m (suc k, below, here) d = Contains-append_right (f y) (flat_map f ys) m (in_flat f ys x m (k, omega (arith, below), here) d)

@@ -3,9 +3,8 @@ use Rattle.std.proofs.Common.{◌≡◌, ℕ, zero, suc, ◌+◌, ◌<◌, ◌�
 use Rattle.std.specs.Prelude.{⊤}
 use Rattle.std.specs.List.{Contains, filter, flat_map, range_with_len}
 use Rattle.std.proofs.lemmas.Bool.{cases_lt}
-use Rattle.std.proofs.lemmas.List.Elements.{Contains-append_left, Contains-append_right}
 use Rattle.std.proofs.lemmas.List.FromFn.{get_or-range_with_len, length-range_with_len}
-use Rattle.sl_constructors.proofs.MemberLemmas.{in_filter}
+use Rattle.sl_constructors.proofs.MemberLemmas.{in_filter, in_flat}
 use Rattle.sl_heights.specs.Heights.{AreHeights, above}
 use Rattle.sl_heights.proofs.OneHeight.{member_below}
 use Rattle.sl_heights.proofs.SomeHeights.{some_heights}
@@ -19,11 +18,6 @@ itself n = grind arith
 
 same : (a b : ℕ) → (a == b) ≡ true → a ≡ b
 same a b h = grind arith
-
-in_flat : {X M : Type 0} (f : X → List M) (xs : List X) (x : X) (m : M) → Contains xs x → Contains (f x) m → Contains (flat_map f xs) m
-in_flat f [] x m c d = absurd (let no : ⊥ = omega (arith, c.1) in no)
-in_flat f (y ∷ ys) x m (zero, inside, here) d = Contains-append_left (f y) (flat_map f ys) m (subst (λ z. Contains (f z) m) (sym here) d)
-in_flat f (y ∷ ys) x m (suc k, inside, here) d = Contains-append_right (f y) (flat_map f ys) m (in_flat f ys x m (k, omega (arith, inside), here) d)
 
 module _ (H : ℕ → ℕ) where
   abbrev at : ℕ → List ℕ → List ℕ

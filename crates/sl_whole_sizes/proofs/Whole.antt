@@ -9,7 +9,7 @@ use Rattle.std.proofs.lemmas.Option.{slice_get_within}
 use Rattle.sl_ast.specs.Trees as ast
 use Rattle.sl_ast.specs.Unfolding.{Placed}
 use Rattle.sl_constructors.specs.Listed.{AreListed}
-use Rattle.sl_constructors.proofs.MemberLemmas.{in_filter, in_gathered, in_map, of_gathered}
+use Rattle.sl_constructors.proofs.MemberLemmas.{in_filter, in_flat, in_gathered, in_map, of_gathered}
 use Rattle.sl_constructors.proofs.NumberLemmas.{in_numbers, numbered}
 use Rattle.sl_equations.specs.Known.{size_in}
 use Rattle.sl_equations.specs.Uses.{exported_size, exported_variable}
@@ -48,11 +48,6 @@ first_of x xs = (0, omega arith, refl)
 
 further : {X : Type 0} (x y : X) (xs : List X) → Contains xs x → Contains (y ∷ xs) x
 further x y xs c = (suc c.0, omega (arith, c.1), c.2)
-
-in_flat : {X M : Type 0} (f : X → List M) (xs : List X) (x : X) (m : M) → Contains xs x → Contains (f x) m → Contains (flat_map f xs) m
-in_flat f [] x m c d = absurd (let no : ⊥ = omega (arith, c.1) in no)
-in_flat f (y ∷ ys) x m (zero, inside, here) d = Contains-append_left (f y) (flat_map f ys) m (subst (λ z. Contains (f z) m) (sym here) d)
-in_flat f (y ∷ ys) x m (suc k, inside, here) d = Contains-append_right (f y) (flat_map f ys) m (in_flat f ys x m (k, omega (arith, inside), here) d)
 
 -- the member at a place
 at_place : {X : Type 0} (xs : List X) (k : ℕ) (x : X) → slice_get xs k ≡ Some x → Contains xs x
