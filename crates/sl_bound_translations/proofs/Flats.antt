@@ -1,7 +1,7 @@
 -- The flat sections of a text, constructor by constructor: each is there, is that of what is written, exports where
 -- that does, and has no more size variables than rule 38 lets it weigh.
-use Rattle.std.proofs.Common.{◌≡◌, ℕ, zero, suc, ◌+◌, ◌<◌, ◌≤◌, true, ◌||◌, List, [], ◌∷◌, ◌++◌, length, map}
-use Rattle.std.proofs.Common.{slice_get, Some, refl, ap, subst, ◌∙◌, length-append, arith}
+use Rattle.std.proofs.Common.{◌≡◌, ℕ, zero, suc, ◌+◌, ◌≤◌, true, ◌||◌, List, [], ◌∷◌, ◌++◌, length, map}
+use Rattle.std.proofs.Common.{slice_get, Some, refl, ap, subst, length-append, arith}
 use Rattle.std.specs.Prelude.{fold}
 use Rattle.std.specs.List.{Contains, list_any, zip}
 use Rattle.std.proofs.lemmas.List.{length-map}
@@ -24,30 +24,12 @@ use Rattle.sl_spec.specs.Tables.{Ctor, Operand}
 use Rattle.sl_spec.specs.Unfolded.{constructor_at, constructors_in}
 use Rattle.sl_spec.specs.declared.tables.Tables.{Tables}
 use Rattle.sl_tables.specs.Rows.{Row, rows}
+use Rattle.sl_tables.proofs.RowLemmas.{zipped}
 use Rattle.sl_tree_limits.proofs.Limits.{row_light}
 use Rattle.sl_tree_limits.specs.Laws.{KeepLimits}
 use Rattle.sl_weights.specs.Weights.{macro_weights, section_weight}
 
 -- ---- what is there
-
-pub record Stands {X : Type 0} (xs : List X) (k : ℕ) : Type 0 where
-  pub item : X
-  pub is : slice_get xs k ≡ Some item
-
-pub stands : {X : Type 0} (xs : List X) (k : ℕ) → k < length xs → Stands xs k
-stands [] k lt = absurd (let no : ⊥ = omega arith in no)
-stands (x ∷ xs) zero lt = record { item = x; is = refl }
-stands (x ∷ xs) (suc k) lt = let r = stands xs k (omega arith) in record { item = r.item; is = r.is }
-
-pub zipped : {X Y : Type 0} (xs : List X) (ys : List Y) (k : ℕ) (x : X) (y : Y) → slice_get xs k ≡ Some x
-    → slice_get ys k ≡ Some y → slice_get (zip xs ys) k ≡ Some (x, y)
-zipped [] ys k x y e e' = absurd (let no : ⊥ = cc in no)
-zipped (a ∷ xs) [] k x y e e' = absurd (let no : ⊥ = cc in no)
-zipped (a ∷ xs) (b ∷ ys) zero x y e e' =
-    let same : a ≡ x = cc in
-    let same' : b ≡ y = cc in
-    ap (λ z. Some (z, b)) same ∙ ap (λ z. Some (x, z)) same'
-zipped (a ∷ xs) (b ∷ ys) (suc k) x y e e' = zipped xs ys k x y e e'
 
 -- both sides of a pair at a place
 pub unzipped : {X Y : Type 0} (xs : List X) (ys : List Y) (k : ℕ) (r : X × Y) → slice_get (zip xs ys) k ≡ Some r

@@ -9,7 +9,7 @@ use Rattle.sl_ast.specs.Trees.{Constructor, Item}
 use Rattle.sl_ast.specs.Unfolding.{Placed}
 use Rattle.sl_bind.proofs.BoundLemmas.{tables_listed}
 use Rattle.sl_bind.specs.Binding.{constructors_of}
-use Rattle.sl_bound_translations.proofs.Flats.{flat_at, flat_exports, flats_long, placed_at, stands, unzipped}
+use Rattle.sl_bound_translations.proofs.Flats.{flat_at, flat_exports, flats_long, placed_at, unzipped}
 use Rattle.sl_bound_translations.proofs.Operands.{operands_below}
 use Rattle.sl_bound_translations.specs.Laws.{AreNumbered, BoundKeepUses, flats_of}
 use Rattle.sl_constructors.specs.Listed.{AreListed}
@@ -30,6 +30,7 @@ use Rattle.sl_spec.specs.Tables.{Ctor}
 use Rattle.sl_spec.specs.declared.tables.Tables.{Tables}
 use Rattle.sl_table_uses.specs.Laws.{HasSize}
 use Rattle.sl_tables.specs.Rows as all
+use Rattle.sl_tables.proofs.RowLemmas.{stands}
 use Rattle.sl_tables.specs.TableRules.{fault_or}
 use Rattle.sl_tables.specs.declared.faults.LateFault.{LateFault}
 use Rattle.sl_tables.specs.declared.faults.Place.{Place}

@@ -1,7 +1,7 @@
 -- Sections are sound, by what is known of tables, sizes and constructors.
 use Rattle.std.proofs.Common.{◌≡◌, ℕ, zero, suc, ◌<◌, ◌&&◌, Bool, true, false, not, List, [], ◌∷◌, length, map, Option, Some, None, refl, sym, ap, ◌∙◌, subst, arith}
 use Rattle.std.specs.Prelude.{find, if◌then◌else◌, nat_le, nat_lt, option_and_then, option_map, slice_get, unwrap_or}
-use Rattle.std.specs.List.{All, zip}
+use Rattle.std.specs.List.{All}
 use Rattle.std.proofs.lemmas.List.Elements.{All-head, All-tail}
 use Rattle.std.proofs.lemmas.Option.{slice_get-map, slice_get_within}
 use Rattle.sl_ast.specs.Trees.{Constructor}
@@ -40,30 +40,11 @@ use Rattle.sl_spec.specs.declared.tables.Tables.{Tables}
 use Rattle.sl_table_uses.specs.Laws.{IsUsed, exports_of, targets_of}
 use Rattle.sl_table_uses.proofs.Used.{tables_are_used}
 use Rattle.sl_tables.specs.Rows as all
+use Rattle.sl_tables.proofs.RowLemmas.{stands, zipped}
 use Rattle.sl_tables.specs.declared.faults.Place.TheVariants.{Item}
 use Rattle.sl_translation.specs.Sound.{ConstructorKeeps, Uses, field_kind, kind_of, kinds_of, section_of}
 use Rattle.sl_whole_sizes.specs.Laws.{FitsAt}
 use Rattle.sl_word.specs.declared.word.Size.{Size}
-
--- ---- lists
-
-zipped : {X Y : Type 0} (xs : List X) (ys : List Y) (k : ℕ) (x : X) (y : Y) → slice_get xs k ≡ Some x → slice_get ys k ≡ Some y → slice_get (zip xs ys) k ≡ Some (x, y)
-zipped [] ys k x y e e' = absurd (let no : ⊥ = cc in no)
-zipped (a ∷ xs) [] k x y e e' = absurd (let no : ⊥ = cc in no)
-zipped (a ∷ xs) (b ∷ ys) zero x y e e' =
-    let same : a ≡ x = cc in
-    let same' : b ≡ y = cc in
-    ap (λ z. Some (z, b)) same ∙ ap (λ z. Some (x, z)) same'
-zipped (a ∷ xs) (b ∷ ys) (suc k) x y e e' = zipped xs ys k x y e e'
-
-record Stands {X : Type 0} (xs : List X) (k : ℕ) : Type 0 where
-  pub item : X
-  pub is : slice_get xs k ≡ Some item
-
-stands : {X : Type 0} (xs : List X) (k : ℕ) → k < length xs → Stands xs k
-stands [] k lt = absurd (let no : ⊥ = omega arith in no)
-stands (x ∷ xs) zero lt = record { item = x; is = refl }
-stands (x ∷ xs) (suc k) lt = let r = stands xs k (omega arith) in record { item = r.item; is = r.is }
 
 -- ---- rows that keep rules 38 and 39
 

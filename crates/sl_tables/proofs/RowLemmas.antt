@@ -1,5 +1,6 @@
 -- Constructors by table.
-use Rattle.std.proofs.Common.{◌≡◌, ℕ, zero, suc, ◌+◌, ◌<◌, ◌≤◌, ◌==◌, inl, inr, true, false, cond, List, [], ◌∷◌, ◌++◌, map, take, length, get_or, set, replicate, min, refl, sym, ap, ◌∙◌, arith}
+use Rattle.std.proofs.Common.{◌≡◌, ℕ, zero, suc, ◌+◌, ◌<◌, ◌≤◌, ◌==◌, inl, inr, true, false, cond, List, [], ◌∷◌, ◌++◌, map, take, length, get_or, set, replicate, min, Some, refl, sym, ap, ◌∙◌, arith}
+use Rattle.std.specs.Prelude.{slice_get}
 use Rattle.std.specs.List.{filter, range_with_len, zip}
 use Rattle.std.proofs.lemmas.Bool.{cases_eq}
 use Rattle.std.proofs.lemmas.List.{length-map, length-set, get_or-set_same, get_or-set_other, ext_get_or, map_push, take_more, append-nil}
@@ -7,6 +8,26 @@ use Rattle.std.proofs.lemmas.List.FromFn.{get_or-range_with_len}
 use Rattle.std.proofs.lemmas.List.Elements.{filter-append}
 use Rattle.sl_levels.proofs.Seen.{read_or}
 use Rattle.sl_tables.specs.Rows.{Row, group, groups, is_of}
+
+-- the member at a place, and members at the same place of two lists
+pub record Stands {X : Type 0} (xs : List X) (k : ℕ) : Type 0 where
+  pub item : X
+  pub is : slice_get xs k ≡ Some item
+
+pub stands : {X : Type 0} (xs : List X) (k : ℕ) → k < length xs → Stands xs k
+stands [] k lt = absurd (let no : ⊥ = omega arith in no)
+stands (x ∷ xs) zero lt = record { item = x; is = refl }
+stands (x ∷ xs) (suc k) lt = let r = stands xs k (omega arith) in record { item = r.item; is = r.is }
+
+pub zipped : {X Y : Type 0} (xs : List X) (ys : List Y) (k : ℕ) (x : X) (y : Y) → slice_get xs k ≡ Some x
+    → slice_get ys k ≡ Some y → slice_get (zip xs ys) k ≡ Some (x, y)
+zipped [] ys k x y e e' = absurd (let no : ⊥ = cc in no)
+zipped (a ∷ xs) [] k x y e e' = absurd (let no : ⊥ = cc in no)
+zipped (a ∷ xs) (b ∷ ys) zero x y e e' =
+    let same : a ≡ x = cc in
+    let same' : b ≡ y = cc in
+    ap (λ z. Some (z, b)) same ∙ ap (λ z. Some (x, z)) same'
+zipped (a ∷ xs) (b ∷ ys) (suc k) x y e e' = zipped xs ys k x y e e'
 
 -- two lists side by side, one more of each
 zip_next : {A B : Type 0} (xs : List A) (ys : List B) (i : ℕ) (x : A) (y : B) → i < length xs → i < length ys → x ≡ get_or xs i x → y ≡ get_or ys i y

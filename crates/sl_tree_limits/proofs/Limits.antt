@@ -1,10 +1,11 @@
 -- The rules bound the nodes of decoded trees, and what their sections weigh.
 use Rattle.std.proofs.Common.{◌≡◌, ℕ, zero, suc, ◌+◌, ◌<◌, ◌≤◌, ◌==◌, Bool, true, false, not, cond, List, [], ◌∷◌, ◌++◌, length, map, max, Option, Some, None, sum_by, refl, ap, ◌∙◌, subst, arith}
 use Rattle.std.specs.Prelude.{find, if◌then◌else◌, nat_lt, option_map, position, slice_get}
-use Rattle.std.specs.List.{filter, position_or_len, zip}
+use Rattle.std.specs.List.{filter, position_or_len}
 use Rattle.std.proofs.lemmas.Bool.Decides.{nat_tests}
 use Rattle.std.proofs.lemmas.List.{length-map}
 use Rattle.std.proofs.lemmas.List.Sums.{sum_by-cons}
+use Rattle.std.proofs.lemmas.Option.{slice_get_within}
 use Rattle.sl_ast.specs.Trees.{Constructor}
 use Rattle.sl_ast.specs.Unfolding.{Placed}
 use Rattle.sl_decoding.specs.Flat.{count}
@@ -24,7 +25,7 @@ use Rattle.sl_tables.specs.TableRules.{amount_rules, broken_at, early_rules, fau
 use Rattle.sl_tables.specs.declared.faults.LateFault.{LateFault}
 use Rattle.sl_tables.specs.declared.faults.Place.{Place}
 use Rattle.sl_tables.specs.declared.quantities.Quantity.TheVariants.{Nodes}
-use Rattle.sl_tables.proofs.RowLemmas.{group_at, groups_length}
+use Rattle.sl_tables.proofs.RowLemmas.{group_at, groups_length, stands, zipped}
 use Rattle.sl_tables.proofs.StepLemmas as steps
 use Rattle.sl_translation.specs.Counted.{Covers, sum_of, total}
 use Rattle.sl_translation.specs.Shaped.{AreShaped, number_of, tables_meant}
@@ -32,32 +33,6 @@ use Rattle.sl_translation.proofs.Counts.{trees_are_covered}
 use Rattle.sl_tree_limits.specs.Laws.{IsLimited, KeepLimits, TreesAreLimited, own_weight, weight_of}
 use Rattle.sl_weights.specs.Weights.{first_heavy, is_heavy, macro_weights, row_weight, section_weight, step, table_weight}
 use Rattle.sl_weights.proofs.WeightLemmas.{takes}
-
--- ---- rows
-
-zipped : {X Y : Type 0} (xs : List X) (ys : List Y) (k : ℕ) (x : X) (y : Y) → slice_get xs k ≡ Some x → slice_get ys k ≡ Some y → slice_get (zip xs ys) k ≡ Some (x, y)
-zipped [] ys k x y e e' = absurd (let no : ⊥ = cc in no)
-zipped (a ∷ xs) [] k x y e e' = absurd (let no : ⊥ = cc in no)
-zipped (a ∷ xs) (b ∷ ys) zero x y e e' =
-    let same : a ≡ x = cc in
-    let same' : b ≡ y = cc in
-    ap (λ z. Some (z, b)) same ∙ ap (λ z. Some (x, z)) same'
-zipped (a ∷ xs) (b ∷ ys) (suc k) x y e e' = zipped xs ys k x y e e'
-
-get_inside : {X : Type 0} (xs : List X) (k : ℕ) (x : X) → slice_get xs k ≡ Some x → k < length xs
-get_inside [] k x e = absurd (let no : ⊥ = cc in no)
-get_inside (y ∷ xs) zero x e = omega arith
-get_inside (y ∷ xs) (suc k) x e = let h = get_inside xs k x e in omega arith
-
--- what stands at a place, where one is there
-record Stands {X : Type 0} (xs : List X) (k : ℕ) : Type 0 where
-  pub item : X
-  pub is : slice_get xs k ≡ Some item
-
-stands : {X : Type 0} (xs : List X) (k : ℕ) → k < length xs → Stands xs k
-stands [] k lt = absurd (let no : ⊥ = omega arith in no)
-stands (x ∷ xs) zero lt = record { item = x; is = refl }
-stands (x ∷ xs) (suc k) lt = let r = stands xs k (omega arith) in record { item = r.item; is = r.is }
 
 -- ---- the greatest
 
@@ -114,7 +89,7 @@ module _ (t : Tables) (cs : List (Placed Constructor)) (own : ℕ → ℕ) (row_
       → ((v : ℕ) → v < length t.tables → of_table v ≡ greatest (map amount (group_of (groups (length t.tables) (rows t cs)) v)))
       → Covers t own of_table
   covers written inside same meets number c there =
-      let w = stands cs number (let h = get_inside t.constructors number c there in omega arith) in
+      let w = stands cs number (let h = slice_get_within t.constructors number c there in omega arith) in
       let r : Row = (c, w.item) in
       let rs = rows t cs in
       let is : slice_get rs number ≡ Some r = zipped t.constructors cs number c w.item there w.is in

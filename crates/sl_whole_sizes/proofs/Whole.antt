@@ -32,6 +32,7 @@ use Rattle.sl_spec.specs.Tables.{Ctor, Operand, Table}
 use Rattle.sl_spec.specs.declared.constructors.Means.{Means}
 use Rattle.sl_spec.specs.declared.constructors.Means.TheVariants as means
 use Rattle.sl_spec.specs.declared.tables.Tables.{Tables}
+use Rattle.sl_tables.proofs.RowLemmas.{stands}
 use Rattle.sl_whole_sizes.specs.Laws.{IsExported, SectionsFitTheWhole}
 use Rattle.sl_word.specs.declared.word.Size.{Size}
 
@@ -54,15 +55,6 @@ at_place : {X : Type 0} (xs : List X) (k : ℕ) (x : X) → slice_get xs k ≡ S
 at_place [] k x e = absurd (let no : ⊥ = cc in no)
 at_place (y ∷ xs) zero x e = (0, omega arith, let s : y ≡ x = cc in s)
 at_place (y ∷ xs) (suc k) x e = further x y xs (at_place xs k x e)
-
-record Stands {X : Type 0} (xs : List X) (k : ℕ) : Type 0 where
-  pub item : X
-  pub is : slice_get xs k ≡ Some item
-
-stands : {X : Type 0} (xs : List X) (k : ℕ) → k < length xs → Stands xs k
-stands [] k lt = absurd (let no : ⊥ = omega arith in no)
-stands (x ∷ xs) zero lt = record { item = x; is = refl }
-stands (x ∷ xs) (suc k) lt = let r = stands xs k (omega arith) in record { item = r.item; is = r.is }
 
 -- ---- constructors with their sections
 
