@@ -1,3 +1,5 @@
+pub mod PrecedenceLemmas
+pub mod RankLemmas
 pub mod OrderLemmas
 pub mod SideLemmas
 pub mod SharedLemmas

@@ -1,4 +1,5 @@
 pub mod Order
+pub mod Ranks
 pub mod Shared
 pub mod Sides
 pub mod Trees

@@ -4,10 +4,11 @@ ghost use Rattle.std.specs.Prelude.{◌≤◌, ◌*◌};
 ghost use Rattle.sl_choose.specs.Trees.{entries_in};
 
 use super::entries::{entries_of, first_of};
+use super::ranks::ranks_of;
 use super::tree::{grow, leaf_of};
 use super::{Entry, Node};
 use sl_cube::Point;
-use sl_settle::{Answers, CubeSet};
+use sl_settle::CubeSet;
 use std::alloc::{AllocError, Global};
 
 /// Finds which of a list of constructors a point picks, by a tree of tests of bits. Its leaves have
@@ -36,9 +37,9 @@ impl Chooser {
         ensures { IfOk result (λ chooser. StandsFor chooser ctors.now sets.now) }
     {
         let entries = entries_of(alloc, ctors, sets)?;
-        let mut answers = Answers::new(alloc, sets)?;
+        let ranks = ranks_of(alloc, sets)?;
         let cubes = entries.len();
-        let root = grow(alloc, sets, &mut answers, &entries, 4 * cubes)?;
+        let root = grow(alloc, &ranks, &entries, 4 * cubes)?;
         Ok(Chooser { root, cubes })
     }
 

@@ -5,6 +5,8 @@ mod chooser;
 mod entries;
 pub mod laws;
 mod order;
+mod precedence;
+mod ranks;
 mod shared;
 mod sides;
 mod tree;

@@ -93,8 +93,7 @@ pub fn may_differ(shared: &Shared, bits: &Point) -> bool
     fixed && !none && all
 }
 
-/// The place of the least bit of the bytes that all cubes fix and some cube fixes to 1; 128 where
-/// there is none.
+/// A place before which no bit of the bytes may be one that all cubes fix and in which two differ.
 pub fn first_byte_bit(shared: &Shared) -> u32
     ensures none { HasNoneBefore byte_bit shared.now result }
     ensures most { result ≤ 128 }
@@ -102,7 +101,7 @@ pub fn first_byte_bit(shared: &Shared) -> u32
     (shared.fixed.bytes & shared.some.bytes).trailing_zeros()
 }
 
-/// The same of the context; 64 where there is none.
+/// The same of the bits of the context.
 pub fn first_context_bit(shared: &Shared) -> u32
     ensures none { HasNoneBefore context_bit shared.now result }
     ensures most { result ≤ 64 }

@@ -3,9 +3,9 @@
 ghost use Rattle.std.specs.Prelude.{◌≡◌, ◌≤◌, List, IfOk, length};
 ghost use Rattle.sl_cube.specs.declared.Point.{Point};
 ghost use Rattle.sl_settle.specs.declared.CubeSet.{CubeSet};
-ghost use Rattle.sl_settle.specs.Kept.{AreRight};
 ghost use Rattle.sl_choose.specs.declared.Entry.{Entry};
 ghost use Rattle.sl_choose.specs.Picked.{leaf_at};
+ghost use Rattle.sl_choose.specs.Ranks.{AreRanks};
 ghost use Rattle.sl_choose.specs.Sides.{HasNoForced};
 ghost use Rattle.sl_choose.specs.Trees.{IsTreeOf, IsLeafOf, entries_in, IsBit, IsTest};
 
@@ -13,7 +13,6 @@ use super::order::ordered;
 use super::sides::{divided, forced, lacks};
 use super::{Entry, Node};
 use sl_cube::Point;
-use sl_settle::{Answers, CubeSet};
 use std::alloc::{AllocError, Global};
 
 /// The lesser of how many cubes fix the bit to 0 and how many fix it to 1.
@@ -95,19 +94,12 @@ fn chosen(entries: &[Entry]) -> Option<Point>
 }
 
 /// A leaf of all entries, in order.
-fn leaf(
-    alloc: Global,
-    sets: &[CubeSet],
-    answers: &mut Answers,
-    entries: &[Entry],
-) -> Result<Node, AllocError>
-    requires { AreRight sets.now answers.old }
+fn leaf(alloc: Global, ranks: &[usize], entries: &[Entry]) -> Result<Node, AllocError>
     ensures size { IfOk result (λ node. entries_in node ≤ length entries.now) }
-    ensures tree { IfOk result (λ node. HasNoForced entries.now
-        → (p : Point) → IsTreeOf sets.now node entries.now p) }
-    ensures right { IfOk result (λ node. AreRight sets.now answers.new) }
+    ensures tree { IfOk result (λ node. HasNoForced entries.now → (sets : List CubeSet)
+        → AreRanks sets ranks.now → (p : Point) → IsTreeOf sets node entries.now p) }
 {
-    let in_order = ordered(alloc, sets, answers, entries)?;
+    let in_order = ordered(alloc, ranks, entries)?;
     Ok(Node::Leaf(in_order))
 }
 
@@ -130,30 +122,28 @@ fn share(low: usize, high: usize, spare: usize) -> usize
 /// A tree for the entries, with at most `room` entries in its leaves.
 pub fn grow(
     alloc: Global,
-    sets: &[CubeSet],
-    answers: &mut Answers,
+    ranks: &[usize],
     entries: &[Entry],
     room: usize,
 ) -> Result<Node, AllocError>
-    requires room { length entries.now ≤ room }
-    requires right { AreRight sets.now answers.old }
+    requires { length entries.now ≤ room }
     ensures size { IfOk result (λ node. entries_in node ≤ room) }
-    ensures tree { IfOk result (λ node. (p : Point) → IsTreeOf sets.now node entries.now p) }
-    ensures right { IfOk result (λ node. AreRight sets.now answers.new) }
+    ensures tree { IfOk result (λ node. (sets : List CubeSet) → AreRanks sets ranks.now
+        → (p : Point) → IsTreeOf sets node entries.now p) }
 {
     let Some(bits) = chosen(entries) else {
-        let all = leaf(alloc, sets, answers, entries)?;
+        let all = leaf(alloc, ranks, entries)?;
         return Ok(all);
     };
     let halves = divided(alloc, entries, &bits, room)?;
     let Some(sides) = halves else {
-        let all = leaf(alloc, sets, answers, entries)?;
+        let all = leaf(alloc, ranks, entries)?;
         return Ok(all);
     };
     let spare = room - sides.low.len() - sides.high.len();
     let low_room = sides.low.len() + share(sides.low.len(), sides.high.len(), spare);
-    let below = grow(alloc, sets, answers, &sides.low, low_room)?;
-    let above = grow(alloc, sets, answers, &sides.high, room - low_room)?;
+    let below = grow(alloc, ranks, &sides.low, low_room)?;
+    let above = grow(alloc, ranks, &sides.high, room - low_room)?;
     let node = test(alloc, bits, below, above)?;
     Ok(node)
 }

@@ -6,5 +6,7 @@ returns c = record {
   counted = omega (arith, c.len-cubes.ensures, c.in_ok-entries.ensures.count);
   entries = c.in_ok-entries.entries.items;
   are_given = c.in_ok-entries.ensures.given;
-  tree = rw c.deref.ensures.value at c.in_ok-root.ensures.tree;
+  tree =
+      let tree = rw c.deref-2.ensures.value at (rw c.deref.ensures.value at c.in_ok-root.ensures.tree) in
+      tree c.args.sets.now c.in_ok-ranks.ensures;
 }
