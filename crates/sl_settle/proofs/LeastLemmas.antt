@@ -11,7 +11,7 @@ use Rattle.sl_cube.specs.Points.{InRange, IsIn, NotAfter}
 use Rattle.sl_cube.specs.Search.{IsSplit, IsSingle}
 use Rattle.sl_cube.proofs.BitLemmas.{clash}
 use Rattle.sl_settle.specs.declared.CubeSet.{CubeSet}
-use Rattle.sl_settle.specs.declared.Candidate.{Candidate}
+use Rattle.sl_settle.specs.declared.candidate.Candidate.{Candidate}
 use Rattle.sl_settle.specs.Unions.{IsBelow, has_set}
 use Rattle.sl_settle.specs.Settled.{IsSettled, IsUnsettled, Matches, IsLeastLacking}
 use Rattle.sl_settle.specs.Left.{IsThere, KeepsAll, Adds, IsAnswer, IsLeastIn, AreAllOf}
@@ -122,11 +122,4 @@ first_some sets whole left p m cm same h = (
   h.here.0,
   unsettled_same (IsBelow sets) (Matches sets p) (IsThere left p) (same p) h.here.2,
   λ q range u. h.least q range (in_whole whole q m cm) (unsettled_same (IsBelow sets) (IsThere left q) (Matches sets q) (λ i. ((same q i).1, (same q i).0)) u),
-)
-
-pub all_alike : (sets : List CubeSet) (whole : Cube) (a b : List Candidate) (p : Point) → AreAllOf sets a → AreAllOf sets b → IsAnswer sets whole a (Some p) → IsAnswer sets whole b (Some p)
-all_alike sets whole a b p of_a of_b h = (
-  h.0,
-  h.1,
-  unsettled_same (IsBelow sets) (IsThere b p) (IsThere a p) (λ i. (λ x. (of_b p i).1 ((of_a p i).0 x), λ x. (of_a p i).1 ((of_b p i).0 x))) h.2,
 )

@@ -1,5 +1,5 @@
 -- What is left of sets in a region: candidates that are added, kept and taken away.
-use Rattle.std.proofs.Common.{suc, zero, ◌≡◌, ◌≢◌, ◌↔◌, ℕ, ◌+◌, ◌<◌, ◌≤◌, ◌⊎◌, MatchOption, List, length, get_or, [], ◌∷◌, ◌++◌, below_more, Option, Some, None, Bool, true, false, IsTrue, arith, sym, ◌∙◌, ap, refl, inl, inr, subst}
+use Rattle.std.proofs.Common.{suc, zero, ◌≡◌, ◌≢◌, ◌↔◌, ℕ, ◌+◌, ◌<◌, ◌≤◌, ◌⊎◌, MatchOption, IfSome, List, length, get_or, [], ◌∷◌, ◌++◌, below_more, Option, Some, None, Bool, true, false, IsTrue, arith, sym, ◌∙◌, ap, refl, inl, inr, subst}
 use mathlib.Core.Bool.{not}
 use Rattle.std.specs.Option.{is_some}
 use Rattle.std.specs.List.{All, Any, HoldsAt}
@@ -9,20 +9,20 @@ use Rattle.std.proofs.lemmas.List.Quantifiers.{Any-push}
 use Rattle.std.proofs.lemmas.List.{get_or_default}
 use Rattle.sl_cube.specs.declared.Cube.{Cube}
 use Rattle.sl_cube.specs.declared.Point.{Point}
-use Rattle.sl_cube.specs.Points.{InRange, IsIn, IsInSome, Includes}
+use Rattle.sl_cube.specs.Points.{InRange, IsIn, IsInSome, Includes, DoMeet}
 use Rattle.sl_cube.specs.Search.{KeepsMeeting, IsHalved, FixesNoMore}
 use Rattle.sl_cube.specs.Tallies.{IsOpenBits, IsOpenIfSome, AreWeighed}
 use Rattle.sl_cube.proofs.CubeLemmas.{in_or_out}
 use Rattle.sl_settle.proofs.WithinLemmas.{below_irrefl, below_trans}
 use Rattle.sl_settle.specs.declared.CubeSet.{CubeSet}
-use Rattle.sl_settle.specs.declared.Candidate.{Candidate}
-use Rattle.sl_settle.specs.Unions.{IsBelow}
+use Rattle.sl_settle.specs.declared.candidate.Candidate.{Candidate}
+use Rattle.sl_settle.specs.Unions.{IsBelow, AreInside, IsHullOf}
 use Rattle.sl_settle.specs.Settled.{IsBest, IsSettled, IsUnsettled}
-use Rattle.sl_settle.specs.Left.{IsThere, IsNoneThere, KeepsAll, Adds, AddsUnless, IsWithoutAbove, Fills, IsFilledBy, Carries, IsAnswer, IsConstant, StandsBeside, IsLowest, HasBest, IsChosen, AreNested}
+use Rattle.sl_settle.specs.Left.{cubes_of, IsThere, IsNoneThere, KeepsAll, Adds, AddsWithin, AddsUnless, IsAbove, IsWithoutAbove, Fills, IsFilledBy, Carries, IsAnswer, IsConstant, StandsBeside, IsLowest, HasBest, IsChosen, AreNested}
 
 -- ---- one more candidate
 
-pub there_at : (left : List Candidate) (k : ℕ) (c : Candidate) (p : Point) → k < length left → c ≡ get_or left k c → IsInSome c.cubes.items p → IsThere left p c.set
+pub there_at : (left : List Candidate) (k : ℕ) (c : Candidate) (p : Point) → k < length left → c ≡ get_or left k c → IsInSome (cubes_of c) p → IsThere left p c.set
 there_at left k c p below is inside = (k, c, below, sym is, (refl, inside))
 
 old_there : (xs : List Candidate) (c : Candidate) (p : Point) (i : ℕ) → IsThere xs p i → IsThere (xs ++ c ∷ []) p i
@@ -30,27 +30,56 @@ old_there xs c p i h =
     let there = Contains-append_left xs (c ∷ []) h.1 (h.0, h.2, h.3) in
     (there.0, h.1, there.1, there.2, h.4)
 
-new_there : (xs : List Candidate) (c : Candidate) (p : Point) (i : ℕ) → (c.set ≡ i) × IsInSome c.cubes.items p → IsThere (xs ++ c ∷ []) p i
-new_there xs c p i h = Any-push (λ (x : Candidate). (x.set ≡ i) × IsInSome x.cubes.items p) xs c h
+new_there : (xs : List Candidate) (c : Candidate) (p : Point) (i : ℕ) → (c.set ≡ i) × IsInSome (cubes_of c) p → IsThere (xs ++ c ∷ []) p i
+new_there xs c p i h = Any-push (λ (x : Candidate). (x.set ≡ i) × IsInSome (cubes_of x) p) xs c h
 
 pushed_there : (xs : List Candidate) (c : Candidate) (p : Point) (i : ℕ) → IsThere (xs ++ c ∷ []) p i
-    → IsThere xs p i ⊎ ((c.set ≡ i) × IsInSome c.cubes.items p)
+    → IsThere xs p i ⊎ ((c.set ≡ i) × IsInSome (cubes_of c) p)
 pushed_there xs c p i h = elim (Contains-push_cases xs c h.1 (h.0, h.2, h.3)) [
   | inl k ↦ inl (k.0, h.1, k.1, k.2, h.4)
-  | inr e ↦ inr (subst (λ (x : Candidate). (x.set ≡ i) × IsInSome x.cubes.items p) (sym e) h.4)
+  | inr e ↦ inr (subst (λ (x : Candidate). (x.set ≡ i) × IsInSome (cubes_of x) p) (sym e) h.4)
 ]
 
-pub adds_pushed : (xs : List Candidate) (c : Candidate) → Adds xs c.set c.cubes.items (xs ++ c ∷ [])
+pub adds_pushed : (xs : List Candidate) (c : Candidate) → Adds xs c.set (cubes_of c) (xs ++ c ∷ [])
 adds_pushed xs c = λ p i. (pushed_there xs c p i, λ s. elim s [ inl old ↦ old_there xs c p i old | inr new ↦ new_there xs c p i new ])
 
 pub adds_nothing : (xs : List Candidate) (set : ℕ) (cubes : List Cube) → length cubes ≡ 0 → Adds xs set cubes xs
 adds_nothing xs set cubes none = λ p i. (inl, λ s. elim s [ inl old ↦ old | inr new ↦ absurd (omega (arith, new.1.2)) ])
 
+-- a candidate that has the set and the cubes of another
+pub adds_lent : (xs : List Candidate) (c d : Candidate) → d.set ≡ c.set → cubes_of d ≡ cubes_of c → Adds xs c.set (cubes_of c) (xs ++ d ∷ [])
+adds_lent xs c d set cubes =
+    subst (λ (i : ℕ). Adds xs i (cubes_of c) (xs ++ d ∷ [])) set (subst (λ (cs : List Cube). Adds xs d.set cs (xs ++ d ∷ [])) cubes (adds_pushed xs d))
+
+pub within_adds : (region : Cube) (xs new : List Candidate) (c : Candidate) → Adds xs c.set (cubes_of c) new → AddsWithin region c xs new
+within_adds region xs new c adds = λ p range inside i. adds p i
+
+-- only the cubes that meet the region
+pub within_meeting : (region : Cube) (xs new : List Candidate) (c : Candidate) (cubes : List Cube) → KeepsMeeting region (cubes_of c) cubes → Adds xs c.set cubes new
+    → AddsWithin region c xs new
+within_meeting region xs new c cubes meets adds = λ p range inside i. (
+  λ h. elim ((adds p i).0 h) [ inl old ↦ inl old | inr fresh ↦ inr (fresh.0, (meets p range inside).0 fresh.1) ],
+  λ s. elim s [ inl old ↦ (adds p i).1 (inl old) | inr fresh ↦ (adds p i).1 (inr (fresh.0, (meets p range inside).1 fresh.1)) ],
+)
+
+-- nothing, since the hull lies outside
+pub within_apart : (region : Cube) (xs : List Candidate) (c : Candidate) → (DoMeet region c.hull → ⊥) → AddsWithin region c xs xs
+within_apart region xs c apart = λ p range inside i. (
+  inl,
+  λ s. elim s [
+    | inl old ↦ old
+    | inr fresh ↦ absurd (apart (p, range, inside, c.in_hull p range fresh.1))
+  ],
+)
+
+pub hull_inside : (cubes : List Cube) (hull : Cube) → IsHullOf cubes hull → AreInside hull cubes
+hull_inside cubes hull is = λ p range some. (is p range).1 (λ i bit all. all p range some, λ i bit all. all p range some)
+
 -- ---- what is left in a region
 
 pub record KeptFirst (region : Cube) (left kept : List Candidate) (n : ℕ) : Type 0 where
   pub among : (p : Point) (i : ℕ) → InRange p → IsIn p region → IsThere kept p i → IsThere left p i
-  pub first : (k : ℕ) → k < n → HoldsAt (λ (c : Candidate). (p : Point) → InRange p → IsIn p region → IsInSome c.cubes.items p → IsThere kept p c.set) left k
+  pub first : (k : ℕ) → k < n → HoldsAt (λ (c : Candidate). (p : Point) → InRange p → IsIn p region → IsInSome (cubes_of c) p → IsThere kept p c.set) left k
 
 pub nothing_there : (p : Point) (i : ℕ) → IsThere [] p i → ⊥
 nothing_there p i h = omega (arith, h.2)
@@ -58,17 +87,17 @@ nothing_there p i h = omega (arith, h.2)
 pub kept_none : (region : Cube) (left : List Candidate) → KeptFirst region left [] 0
 kept_none region left = record { among = λ p i range inside h. absurd (nothing_there p i h); first = λ k below. absurd (omega arith) }
 
-pub kept_more : (region : Cube) (left kept new : List Candidate) (n : ℕ) (c : Candidate) (cubes : List Cube) → n < length left → c ≡ get_or left n c
-    → KeepsMeeting region c.cubes.items cubes → Adds kept c.set cubes new → KeptFirst region left kept n → KeptFirst region left new (n + 1)
-kept_more region left kept new n c cubes below is meets adds f = record {
-  among = λ p i range inside h. elim ((adds p i).0 h) [
+pub kept_more : (region : Cube) (left kept new : List Candidate) (n : ℕ) (c : Candidate) → n < length left → c ≡ get_or left n c
+    → AddsWithin region c kept new → KeptFirst region left kept n → KeptFirst region left new (n + 1)
+kept_more region left kept new n c below is adds f = record {
+  among = λ p i range inside h. elim ((adds p range inside i).0 h) [
     | inl old ↦ f.among p i range inside old
-    | inr fresh ↦ subst (λ (x : ℕ). IsThere left p x) fresh.0 (there_at left n c p below is ((meets p range inside).0 fresh.1))
+    | inr fresh ↦ subst (λ (x : ℕ). IsThere left p x) fresh.0 (there_at left n c p below is fresh.1)
   ];
-  first = below_more (λ k. HoldsAt (λ (x : Candidate). (p : Point) → InRange p → IsIn p region → IsInSome x.cubes.items p → IsThere new p x.set) left k) n
-      (λ k lt d p range inside has. (adds p (get_or left k d).set).1 (inl (f.first k lt d p range inside has)))
-      (at_read left (λ (x : Candidate). (p : Point) → InRange p → IsIn p region → IsInSome x.cubes.items p → IsThere new p x.set) n c below is
-      (λ p range inside has. (adds p c.set).1 (inr (refl, (meets p range inside).1 has))));
+  first = below_more (λ k. HoldsAt (λ (x : Candidate). (p : Point) → InRange p → IsIn p region → IsInSome (cubes_of x) p → IsThere new p x.set) left k) n
+      (λ k lt d p range inside has. (adds p range inside (get_or left k d).set).1 (inl (f.first k lt d p range inside has)))
+      (at_read left (λ (x : Candidate). (p : Point) → InRange p → IsIn p region → IsInSome (cubes_of x) p → IsThere new p x.set) n c below is
+      (λ p range inside has. (adds p range inside c.set).1 (inr (refl, has))));
 }
 
 pub kept_all : (region : Cube) (left kept : List Candidate) (n : ℕ) → length left ≤ n → KeptFirst region left kept n → KeepsAll region left kept
@@ -76,50 +105,50 @@ kept_all region left kept n all f = λ p range inside i. (
   f.among p i range inside,
   λ h.
       let lt : h.0 < n = omega (arith, h.2) in
-      let at = subst (λ (x : Candidate). (p : Point) → InRange p → IsIn p region → IsInSome x.cubes.items p → IsThere kept p x.set) h.3 (f.first h.0 lt h.1) in
+      let at = subst (λ (x : Candidate). (p : Point) → InRange p → IsIn p region → IsInSome (cubes_of x) p → IsThere kept p x.set) h.3 (f.first h.0 lt h.1) in
       subst (λ (x : ℕ). IsThere kept p x) h.4.0 (at p range inside h.4.1),
 )
 
--- ---- those above a set that fills the region
+-- ---- those above a set that fills the region, if any
 
-pub record WithoutFirst (sets : List CubeSet) (lower : ℕ) (left thin : List Candidate) (n : ℕ) : Type 0 where
+pub record WithoutFirst (sets : List CubeSet) (filled : Option ℕ) (left thin : List Candidate) (n : ℕ) : Type 0 where
   pub among : (p : Point) (i : ℕ) → IsThere thin p i → IsThere left p i
-  pub leaves : (k : ℕ) → k < n → HoldsAt (λ (c : Candidate). (p : Point) → IsInSome c.cubes.items p → IsThere thin p c.set ⊎ IsBelow sets lower c.set) left k
+  pub leaves : (k : ℕ) → k < n → HoldsAt (λ (c : Candidate). (p : Point) → IsInSome (cubes_of c) p → IsThere thin p c.set ⊎ IsAbove sets filled c.set) left k
 
-pub without_none : (sets : List CubeSet) (lower : ℕ) (left : List Candidate) → WithoutFirst sets lower left [] 0
-without_none sets lower left = record { among = λ p i h. absurd (nothing_there p i h); leaves = λ k below. absurd (omega arith) }
+pub without_none : (sets : List CubeSet) (filled : Option ℕ) (left : List Candidate) → WithoutFirst sets filled left [] 0
+without_none sets filled left = record { among = λ p i h. absurd (nothing_there p i h); leaves = λ k below. absurd (omega arith) }
 
-pub without_more : (sets : List CubeSet) (lower : ℕ) (left thin new : List Candidate) (n : ℕ) (c : Candidate) → n < length left → c ≡ get_or left n c
-    → AddsUnless sets lower c thin new → WithoutFirst sets lower left thin n → WithoutFirst sets lower left new (n + 1)
-without_more sets lower left thin new n c below is (inl adds) f = record {
+pub without_more : (sets : List CubeSet) (filled : Option ℕ) (left thin new : List Candidate) (n : ℕ) (c : Candidate) → n < length left → c ≡ get_or left n c
+    → AddsUnless sets filled c thin new → WithoutFirst sets filled left thin n → WithoutFirst sets filled left new (n + 1)
+without_more sets filled left thin new n c below is (inl adds) f = record {
   among = λ p i h. elim ((adds p i).0 h) [
     | inl old ↦ f.among p i old
     | inr fresh ↦ subst (λ (x : ℕ). IsThere left p x) fresh.0 (there_at left n c p below is fresh.1)
   ];
-  leaves = below_more (λ k. HoldsAt (λ (x : Candidate). (p : Point) → IsInSome x.cubes.items p → IsThere new p x.set ⊎ IsBelow sets lower x.set) left k) n
+  leaves = below_more (λ k. HoldsAt (λ (x : Candidate). (p : Point) → IsInSome (cubes_of x) p → IsThere new p x.set ⊎ IsAbove sets filled x.set) left k) n
       (λ k lt d p has. elim (f.leaves k lt d p has) [ inl there ↦ inl ((adds p (get_or left k d).set).1 (inl there)) | inr above ↦ inr above ])
-      (at_read left (λ (x : Candidate). (p : Point) → IsInSome x.cubes.items p → IsThere new p x.set ⊎ IsBelow sets lower x.set) n c below is
+      (at_read left (λ (x : Candidate). (p : Point) → IsInSome (cubes_of x) p → IsThere new p x.set ⊎ IsAbove sets filled x.set) n c below is
       (λ p has. inl ((adds p c.set).1 (inr (refl, has)))));
 }
-without_more sets lower left thin new n c below is (inr unless) f = record {
+without_more sets filled left thin new n c below is (inr unless) f = record {
   among = λ p i h. f.among p i (subst (λ (xs : List Candidate). IsThere xs p i) unless.0 h);
-  leaves = below_more (λ k. HoldsAt (λ (x : Candidate). (p : Point) → IsInSome x.cubes.items p → IsThere new p x.set ⊎ IsBelow sets lower x.set) left k) n
+  leaves = below_more (λ k. HoldsAt (λ (x : Candidate). (p : Point) → IsInSome (cubes_of x) p → IsThere new p x.set ⊎ IsAbove sets filled x.set) left k) n
       (λ k lt d p has. elim (f.leaves k lt d p has) [
         | inl there ↦ inl (subst (λ (xs : List Candidate). IsThere xs p (get_or left k d).set) (sym unless.0) there)
         | inr above ↦ inr above
       ])
-      (at_read left (λ (x : Candidate). (p : Point) → IsInSome x.cubes.items p → IsThere new p x.set ⊎ IsBelow sets lower x.set) n c below is
+      (at_read left (λ (x : Candidate). (p : Point) → IsInSome (cubes_of x) p → IsThere new p x.set ⊎ IsAbove sets filled x.set) n c below is
       (λ p has. inr unless.1));
 }
 
-pub without_all : (sets : List CubeSet) (lower : ℕ) (left thin : List Candidate) (n : ℕ) → length left ≤ n → WithoutFirst sets lower left thin n
-    → IsWithoutAbove sets lower left thin
-without_all sets lower left thin n all f = record {
+pub without_all : (sets : List CubeSet) (filled : Option ℕ) (left thin : List Candidate) (n : ℕ) → length left ≤ n → WithoutFirst sets filled left thin n
+    → IsWithoutAbove sets filled left thin
+without_all sets filled left thin n all f = record {
   among = f.among;
   leaves = λ p i h.
       let lt : h.0 < n = omega (arith, h.2) in
-      let at = subst (λ (x : Candidate). (p : Point) → IsInSome x.cubes.items p → IsThere thin p x.set ⊎ IsBelow sets lower x.set) h.3 (f.leaves h.0 lt h.1) in
-      subst (λ (x : ℕ). IsThere thin p x ⊎ IsBelow sets lower x) h.4.0 (at p h.4.1);
+      let at = subst (λ (x : Candidate). (p : Point) → IsInSome (cubes_of x) p → IsThere thin p x.set ⊎ IsAbove sets filled x.set) h.3 (f.leaves h.0 lt h.1) in
+      subst (λ (x : ℕ). IsThere thin p x ⊎ IsAbove sets filled x) h.4.0 (at p h.4.1);
 }
 
 -- ---- the choice among fewer
@@ -178,11 +207,15 @@ carries_kept sets region left kept k = record {
   unsettled = λ p range inside u. unsettled_same (IsBelow sets) (IsThere left p) (IsThere kept p) (k p range inside) u;
 }
 
-pub carries_without : (sets : List CubeSet) (region : Cube) (left thin : List Candidate) (m : ℕ) → IsFilledBy region left (Some m) → IsWithoutAbove sets m left thin
-    → Carries sets region left thin
-carries_without sets region left thin m filled w = record {
-  settled = λ p range inside s. settled_up (IsBelow sets) (below_irrefl sets) (below_trans sets) (IsThere left p) (IsThere thin p) m (filled p range inside) (w.among p) (w.leaves p) s;
-  unsettled = λ p range inside u. unsettled_up (IsBelow sets) (below_irrefl sets) (below_trans sets) (IsThere left p) (IsThere thin p) m (filled p range inside) (w.among p) (w.leaves p) u;
+pub carries_without : (sets : List CubeSet) (region : Cube) (left thin : List Candidate) (filled : Option ℕ) → IsFilledBy region left filled
+    → IsWithoutAbove sets filled left thin → Carries sets region left thin
+carries_without sets region left thin None f w = carries_kept sets region left thin (λ p range inside i. (
+  w.among p i,
+  λ h. elim (w.leaves p i h) [ inl there ↦ there | inr above ↦ absurd above ],
+))
+carries_without sets region left thin (Some m) f w = record {
+  settled = λ p range inside s. settled_up (IsBelow sets) (below_irrefl sets) (below_trans sets) (IsThere left p) (IsThere thin p) m (f p range inside) (w.among p) (w.leaves p) s;
+  unsettled = λ p range inside u. unsettled_up (IsBelow sets) (below_irrefl sets) (below_trans sets) (IsThere left p) (IsThere thin p) m (f p range inside) (w.among p) (w.leaves p) u;
 }
 
 -- ---- a set that fills the region
@@ -191,7 +224,7 @@ pub fills_from : (region : Cube) (cubes : List Cube) (k : ℕ) (cube : Cube) →
 fills_from region cubes k cube below is h = λ p range inside. (k, cube, below, sym is, h p range inside)
 
 pub filled_more : (region : Cube) (left : List Candidate) (n : ℕ) (c : Candidate) (lower : Bool) (found result : Option ℕ) → n < length left → c ≡ get_or left n c
-    → (IsTrue lower → Fills region c.cubes.items) → IsChosen lower c.set found result → IsFilledBy region left found → IsFilledBy region left result
+    → (IsTrue lower → Fills region (cubes_of c)) → IsChosen lower c.set found result → IsFilledBy region left found → IsFilledBy region left result
 filled_more region left n c true found result below is fills chosen f =
     subst (λ (o : Option ℕ). IsFilledBy region left o) (sym chosen) (λ p range inside. there_at left n c p below is (fills refl p range inside))
 filled_more region left n c false found result below is fills chosen f = subst (λ (o : Option ℕ). IsFilledBy region left o) (sym chosen) f
@@ -200,7 +233,7 @@ filled_more region left n c false found result below is fills chosen f = subst (
 
 -- No cube of the first n candidates fixes an open bit, or the bits are open.
 abbrev pub TalliedFirst : Cube → List Candidate → ℕ → Option Point → Type 0
-TalliedFirst region left n None = (k : ℕ) → k < n → HoldsAt (λ (c : Candidate). All (FixesNoMore region) c.cubes.items) left k
+TalliedFirst region left n None = (k : ℕ) → k < n → HoldsAt (λ (c : Candidate). All (FixesNoMore region) (cubes_of c)) left k
 TalliedFirst region left n (Some bits) = IsOpenBits region bits
 
 pub tallied_begun : (region : Cube) (left : List Candidate) → TalliedFirst region left 0 None
@@ -210,11 +243,23 @@ pub tallied_open : (region : Cube) (left : List Candidate) (n : ℕ) (now : Opti
 tallied_open region left n None f = tt
 tallied_open region left n (Some bits) f = f
 
+pub open_more : (region : Cube) (cubes : List Cube) (now next : Option Point) → AreWeighed region cubes now next → IsOpenIfSome region now → IsOpenIfSome region next
+open_more region cubes now None after f = tt
+open_more region cubes now (Some bits) after f = elim after [
+  | inl kept ↦ subst (IsOpenIfSome region) kept f
+  | inr new ↦ new
+]
+
+pub halves_some : (region : Cube) (now : Option Point) (halves : Option (Cube × Cube)) → MatchOption halves (now ≡ None) (λ h. IsHalved region h.0 h.1)
+    → IfSome halves (λ h. IsHalved region h.0 h.1)
+halves_some region now None h = tt
+halves_some region now (Some halves) h = h
+
 pub tallied_more : (region : Cube) (left : List Candidate) (n : ℕ) (c : Candidate) (now next : Option Point) → n < length left → c ≡ get_or left n c
-    → AreWeighed region c.cubes.items now next → TalliedFirst region left n now → TalliedFirst region left (n + 1) next
+    → AreWeighed region (cubes_of c) now next → TalliedFirst region left n now → TalliedFirst region left (n + 1) next
 tallied_more region left n c now None below is after f =
-    below_more (λ k. HoldsAt (λ (x : Candidate). All (FixesNoMore region) x.cubes.items) left k) n (subst (λ (o : Option Point). TalliedFirst region left n o) after.0 f)
-    (at_read left (λ (x : Candidate). All (FixesNoMore region) x.cubes.items) n c below is after.1)
+    below_more (λ k. HoldsAt (λ (x : Candidate). All (FixesNoMore region) (cubes_of x)) left k) n (subst (λ (o : Option Point). TalliedFirst region left n o) after.0 f)
+    (at_read left (λ (x : Candidate). All (FixesNoMore region) (cubes_of x)) n c below is after.1)
 tallied_more region left n c now (Some bits) below is after f = elim after [
   | inl kept ↦ subst (λ (o : Option Point). TalliedFirst region left n o) kept f
   | inr new ↦ new
@@ -227,8 +272,8 @@ constant_in region cubes p q in_p in_q all some =
 tallied_all : (region : Cube) (left : List Candidate) (n : ℕ) → length left ≤ n → TalliedFirst region left n None → IsConstant region left
 tallied_all region left n all f = λ p q in_p in_q i h.
     let lt : h.0 < n = omega (arith, h.2) in
-    let at = subst (λ (x : Candidate). All (FixesNoMore region) x.cubes.items) h.3 (f h.0 lt h.1) in
-    (h.0, h.1, h.2, h.3, (h.4.0, constant_in region h.1.cubes.items p q in_p in_q at h.4.1))
+    let at = subst (λ (x : Candidate). All (FixesNoMore region) (cubes_of x)) h.3 (f h.0 lt h.1) in
+    (h.0, h.1, h.2, h.3, (h.4.0, constant_in region (cubes_of h.1) p q in_p in_q at h.4.1))
 
 pub tallied_halves : (region : Cube) (left : List Candidate) (n : ℕ) (now : Option Point) (halves : Option (Cube × Cube)) → length left ≤ n → TalliedFirst region left n now
     → MatchOption halves (now ≡ None) (λ h. IsHalved region h.0 h.1) → MatchOption halves (IsConstant region left) (λ h. IsHalved region h.0 h.1)
@@ -237,40 +282,40 @@ tallied_halves region left n now (Some h) all f halved = halved
 
 -- ---- the choice at one point
 
-pub none_first : (left : List Candidate) (p : Point) → (k : ℕ) → k < 0 → HoldsAt (λ (c : Candidate). IsInSome c.cubes.items p → ⊥) left k
+pub none_first : (left : List Candidate) (p : Point) → (k : ℕ) → k < 0 → HoldsAt (λ (c : Candidate). IsInSome (cubes_of c) p → ⊥) left k
 none_first left p = λ k below. absurd (omega arith)
 
-pub none_there : (left : List Candidate) (p : Point) (n : ℕ) → length left ≤ n → ((k : ℕ) → k < n → HoldsAt (λ (c : Candidate). IsInSome c.cubes.items p → ⊥) left k) → IsNoneThere left p
+pub none_there : (left : List Candidate) (p : Point) (n : ℕ) → length left ≤ n → ((k : ℕ) → k < n → HoldsAt (λ (c : Candidate). IsInSome (cubes_of c) p → ⊥) left k) → IsNoneThere left p
 none_there left p n all f = λ i h.
     let lt : h.0 < n = omega (arith, h.2) in
-    subst (λ (x : Candidate). IsInSome x.cubes.items p → ⊥) h.3 (f h.0 lt h.1) h.4.1
+    subst (λ (x : Candidate). IsInSome (cubes_of x) p → ⊥) h.3 (f h.0 lt h.1) h.4.1
 
-pub beside_from : (sets : List CubeSet) (p : Point) (set : ℕ) (other : Candidate) (below : Bool) → IsInSome other.cubes.items p → (other.set ≢ set)
+pub beside_from : (sets : List CubeSet) (p : Point) (set : ℕ) (other : Candidate) (below : Bool) → IsInSome (cubes_of other) p → (other.set ≢ set)
     → IsTrue below ↔ IsBelow sets set other.set → StandsBeside sets p set other (not below)
 beside_from sets p set other true inside ne iff = λ i o. iff.0 refl
 beside_from sets p set other false inside ne iff = (inside, ne, λ b. false≢true (iff.1 b))
 
 pub lowest_all : (sets : List CubeSet) (left : List Candidate) (p : Point) (set n : ℕ) → length left ≤ n
-    → ((k : ℕ) → k < n → HoldsAt (λ (c : Candidate). IsInSome c.cubes.items p → c.set ≢ set → IsBelow sets set c.set) left k) → IsLowest sets left p set
+    → ((k : ℕ) → k < n → HoldsAt (λ (c : Candidate). IsInSome (cubes_of c) p → c.set ≢ set → IsBelow sets set c.set) left k) → IsLowest sets left p set
 lowest_all sets left p set n all f = λ j h ne.
     let lt : h.0 < n = omega (arith, h.2) in
-    let at = subst (λ (x : Candidate). IsInSome x.cubes.items p → x.set ≢ set → IsBelow sets set x.set) h.3 (f h.0 lt h.1) in
+    let at = subst (λ (x : Candidate). IsInSome (cubes_of x) p → x.set ≢ set → IsBelow sets set x.set) h.3 (f h.0 lt h.1) in
     subst (λ (x : ℕ). IsBelow sets set x) h.4.0 (at h.4.1 (λ e. ne (sym h.4.0 ∙ e)))
 
 pub not_lowest : (sets : List CubeSet) (left : List Candidate) (p : Point) (set n : ℕ) (c : Candidate) → n < length left → c ≡ get_or left n c
-    → IsInSome c.cubes.items p → c.set ≢ set → (IsBelow sets set c.set → ⊥) → IsLowest sets left p set → ⊥
+    → IsInSome (cubes_of c) p → c.set ≢ set → (IsBelow sets set c.set → ⊥) → IsLowest sets left p set → ⊥
 not_lowest sets left p set n c below is inside ne out low = out (low c.set (there_at left n c p below is inside) ne)
 
 pub best_from : (sets : List CubeSet) (left : List Candidate) (p : Point) (n : ℕ) (c : Candidate) → n < length left → c ≡ get_or left n c
-    → IsInSome c.cubes.items p → IsLowest sets left p c.set → HasBest sets left p true
+    → IsInSome (cubes_of c) p → IsLowest sets left p c.set → HasBest sets left p true
 best_from sets left p n c below is inside low = (c.set, record { there = there_at left n c p below is inside; below = low })
 
 pub best_none : (sets : List CubeSet) (left : List Candidate) (p : Point) (n : ℕ) → length left ≤ n
-    → ((k : ℕ) → k < n → HoldsAt (λ (c : Candidate). IsInSome c.cubes.items p × IsLowest sets left p c.set → ⊥) left k) → HasBest sets left p false
+    → ((k : ℕ) → k < n → HoldsAt (λ (c : Candidate). IsInSome (cubes_of c) p × IsLowest sets left p c.set → ⊥) left k) → HasBest sets left p false
 best_none sets left p n all f = λ i b.
     let h = b.there in
     let lt : h.0 < n = omega (arith, h.2) in
-    let at = subst (λ (x : Candidate). IsInSome x.cubes.items p × IsLowest sets left p x.set → ⊥) h.3 (f h.0 lt h.1) in
+    let at = subst (λ (x : Candidate). IsInSome (cubes_of x) p × IsLowest sets left p x.set → ⊥) h.3 (f h.0 lt h.1) in
     at (h.4.1, λ j there ne. subst (λ (x : ℕ). IsBelow sets x j) (sym h.4.0) (b.below j there (λ e. ne (e ∙ sym h.4.0))))
 
 -- ---- answers
@@ -373,12 +418,12 @@ pub some_or_none : (cubes : List Cube) (p : Point) → IsInSome cubes p ⊎ (IsI
 some_or_none cubes p = any_or_none (λ c. IsIn p c) (λ c. in_or_out p c) cubes
 
 there_or_not : (left : List Candidate) (p : Point) (i : ℕ) → IsThere left p i ⊎ (IsThere left p i → ⊥)
-there_or_not left p i = any_or_none (λ (c : Candidate). (c.set ≡ i) × IsInSome c.cubes.items p) (λ c. one c) left
+there_or_not left p i = any_or_none (λ (c : Candidate). (c.set ≡ i) × IsInSome (cubes_of c) p) (λ c. one c) left
   where
-    one : (c : Candidate) → ((c.set ≡ i) × IsInSome c.cubes.items p) ⊎ ((c.set ≡ i) × IsInSome c.cubes.items p → ⊥)
+    one : (c : Candidate) → ((c.set ≡ i) × IsInSome (cubes_of c) p) ⊎ ((c.set ≡ i) × IsInSome (cubes_of c) p → ⊥)
     one c = elim (cases_eq c.set i) [
       | inr other ↦ inr (λ h. other h.0)
-      | inl same ↦ elim (some_or_none c.cubes.items p) [ inl inside ↦ inl (same, inside) | inr out ↦ inr (λ h. out h.1) ]
+      | inl same ↦ elim (some_or_none (cubes_of c) p) [ inl inside ↦ inl (same, inside) | inr out ↦ inr (λ h. out h.1) ]
     ]
 
 best_low : (sets : List CubeSet) (left : List Candidate) (p : Point) (n : AreNested sets left) → IsThere left p n.low → IsBest (IsBelow sets) (IsThere left p) n.low

@@ -15,6 +15,10 @@ has_set s p = IsInSome s.cubes.items p
 abbrev pub AreWithin : List Cube → List Cube → Type 0
 AreWithin inner outer = (p : Point) → InRange p → IsInSome inner p → IsInSome outer p
 
+-- Each point of the cubes is in the hull.
+abbrev pub AreInside : Cube → List Cube → Type 0
+AreInside hull cubes = (p : Point) → InRange p → IsInSome cubes p → IsIn p hull
+
 -- The set at the first index lies properly within the one at the second.
 abbrev pub IsBelow : List CubeSet → ℕ → ℕ → Type 0
 IsBelow sets = LiesBelow has_set sets

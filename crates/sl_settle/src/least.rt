@@ -5,11 +5,13 @@ ghost use Rattle.sl_settle.specs.Settled.{IsLeastLacking};
 ghost use Rattle.sl_settle.specs.Left.{IsAnswer, IsLeastIn, AreAllOf};
 ghost use Rattle.sl_settle.specs.Kept.{AreRight};
 
+use super::CubeSet;
 use super::answers::Answers;
-use super::search::{copied, kept, put, unsettled};
-use super::{Candidate, CubeSet};
+use super::candidate::Candidate;
+use super::search::{kept, put, unsettled};
 use sl_cube::{Cube, Point, split};
 use std::alloc::{AllocError, Global};
+use std::borrow::CowSlice;
 
 /// The least point of the region that is not settled, from any such point on.
 fn least_from(
@@ -17,7 +19,7 @@ fn least_from(
     sets: &[CubeSet],
     answers: &mut Answers,
     region: &Cube,
-    left: &[Candidate],
+    left: &[Candidate<'_>],
     witness: &Point,
 ) -> Result<Point, AllocError>
     requires { AreRight sets.now answers.old }
@@ -32,8 +34,7 @@ fn least_from(
         let least = least_from(alloc, sets, answers, &low, &in_low, witness)?;
         return Ok(least);
     }
-    let searched = kept(alloc, &low, left)?;
-    let found = unsettled(alloc, sets, answers, &low, searched)?;
+    let found = unsettled(alloc, sets, answers, &low, &in_low)?;
     let Some(lower) = found else {
         let in_high = kept(alloc, &high, left)?;
         let least = least_from(alloc, sets, answers, &high, &in_high, witness)?;
@@ -43,14 +44,13 @@ fn least_from(
     Ok(least)
 }
 
-/// All cubes of all sets.
-fn all_of(alloc: Global, sets: &[CubeSet]) -> Result<Vec<Candidate>, AllocError>
+/// All sets with all their cubes, which are lent.
+fn all_of<'a>(alloc: Global, sets: &'a [CubeSet]) -> Result<Vec<Candidate<'a>>, AllocError>
     ensures { IfOk result (λ left. AreAllOf sets.now left.items) }
 {
     let mut left = Vec::new(alloc);
     for (index, set) in sets.iter().enumerate() {
-        let cubes = copied(alloc, &set.cubes)?;
-        put(&mut left, index, cubes)?;
+        put(&mut left, index, CowSlice::Borrowed(&set.cubes))?;
     }
     Ok(left)
 }
@@ -67,12 +67,11 @@ pub fn least_unsettled(alloc: Global, sets: &[CubeSet]) -> Result<Option<Point>,
         ctx_mask: 0,
         ctx_value: 0,
     };
-    let searched = all_of(alloc, sets)?;
-    let found = unsettled(alloc, sets, &mut answers, &whole, searched)?;
+    let left = all_of(alloc, sets)?;
+    let found = unsettled(alloc, sets, &mut answers, &whole, &left)?;
     let Some(witness) = found else {
         return Ok(None);
     };
-    let left = all_of(alloc, sets)?;
     let least = least_from(alloc, sets, &mut answers, &whole, &left, &witness)?;
     Ok(Some(least))
 }

@@ -3,6 +3,7 @@
 #![tactic(auto)]
 
 mod answers;
+mod candidate;
 mod hull;
 mod least;
 mod pair;
@@ -21,11 +22,4 @@ pub use within::{is_below, is_within};
 #[derive(Debug, Drop)]
 pub struct CubeSet {
     pub cubes: Vec<Cube>,
-}
-
-/// What is left in a region of points of the set at an index of a table.
-#[derive(Debug, Drop)]
-struct Candidate {
-    set: usize,
-    cubes: Vec<Cube>,
 }

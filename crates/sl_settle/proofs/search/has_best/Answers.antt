@@ -2,8 +2,8 @@ use Rattle.std.proofs.Common.{◌<◌, ◌≤◌, length, arith, sym, ◌∙◌,
 use Rattle.std.proofs.lemmas.Bool.{false≢true}
 use Rattle.std.proofs.lemmas.List.Elements.{at_read}
 use Rattle.sl_cube.specs.Points.{IsInSome}
-use Rattle.sl_settle.specs.Left.{IsLowest}
-use Rattle.sl_settle.specs.declared.Candidate.{Candidate}
+use Rattle.sl_settle.specs.Left.{cubes_of, IsLowest}
+use Rattle.sl_settle.specs.declared.candidate.Candidate.{Candidate}
 use Rattle.sl_settle.proofs.LeftLemmas.{best_from, best_none}
 use Rattle.sl_settle.proofs.search.has_best.Goals as goal
 
@@ -16,7 +16,7 @@ returns-then-best c =
 pub loop-candidate-preserved : goal.loop-candidate-preserved
 loop-candidate-preserved c =
     let below : c.loop-candidate.candidate-index < length c.args.left.now = omega arith in
-    below_more _ _ c.loop-candidate.invariant (at_read c.args.left.now (λ (x : Candidate). IsInSome x.cubes.items c.args.point.now × IsLowest c.args.sets.now c.args.left.now c.args.point.now x.set → ⊥)
+    below_more _ _ c.loop-candidate.invariant (at_read c.args.left.now (λ (x : Candidate). IsInSome (cubes_of x) c.args.point.now × IsLowest c.args.sets.now c.args.left.now c.args.point.now x.set → ⊥)
     c.loop-candidate.candidate-index c.candidate-item.result below c.candidate-item.is (λ both. false≢true (sym c.if-best.false ∙ c.in_ok-best.ensures.1 both)))
 
 pub returns : goal.returns

@@ -3,7 +3,8 @@ use Rattle.std.proofs.lemmas.Bool.{false≢true}
 use Rattle.std.proofs.lemmas.List.Elements.{at_read}
 use Rattle.sl_cube.specs.Points.{IsInSome}
 use Rattle.sl_settle.specs.Unions.{IsBelow}
-use Rattle.sl_settle.specs.declared.Candidate.{Candidate}
+use Rattle.sl_settle.specs.declared.candidate.Candidate.{Candidate}
+use Rattle.sl_settle.specs.Left.{cubes_of}
 use Rattle.sl_settle.proofs.LeftLemmas.{not_lowest, lowest_all}
 use Rattle.sl_settle.proofs.search.is_lowest.Goals as goal
 
@@ -19,7 +20,7 @@ pub loop-other-preserved : goal.loop-other-preserved
 loop-other-preserved c =
     let below : c.loop-other.other-index < length c.args.left.now = omega arith in
     let stands = rw c.if-beside.false at c.in_ok-beside.ensures in
-    below_more _ _ c.loop-other.invariant (at_read c.args.left.now (λ (x : Candidate). IsInSome x.cubes.items c.args.point.now → x.set ≢ c.args.set → IsBelow c.args.sets.now c.args.set x.set)
+    below_more _ _ c.loop-other.invariant (at_read c.args.left.now (λ (x : Candidate). IsInSome (cubes_of x) c.args.point.now → x.set ≢ c.args.set → IsBelow c.args.sets.now c.args.set x.set)
     c.loop-other.other-index c.other-item.result below c.other-item.is stands)
 
 pub returns : goal.returns

@@ -1,4 +1,3 @@
-use Rattle.sl_cube.proofs.OutsideLemmas.{keeps_meeting}
 use Rattle.std.proofs.Common.{◌<◌, ◌≤◌, length, arith}
 use Rattle.sl_settle.proofs.LeftLemmas.{kept_none, kept_more, kept_all}
 use Rattle.sl_settle.proofs.search.kept.Goals as goal
@@ -10,8 +9,8 @@ pub loop-candidate-preserved : goal.loop-candidate-preserved
 loop-candidate-preserved c =
     let left = c.args.left.now in
     let below : c.loop-candidate.candidate-index < length c.args.left.now = omega arith in
-    kept_more c.args.region.now left c.loop-candidate.kept.items c.put.new.kept.items c.loop-candidate.candidate-index c.candidate-item.result
-    c.in_ok-cubes.cubes.items below c.candidate-item.is (keeps_meeting c.args.region.now c.candidate-item.result.cubes.items c.in_ok-cubes.cubes.items (rw c.deref.ensures.value at c.in_ok-cubes.ensures)) c.in_ok-put.ensures c.loop-candidate.invariant
+    kept_more c.args.region.now left c.loop-candidate.kept.items c.put_meeting.new.kept.items c.loop-candidate.candidate-index c.candidate-item.result
+    below c.candidate-item.is c.in_ok-put_meeting.ensures c.loop-candidate.invariant
 
 pub returns : goal.returns
 returns c =

@@ -1,8 +1,12 @@
 use Rattle.std.proofs.Common.{List, sym, subst}
-use Rattle.sl_settle.specs.declared.Candidate.{Candidate}
+use Rattle.std.specs.Cow.{cow_slice_items}
+use Rattle.sl_settle.specs.declared.candidate.Candidate.{Candidate}
 use Rattle.sl_settle.specs.Left.{Adds}
-use Rattle.sl_settle.proofs.LeftLemmas.{adds_pushed}
+use Rattle.sl_settle.proofs.LeftLemmas.{adds_pushed, hull_inside}
 use Rattle.sl_settle.proofs.search.put.Goals as goal
 
+pub invariant_of-push : goal.invariant_of-push
+invariant_of-push c = record { in_hull = hull_inside (cow_slice_items c.args.cubes) c.in-Some.hull (rw c.as_slice.ensures.value at c.in-Some.ensures) }
+
 pub returns : goal.returns
-returns c = subst (λ (xs : List Candidate). Adds c.args.kept.now.items c.args.set c.args.cubes.items xs) (sym c.in_ok-push.ensures.items) (adds_pushed c.args.kept.now.items _)
+returns c = subst (λ (xs : List Candidate). Adds c.args.kept.now.items c.args.set (cow_slice_items c.args.cubes) xs) (sym c.in_ok-push.ensures.items) (adds_pushed c.args.kept.now.items _)

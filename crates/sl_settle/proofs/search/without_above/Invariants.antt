@@ -4,6 +4,6 @@ use Rattle.sl_settle.proofs.search.without_above.Given as goal
 
 abbrev pub invariant-loop-candidate : goal.invariant-loop-candidate
 invariant-loop-candidate l = record {
-  thin : WithoutFirst l.sets l.lower l.left l.thin.items l.candidate-index;
+  thin : WithoutFirst l.sets l.filled l.left l.thin.items l.candidate-index;
   right : AreRight l.sets l.answers;
 }
