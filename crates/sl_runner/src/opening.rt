@@ -8,7 +8,7 @@ ghost use Rattle.sl_runner.specs.Running.{opening};
 ghost use Rattle.sl_runner.specs.Told.{HasSpacesOf};
 ghost use Rattle.sl_word.specs.Bytes.{byte_at};
 
-use sl_build::address_sizes;
+use sl_section_sizes::address_sizes;
 use sl_spec::{Space, Tables};
 use sl_step::default_space;
 use sl_word::{AddressSize, State};
