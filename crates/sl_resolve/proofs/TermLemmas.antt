@@ -1,9 +1,8 @@
 -- Calls in expressions.
-use Rattle.std.proofs.Common.{◌≡◌, ℕ, ◌+◌, ◌≤◌, List, ◌++◌, Option, Some, None, length, drop, refl, sym, ap, ◌∙◌, append-nil, arith}
+use Rattle.std.proofs.Common.{◌≡◌, ℕ, ◌+◌, ◌≤◌, List, ◌++◌, Option, Some, None, length, drop, refl, sym, ap, ◌∙◌, append-nil, Vec, arith}
 use Rattle.std.proofs.Math.ListN.{drop_of_length-le}
 use Rattle.sl_ast.specs.Trees.{Expression, Expressions, integer, named, paren, call, sized, dropped, bits, prefix, star, binary, no_more, with_more}
 use denote.Ref.{Bor}
-use Rattle.std.proofs.Common.{Vec, Result, Ok, Err, OnOk}
 use Rattle.std.specs.declared.alloc.Global.{Global}
 use Rattle.sl_ast.specs.Views.{arguments, expression_of, expression_step, expressions_of}
 use Rattle.sl_ast.specs.declared.expressions.Expr as x
@@ -12,19 +11,13 @@ use Rattle.sl_ast.specs.declared.expressions.Expr.TheFolds.{fold-roll-Expr}
 use Rattle.sl_ast.specs.declared.expressions.Expr.TheOpen.{Expr-F}
 use Rattle.sl_ast.specs.declared.expressions.Expr.TheVariants.{rolls-Call}
 use Rattle.sl_section.specs.Sections.{Symbol, Term}
-use Rattle.sl_spec.specs.Tables.{Name}
 use Rattle.sl_spec.specs.declared.tables.Tables.{Tables}
-use Rattle.sl_resolve.specs.Scopes.{symbol_named}
-use Rattle.sl_resolve.specs.Terms.{called, dropped_of, dropped_or, single_integer, term_at, terms_at, variables_in}
+use Rattle.sl_resolve.specs.Terms.{dropped_of, single_integer, terms_at, variables_in}
 use Rattle.sl_resolve.specs.declared.names.Names.{Names}
 
 -- a call as the definitions see it
 pub seen_call : (w : Bor (List ℕ)) (es : Vec Expr Global) → expression_of (x.Call w es) ≡ call w.now (arguments (expressions_of es.items))
 seen_call w es = ap expression_of (sym (rolls-Call w es)) ∙ fold-roll-Expr Expression expression_step (Expr-F.Call w es)
-
-pub on_ok : {A E : Type 0} (r : Result A E) (P : Type 0) → P → OnOk r P
-on_ok (Ok a) P p = p
-on_ok (Err e) P p = tt
 
 -- where bytes of a name are dropped, the integer is the only argument
 pub drops_one : (a : Option Symbol) (es : Expressions) (d : Symbol × ℕ) → Some d ≡ dropped_of a (single_integer es) → variables_in es ≡ 1
@@ -65,12 +58,3 @@ module _ (t : Tables) (names : Names) where
       let here : next + variables_in (arguments (expressions_of (drop i es))) ≡ next + 0 =
       ap (λ (l : List Expr). next + variables_in (arguments (expressions_of l))) (drop_of_length-le es end) in
       omega (arith, here, so_far)
-
-  -- a call that drops no bytes
-  pub call_is : (w : Name) (es : Expressions) (start x : ℕ) (given : List Term) → None ≡ dropped_of (symbol_named t names w) (single_integer es)
-      → given ≡ terms_at t names start es → x ≡ start + variables_in es → called t names.reach w given x ≡ term_at t names start (call w es)
-  call_is w es start x given none is at =
-      let all = called t names.reach w (terms_at t names start es) (start + variables_in es) in
-      ap (λ (ts : List Term). called t names.reach w ts x) is
-      ∙ ap (λ (y : ℕ). called t names.reach w (terms_at t names start es) y) at
-      ∙ ap (λ (d : Option (Symbol × ℕ)). dropped_or d start all) none

@@ -195,6 +195,7 @@ fn name_dropped(alloc: Global, of: (Symbol, u64), next: &mut u32) -> Result<Term
 }
 
 /// The expression with its names taken out. Its first size variable is the next one.
+#[cycle(terms)]
 pub fn term<'a>(
     alloc: Global,
     t: &Tables<'a>,
@@ -261,11 +262,7 @@ pub fn term<'a>(
         Expr::Call(w, es) => match dropped_of(t, names, w, es.as_slice()) {
             Some(found) => name_dropped(alloc, found, next),
             None => {
-                let es = es.as_slice();
-                let mut given = Vec::new(alloc);
-                'given: for index in 0..es.len() {
-                    given.push(term(alloc, t, names, next, &es[index])?)?;
-                }
+                let given = terms(alloc, t, names, next, es.as_slice())?;
                 let x = take(next)?;
                 called(alloc, t, names.reach, w, given, x)
             }
@@ -273,7 +270,8 @@ pub fn term<'a>(
     }
 }
 
-/// The arguments of a user operation.
+/// The arguments of a call. Their first size variable is the next one.
+#[cycle(terms)]
 pub fn terms<'a>(
     alloc: Global,
     t: &Tables<'a>,
