@@ -10,3 +10,4 @@ pub mod RunLemmas
 pub mod SideLemmas
 pub mod TakenLemmas
 pub mod VerdictLemmas
+pub mod WalkLemmas

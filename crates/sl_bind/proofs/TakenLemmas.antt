@@ -13,7 +13,7 @@ use Rattle.std.proofs.lemmas.Slice.Eq.{bytes_eq-Decides}
 use Rattle.sl_ast.specs.Trees.{Constructor}
 use Rattle.sl_ast.specs.Unfolding.{Placed, written}
 use Rattle.sl_actions.specs.ActionNames.{action_names, with_name}
-use Rattle.sl_bind.proofs.GrowLemmas.{Grows, first_holds, is_kept}
+use Rattle.sl_bind.proofs.GrowLemmas.{Grows, ctor_of, first_holds, is_kept, table_stands}
 use Rattle.sl_bind.proofs.ListedLemmas.{AreBegun, constructors_at, one_begun, same_index}
 use Rattle.sl_bind.proofs.SideLemmas.{EachPair, pair_each, pair_more}
 use Rattle.sl_constructors.proofs.MemberLemmas.{in_filter, in_map}
@@ -22,7 +22,7 @@ use Rattle.sl_constructors.specs.ConstructorRules.{may_begin}
 use Rattle.sl_constructors.specs.Laws.{names_of}
 use Rattle.sl_constructors.specs.Listed.{MeansTable}
 use Rattle.sl_constructors.specs.Operands.{action_operands, bare_names, bare_operand, is_epsilon, is_operand, meaning_by, operand_names}
-use Rattle.sl_constructors.specs.Steps.{added, constructor_step, demands, operands_of, with_ctor}
+use Rattle.sl_constructors.specs.Steps.{constructor_step, demands, operands_of, with_ctor}
 use Rattle.sl_constructors.specs.WholeText.{table_name}
 use Rattle.sl_definitions.proofs.BoolLemmas.{and_parts, not_true, or_false}
 use Rattle.sl_definitions.proofs.FreshLemmas.{field_free}
@@ -91,7 +91,7 @@ taken_grows all cs old new grows are = record {
   apart = λ name there.
       let before : is_table old name ≡ true = ap (λ (bs : List Table). has_name (λ b. b.name) name bs) (sym grows.tables) ∙ there in
       let a = are.apart name before in
-      (more name ∙ ap (λ b. b || is_field grows.more name) a.0 ∙ grows.apart name before, a.1);
+      (more name ∙ ap (λ b. b || is_field grows.more name) a.0 ∙ grows.fresh name (table_stands old name before), a.1);
   pairs = subst (λ (ctors : List Ctor). EachPair (HasOperands all new.fields) ctors cs) (sym grows.constructors)
       (pair_each (HasOperands all old.fields) (HasOperands all new.fields) old.constructors cs
       (λ c placed has p among alone some none. has p among alone some ((or_false (is_field old.fields p.name) (is_field grows.more p.name) (sym (more p.name) ∙ none)).0)) are.pairs);
@@ -139,7 +139,7 @@ no_epsilon name none = by (is_epsilon name) refl
 
 module _ (all : List Table) (t : Tables) (item : ℕ) (c : Constructor) where
   abbrev its : Ctor
-  its = added all item c (operands_of all t (parts_of all c.pattern) (written c.actions))
+  its = ctor_of all t item c
 
   operand_there : (p : Part) → Contains (parts_of all c.pattern) p → is_operand p ≡ true → Contains its.operands (bare_operand t.fields all p.name)
   operand_there p among passes =
@@ -195,5 +195,5 @@ pub constructor_taken : (all : List Table) (t next : Tables) (item : ℕ) (c : C
 constructor_taken all t next item c cs more front is are =
     let ps = parts_of all c.pattern in
     let os = operands_of all t ps (written c.actions) in
-    let k = is_kept (demands all t c ps (operand_names os) (written c.actions)) (with_ctor t (table_name c) (added all item c os)) next is in
+    let k = is_kept (demands all t c ps (operand_names os) (written c.actions)) (with_ctor t (table_name c) (ctor_of all t item c)) next is in
     subst (AreTaken all (cs ++ (item, c) ∷ [])) k.1 (one_taken all t item c cs more front (first_holds (may_begin t (table_name c)) 3 _ k.0) are)

@@ -2,8 +2,9 @@
 use Rattle.std.proofs.Common.{◌≡◌, ℕ, ◌≤◌, List, Option, Some, None, Result, Ok, Err, length, refl, sym, ap, subst, ◌∙◌, arith}
 use Rattle.sl_ast.specs.Trees.{Constructor, Item}
 use Rattle.sl_ast.specs.Unfolding.{Placed}
-use Rattle.sl_bind.proofs.BoundLemmas.{is_whole, no_table_reaches_itself, none_late, patterns_name_operands, tables_listed}
+use Rattle.sl_bind.proofs.BoundLemmas.{is_whole, no_table_reaches_itself, patterns_name_operands, tables_listed}
 use Rattle.sl_bind.proofs.GrowLemmas.{came_of}
+use Rattle.sl_bind.proofs.WalkLemmas.{none_late}
 use Rattle.sl_bind.specs.Binding.{Binds, EndsIn, Verdict, constructors_of, fault_of, judged_tables, with_tables}
 use Rattle.sl_bind.specs.Laws.{AreInOrder}
 use Rattle.sl_bind.specs.Sections.{AreKept, AreParts, IsRefusal, StopsAt, TellsSizes, TellsStop}

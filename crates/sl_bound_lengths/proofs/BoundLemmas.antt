@@ -5,29 +5,24 @@ use Rattle.std.specs.List.{list_any}
 use Rattle.std.proofs.lemmas.Bool.{false≢true}
 use Rattle.sl_ast.specs.Trees.{Constructor, Item}
 use Rattle.sl_ast.specs.Unfolding.{Placed, unfolded}
-use Rattle.sl_bind.proofs.BoundLemmas.{is_whole, known_or, none_late, tables_listed}
+use Rattle.sl_bind.proofs.BoundLemmas.{is_whole, tables_listed}
 use Rattle.sl_bind.proofs.GrowLemmas.{came_of}
 use Rattle.sl_bind.proofs.SideLemmas.{pair_at}
 use Rattle.sl_bind.proofs.TakenLemmas.{some_named}
+use Rattle.sl_bind.proofs.WalkLemmas.{none_late}
 use Rattle.sl_bind.specs.Binding.{EndsIn, Verdict, constructors_of, judged_tables, with_tables}
-use Rattle.sl_bind.specs.Verdict.{Broken, beginning, known_behind, placed_step, taken, unless_late}
-use Rattle.sl_constructors.specs.WholeText.{all_tables}
-use Rattle.sl_definitions.specs.declared.known.Known.{Known}
+use Rattle.sl_bind.specs.Verdict.{Broken, taken, unless_late}
 use Rattle.sl_flat_sections.specs.FlatSections.{sections_fault}
 use Rattle.sl_flat_sections.specs.Scopes.{Scopes, scopes_of}
-use Rattle.sl_bound_lengths.proofs.WalkLemmas.{NamesStand, PatternStands, all_stand}
+use Rattle.sl_bound_lengths.proofs.StandLemmas.{PatternStands, taken_stand}
 use Rattle.sl_bound_lengths.specs.Laws.{BoundAreTaken, BoundHaveBytes, TakenNamesAgree}
 use Rattle.sl_lengths.proofs.LengthLemmas.{instructions_have_bytes}
 use Rattle.sl_lengths.proofs.NameLemmas.{Stands, each_name, stands_agrees}
 use Rattle.sl_lengths.specs.Naming.{Agrees}
-use Rattle.sl_rules.specs.Demands.{run}
-use Rattle.sl_section_rules.specs.WholeText.{whole_of}
 use Rattle.sl_section_sizes.specs.Laws.{Outcome}
 use Rattle.sl_spec.specs.Named.{is_named}
 use Rattle.sl_spec.specs.Tables.{Field}
-use Rattle.sl_spec.specs.Unfolded.{constructors_in}
 use Rattle.sl_spec.specs.declared.tables.Tables.{Tables}
-use Rattle.sl_tables.specs.TableRules.{late_fault}
 use Rattle.sl_tables.specs.declared.faults.LateFault.{LateFault}
 use Rattle.sl_word.specs.declared.word.Size.{Size}
 
@@ -40,17 +35,6 @@ no_index {X = X} p xs none = by (position p xs) refl
     by : (o : Option ℕ) → position p xs ≡ o → o ≡ None
     by None is = refl
     by (Some i) is = absurd (false≢true (sym none ∙ some_named p xs i is))
-
-taken_stand : (items : List Item) (t : Tables) → taken items ≡ Ok t → NamesStand (constructors_of items) t
-unfolding taken
-taken_stand items t is =
-    let cs = constructors_in (unfolded items) in
-    let w = whole_of (all_tables cs) items in
-    let c = came_of (known_behind w items) (λ k. unless_late (late_fault k.tables cs) k.tables) t is in
-    let p = came_of (run (placed_step w) beginning (unfolded items)) (λ p. Ok p.known) c.0 c.1 in
-    let known : p.0.known ≡ c.0 = ap (known_or c.0) p.2 in
-    let n = none_late (late_fault c.0.tables cs) c.0.tables t c.2 in
-    subst (NamesStand cs) (ap (λ (k : Known). k.tables) known ∙ n.1) (all_stand w (unfolded items) p.0 p.1)
 
 pub taken_names_agree : TakenNamesAgree
 taken_names_agree items t is i c placed at beside =

@@ -1,3 +1,2 @@
 pub mod BoundLemmas
-pub mod FieldLemmas
-pub mod WalkLemmas
+pub mod StandLemmas

@@ -7,8 +7,8 @@ use Rattle.sl_ast.specs.Trees as tree
 use Rattle.sl_ast.specs.Trees.{Constructor, Item, block, constructor, define, attach_list, attach_one, macro}
 use Rattle.sl_ast.specs.Unfolding.{Placed, all_in_block, as_items, constructors_inside, count_inside, unfolded, unfolded_from}
 use Rattle.sl_ast.specs.declared.symbols.Mark.TheVariants as m
-use Rattle.sl_bind.proofs.BoundLemmas.{known_or}
 use Rattle.sl_bind.proofs.GrowLemmas.{is_kept, put_judged}
+use Rattle.sl_bind.proofs.WalkLemmas.{known_or}
 use Rattle.sl_bound_places.proofs.WalkLemmas.{DefinesNone, taken_hold}
 use Rattle.sl_bound_places.specs.Laws.{TakenAreFew}
 use Rattle.sl_definitions.specs.AttachRules.{attach_demands}

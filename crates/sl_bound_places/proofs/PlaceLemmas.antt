@@ -4,8 +4,8 @@ use Rattle.std.specs.List.{list_all}
 use Rattle.sl_ast.specs.Trees as tree
 use Rattle.sl_ast.specs.Trees.{Item}
 use Rattle.sl_ast.specs.declared.definitions.AttachKind.{AttachKind}
-use Rattle.sl_bind.proofs.BoundLemmas.{known_or}
 use Rattle.sl_bind.proofs.GrowLemmas.{first_holds, is_kept, put_judged}
+use Rattle.sl_bind.proofs.WalkLemmas.{known_or}
 use Rattle.sl_bound_places.proofs.AddLemmas.{EntriesFit, SpaceFits, bit_ranges_lie, entries_fit, registers_lie, space_fits}
 use Rattle.sl_bound_places.proofs.ListLemmas.{Each, Got, each_more, each_none, got_each, got_none, got_there}
 use Rattle.sl_bound_places.proofs.WalkLemmas.{taken_hold}

@@ -12,19 +12,14 @@ use Rattle.std.proofs.lemmas.Slice.Eq.{bytes_eq-Decides}
 use Rattle.sl_ast.specs.Trees as tree
 use Rattle.sl_ast.specs.Trees.{Constructor, Item, Member, Names, attach_list, attach_one, block, constructor, define, macro, member_integer, member_negative, member_text, member_word, one, several}
 use Rattle.sl_ast.specs.Unfolding.{Placed, all_in_block, as_items, constructors_inside, count_inside, unfolded, unfolded_from}
-use Rattle.sl_ast.specs.Unfolding as blocks
 use Rattle.sl_ast.specs.declared.definitions.AttachKind.{AttachKind}
 use Rattle.sl_ast.specs.declared.definitions.AttachKind.TheVariants.{Variables, Names as Texts, Values}
-use Rattle.sl_bind.proofs.GrowLemmas.{is_kept, known_in, put}
+use Rattle.sl_bind.proofs.GrowLemmas.{constructor_added, is_kept, known_in, put}
+use Rattle.sl_bind.proofs.WalkLemmas.{EachKeeps, is_plain, taken_keeps, whole_text}
 use Rattle.sl_bind.specs.Verdict.{taken}
 use Rattle.sl_bound_sections.proofs.ChangeLemmas.{Grown, demand_at, grown_same, taken_changes}
-use Rattle.sl_bound_sections.proofs.JudgedLemmas.{of_taken, whole_text}
 use Rattle.sl_bound_sections.proofs.KindLemmas.{OperandsAlike, kind_in}
 use Rattle.sl_bound_sections.proofs.ListLemmas.{Begins, all_both, all_weaker, begins_long, contained, get_begins, index_far, index_inside, index_stays}
-use Rattle.sl_bound_sections.proofs.StepLemmas.{EachKeeps, is_plain}
-use Rattle.sl_constructors.specs.Operands.{operand_names}
-use Rattle.sl_constructors.specs.Steps.{added, demands, operands_of, with_ctor}
-use Rattle.sl_constructors.specs.WholeText.{table_name}
 use Rattle.sl_definitions.proofs.BoolLemmas.{and_parts, not_true, or_false}
 use Rattle.sl_definitions.specs.AttachRules as rule
 use Rattle.sl_definitions.specs.AttachRules.{are_like, are_members, are_open, attach_demands, attachment, given_entries, is_gap, is_open, register_entry, register_named}
@@ -37,7 +32,6 @@ use Rattle.sl_definitions.specs.RegisterRules.{bit_range_demands, is_skipped, re
 use Rattle.sl_definitions.specs.SpaceRules.{space_demands}
 use Rattle.sl_definitions.specs.Words.{word_bytes}
 use Rattle.sl_definitions.specs.declared.known.Known.{Known}
-use Rattle.sl_parts.specs.Parts.{parts_of}
 use Rattle.sl_resolve.specs.Scopes as flat
 use Rattle.sl_resolve.specs.Scopes.{attached_size, field_symbol, if_below, list_size}
 use Rattle.sl_resolve.specs.Steps.{with_name}
@@ -575,22 +569,16 @@ plain_attached names (block h inside) k next plain is are =
 plain_attached names (macro m) k next plain is are = absurd (let e : ⊥ = cc in e)
 plain_attached names (constructor c) k next plain is are = absurd (let e : ⊥ = cc in e)
 
-all_attached : (items : List Item) → EachKeeps (whole_text items) Holds
+all_attached : (items : List Item) → EachKeeps (whole_text items) (unfolded items) Holds
 all_attached items = record {
   plain = λ done n item k next plain is are. behind done n item next.tables
       (plain_attached (names_by done) item k next plain is are);
   macros = λ done n m ms t keeps are. behind done n (macro m) _
       (attached_grown (names_by done) t _ (grown_same _ _ refl refl refl) refl are);
-  constructors = λ done n c ms t next is keeps are.
-      let w = whole_text items in
-      let ps = parts_of w.tables c.pattern in
-      let os = operands_of w.tables t ps (blocks.written c.actions) in
-      let new = with_ctor t (table_name c) (added w.tables n c os) in
-      let same : new ≡ next =
-      (is_kept (demands w.tables t c ps (operand_names os) (blocks.written c.actions)) new next is).1 in
+  constructors = λ done rest n c ms t next parts is keeps are.
       behind done n (constructor c) next
-      (subst (AreAttached (names_by done)) same
-      (attached_grown (names_by done) t new (grown_same _ _ refl refl refl) refl are));
+      (subst (AreAttached (names_by done)) (constructor_added (whole_text items).tables t next n c is)
+      (attached_grown (names_by done) t _ (grown_same _ _ refl refl refl) refl are));
 }
 
 -- ---- the names of a text
@@ -631,7 +619,7 @@ none_attached_yet = record {
 taken_attached : (text : List Item) (t : Tables) → taken text ≡ Ok t → AreAttached (whole_text text).attached t
 taken_attached text t is =
     subst (λ (ns : List Name). AreAttached ns t) (names_from [] 0 text)
-    (of_taken text t Holds is (all_attached text) none_attached_yet)
+    (taken_keeps text t is Holds (all_attached text) none_attached_yet)
 
 -- ---- operands
 

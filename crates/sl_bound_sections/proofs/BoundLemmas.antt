@@ -4,13 +4,14 @@ use Rattle.std.specs.Prelude.{◌&&◌, ◌||◌, not, unwrap_or}
 use Rattle.std.specs.List.{AllByRecursion}
 use Rattle.sl_ast.specs.Trees.{Constructor, Item, Section, Statement, statements, unimplemented}
 use Rattle.sl_ast.specs.Unfolding.{Placed}
+use Rattle.sl_bind.proofs.WalkLemmas.{whole_text}
 use Rattle.sl_bind.specs.Binding.{constructors_of}
 use Rattle.sl_bind.specs.Verdict.{taken}
 use Rattle.sl_bound_sections.proofs.AttachLemmas.{taken_alike}
 use Rattle.sl_bound_sections.proofs.BuildLemmas.{section_built}
 use Rattle.sl_bound_sections.proofs.ChangeLemmas.{Grown, RangesLie, demand_at}
 use Rattle.sl_bound_sections.proofs.ExportLemmas.{all_export, flat_exports, written_exports}
-use Rattle.sl_bound_sections.proofs.JudgedLemmas.{IsJudged, taken_judged, whole_text}
+use Rattle.sl_bound_sections.proofs.JudgedLemmas.{IsJudged, taken_judged}
 use Rattle.sl_bound_sections.proofs.KindLemmas.{AreWell, OperandsAlike, global_same, section_well}
 use Rattle.sl_bound_sections.proofs.ListLemmas.{MadeOf, mapped_there, of_pair, pair_there, three_at}
 use Rattle.sl_bound_sections.proofs.QuietLemmas.{IsMacro}

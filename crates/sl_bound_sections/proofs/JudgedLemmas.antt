@@ -5,18 +5,16 @@ use Rattle.std.proofs.lemmas.List.Sums.{fold-append}
 use Rattle.sl_actions.specs.ActionNames.{action_names}
 use Rattle.sl_ast.specs.Trees.{Constructor, Item, Macro, constructor, block, define, attach_list, attach_one, macro}
 use Rattle.sl_ast.specs.Unfolding.{Placed, unfolded}
-use Rattle.sl_bind.proofs.BoundLemmas.{known_or, none_late}
-use Rattle.sl_bind.proofs.GrowLemmas.{came_of, is_kept}
-use Rattle.sl_bind.specs.Verdict.{beginning, known_behind, last_operands, operands_in, placed_step, taken, unless_late, with_macro}
-use Rattle.sl_bind.proofs.RunLemmas.{constructors_last}
+use Rattle.sl_bind.proofs.GrowLemmas.{constructor_added, ctor_of}
+use Rattle.sl_bind.proofs.WalkLemmas.{EachKeeps, constructors_last, is_plain, rules_of_macro, rules_of_section, taken_keeps, whole_text}
+use Rattle.sl_bind.specs.Verdict.{last_operands, operands_in, taken, with_macro}
 use Rattle.sl_bound_sections.proofs.ChangeLemmas.{Changes, Grown, RangesLie, demand_at, grown_same, grown_then, reach_behind, taken_changes}
 use Rattle.sl_bound_sections.proofs.ListLemmas.{EachThree, all_both, three_each, three_more}
 use Rattle.sl_bound_sections.proofs.QuietLemmas.{IsMacro}
-use Rattle.sl_bound_sections.proofs.StepLemmas.{EachKeeps, all_kept, is_plain, rules_of_macro, rules_of_section}
 use Rattle.sl_constructors.specs.ConstructorRules.{is_of_root}
-use Rattle.sl_constructors.specs.Operands.{action_operands, bare_names, meaning_by, operand_names, operands}
-use Rattle.sl_constructors.specs.Steps.{added, constructor_step, demands, operands_of, with_ctor}
-use Rattle.sl_constructors.specs.WholeText.{all_tables, table_name}
+use Rattle.sl_constructors.specs.Operands.{action_operands, bare_names, meaning_by, operands}
+use Rattle.sl_constructors.specs.Steps.{constructor_step, operands_of, with_ctor}
+use Rattle.sl_constructors.specs.WholeText.{table_name}
 use Rattle.sl_ast.specs.Unfolding.{written}
 use Rattle.sl_definitions.proofs.BoolLemmas.{and_parts}
 use Rattle.sl_definitions.specs.Beginning.{no_tables}
@@ -28,18 +26,17 @@ use Rattle.sl_resolve.specs.Macros.{Body}
 use Rattle.sl_resolve.specs.Scopes.{reach_of}
 use Rattle.sl_resolve.specs.Steps.{macro_name}
 use Rattle.sl_resolve.specs.declared.reach.Reach.{Reach}
-use Rattle.sl_rules.specs.Demands.{first_broken, run}
+use Rattle.sl_rules.specs.Demands.{first_broken}
 use Rattle.sl_section_forms.specs.Places.{is_macro_body}
 use Rattle.sl_section_rules.specs.Macros.{Signature}
 use Rattle.sl_section_rules.specs.Scopes.{macro_scope}
 use Rattle.sl_section_rules.specs.SectionRules.{each_holds, has_calls, section_demands, statement_calls_well}
-use Rattle.sl_section_rules.specs.WholeText.{Whole, whole_of}
+use Rattle.sl_section_rules.specs.WholeText.{Whole}
 use Rattle.sl_spec.specs.Named.{has_name, index_named}
 use Rattle.sl_spec.specs.Tables.{Ctor, Field, Name, Operand, Table}
 use Rattle.sl_spec.specs.declared.constructors.Means.TheVariants as means
 use Rattle.sl_spec.specs.Unfolded.{constructor_at, constructors_in}
 use Rattle.sl_spec.specs.declared.tables.Tables.{Tables}
-use Rattle.sl_tables.specs.TableRules.{late_fault}
 
 -- ---- constructors and macros that were taken
 
@@ -218,11 +215,10 @@ module _ (w : Whole) where
   constructor_judged done n c ms t next is keeps are =
       let ps = parts_of w.tables c.pattern in
       let os = operands_of w.tables t ps (written c.actions) in
-      let its = added w.tables n c os in
+      let its = ctor_of w.tables t n c in
       let s = behind_items nothing_defined done in
       let new = with_ctor t (table_name c) its in
-      let same : new ≡ next =
-      (is_kept (demands w.tables t c ps (operand_names os) (written c.actions)) new next is).1 in
+      let same = constructor_added w.tables t next n c is in
       let grown : Grown t new = grown_same _ _ refl refl refl in
       let own : last_operands new ≡ os = ap operands_in (last_of t.constructors its) in
       let kept : first_broken (section_demands w new ms os (is_of_root (table_name c)) c.section) ≡ None =
@@ -247,13 +243,13 @@ module _ (w : Whole) where
             (λ d placed r h. judged_more w t new d placed r grown h) are.each);
       })
 
-  all_keep : EachKeeps w Holds
-  all_keep = record {
+  all_keep : (items : List (Placed Item)) → EachKeeps w items Holds
+  all_keep items = record {
     plain = λ done n item k next plain is are. behind done n item next.tables
         (plain_judged done n item k next plain is are);
     macros = λ done n m ms t keeps are. behind done n (macro m) (with_macro t n m.name)
         (macro_judged done n m ms t keeps are);
-    constructors = λ done n c ms t next is keeps are. behind done n (constructor c) next
+    constructors = λ done rest n c ms t next parts is keeps are. behind done n (constructor c) next
         (constructor_judged done n c ms t next is keeps are);
   }
 
@@ -263,27 +259,9 @@ module _ (w : Whole) where
 
 -- ---- a text
 
-abbrev pub whole_text : List Item → Whole
-whole_text items = whole_of (all_tables (constructors_in (unfolded items))) items
-
--- What holds behind all items holds of the tables of a text.
-pub of_taken : (items : List Item) (t : Tables) (Holds : List (Placed Item) → Tables → Type 0) → taken items ≡ Ok t
-    → EachKeeps (whole_text items) Holds → Holds [] no_tables
-    → Holds (unfolded items) t
-unfolding taken
-of_taken items t Holds is keeps none =
-    let cs = constructors_in (unfolded items) in
-    let w = whole_text items in
-    let c = came_of (known_behind w items) (λ k. unless_late (late_fault k.tables cs) k.tables) t is in
-    let p = came_of (run (placed_step w) beginning (unfolded items)) (λ p. Ok p.known) c.0 c.1 in
-    let known : p.0.known ≡ c.0 = ap (known_or c.0) p.2 in
-    let n = none_late (late_fault c.0.tables cs) c.0.tables t c.2 in
-    subst (Holds (unfolded items)) (ap (λ (k : Known). k.tables) known ∙ n.1)
-    (all_kept w Holds keeps (unfolded items) p.0 p.1 none)
-
 pub taken_judged : (items : List Item) (t : Tables) → taken items ≡ Ok t
     → AreJudged (whole_text items) (constructors_in (unfolded items)) (behind_items nothing_defined (unfolded items)) t
 taken_judged items t is =
     let w = whole_text items in
-    of_taken items t (λ done u. AreJudged w (constructors_in done) (behind_items nothing_defined done) u) is
-    (all_keep w) (none_judged w)
+    taken_keeps items t is (λ done u. AreJudged w (constructors_in done) (behind_items nothing_defined done) u)
+    (all_keep w (unfolded items)) (none_judged w)

@@ -7,4 +7,3 @@ pub mod JudgedLemmas
 pub mod KindLemmas
 pub mod ListLemmas
 pub mod QuietLemmas
-pub mod StepLemmas

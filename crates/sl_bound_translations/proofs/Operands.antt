@@ -10,10 +10,10 @@ use Rattle.sl_actions.specs.ActionNames.{action_names}
 use Rattle.sl_ast.specs.Trees.{Constructor, Item}
 use Rattle.sl_ast.specs.Unfolding.{unfolded, written}
 use Rattle.sl_bind.proofs.BoundLemmas.{is_whole, tables_listed}
-use Rattle.sl_bind.proofs.GrowLemmas.{is_kept}
+use Rattle.sl_bind.proofs.GrowLemmas.{constructor_added, ctor_of}
+use Rattle.sl_bind.proofs.WalkLemmas.{taken_keeps, whole_text}
 use Rattle.sl_bind.specs.Verdict.{taken}
 use Rattle.sl_bound_sections.proofs.ChangeLemmas.{taken_changes}
-use Rattle.sl_bound_sections.proofs.JudgedLemmas.{of_taken, whole_text}
 use Rattle.sl_constructors.proofs.TableLemmas.{each_is_added}
 use Rattle.sl_constructors.specs.Laws.{names_of}
 use Rattle.sl_constructors.specs.Operands.{action_operands, bare_names, bare_operand, meaning_by, operand_names}
@@ -55,26 +55,24 @@ module _ (all : List Table) where
   step_adds : (t next : Tables) (n : ℕ) (c : Constructor) → constructor_step all t n c ≡ Ok next
       → AllByRecursion (IsAdded all) t.constructors → AllByRecursion (IsAdded all) next.constructors
   step_adds t next n c is are =
-      let ps = parts_of all c.pattern in
-      let os = operands_of all t ps (written c.actions) in
-      let its = added all n c os in
-      let ds = demands all t c ps (operand_names os) (written c.actions) in
-      let same = is_kept ds (with_ctor t (table_name c) its) next is in
-      let given = action_names t (written c.actions) in
-      subst (λ (u : Tables). AllByRecursion (IsAdded all) u.constructors) same.1
-      (all_more (IsAdded all) t.constructors its are
-      (record { fields = t.fields; bare = bare_names ps; given = given; are = refl }))
+      subst (λ (u : Tables). AllByRecursion (IsAdded all) u.constructors) (constructor_added all t next n c is)
+      (all_more (IsAdded all) t.constructors (ctor_of all t n c) are (record {
+        fields = t.fields;
+        bare = bare_names (parts_of all c.pattern);
+        given = action_names t (written c.actions);
+        are = refl;
+      }))
 
 taken_added : (items : List Item) (t : Tables) → taken items ≡ Ok t
     → AllByRecursion (IsAdded (whole_text items).tables) t.constructors
 taken_added items t is =
     let all = (whole_text items).tables in
-    of_taken items t (λ done u. AllByRecursion (IsAdded all) u.constructors) is
+    taken_keeps items t is (λ done u. AllByRecursion (IsAdded all) u.constructors)
     (record {
       plain = λ done n item k next plain is' are.
           subst (AllByRecursion (IsAdded all)) (sym (taken_changes k next item is').constructors) are;
       macros = λ done n m ms t' keeps are. are;
-      constructors = λ done n c ms t' next is' keeps are. step_adds all t' next n c is' are;
+      constructors = λ done rest n c ms t' next parts is' keeps are. step_adds all t' next n c is' are;
     }) tt
 
 -- ---- the tables that operands mean

@@ -3,8 +3,9 @@ use Rattle.std.proofs.Common.{◌≡◌, Bool, true, false, List, Option, None, 
 use Rattle.std.proofs.lemmas.Bool.{false≢true}
 use Rattle.sl_ast.specs.Trees.{Constructor}
 use Rattle.sl_ast.specs.Unfolding.{Placed}
-use Rattle.sl_bind.proofs.BoundLemmas.{is_whole, none_late, tables_listed}
+use Rattle.sl_bind.proofs.BoundLemmas.{is_whole, tables_listed}
 use Rattle.sl_bind.proofs.GrowLemmas.{came_of}
+use Rattle.sl_bind.proofs.WalkLemmas.{none_late}
 use Rattle.sl_bind.specs.Binding.{EndsIn, Verdict, constructors_of, judged_tables, with_tables}
 use Rattle.sl_bind.specs.Verdict.{Broken, taken, unless_late}
 use Rattle.sl_bound_translations.specs.Laws.{BoundAreParts, BoundKeepLimits}

@@ -8,11 +8,11 @@ use Rattle.sl_ast.specs.Trees as tree
 use Rattle.sl_ast.specs.Trees.{Member, member_word, member_text, member_integer, member_negative}
 use Rattle.sl_ast.specs.declared.definitions.AttachKind.{AttachKind}
 use Rattle.sl_ast.specs.declared.definitions.AttachKind.TheVariants.{Variables, Names, Values}
-use Rattle.sl_bind.proofs.GrowLemmas.{begins_as, came_of, is_kept, known_in, put_judged}
+use Rattle.sl_bind.proofs.GrowLemmas.{is_kept, known_in, put_judged}
 use Rattle.sl_definitions.specs.AttachRules.{attach_demands, attachment, given_entries, value_entry, with_attached}
-use Rattle.sl_definitions.specs.Beginning.{begin, is_alignment, is_endian, with_alignment, with_endian}
+use Rattle.sl_definitions.specs.Beginning.{is_alignment, with_alignment, with_endian}
 use Rattle.sl_definitions.specs.FieldRules.{context_demands, token_demands}
-use Rattle.sl_definitions.specs.Items.{all_names, defined, definition_step, taken, with_tables}
+use Rattle.sl_definitions.specs.Items.{all_names, defined, taken, with_tables}
 use Rattle.sl_definitions.specs.NewNames.{are_new}
 use Rattle.sl_definitions.specs.RegisterRules.{bit_range_demands, register_demands}
 use Rattle.sl_definitions.specs.SpaceRules.{space_demands}
@@ -125,7 +125,8 @@ attach_keeps k next kind names members is fit =
     (attached_fit k.tables.fields (given_entries k.tables.registers kind members) names
     (entries_fit k.tables.registers kind members)))
 
-taken_keeps : (k next : Known) (item : tree.Item) → taken k item ≡ Ok next → Keeps k.tables next.tables
+-- a definition or an attached list; other items define nothing
+pub taken_keeps : (k next : Known) (item : tree.Item) → taken k item ≡ Ok next → Keeps k.tables next.tables
 taken_keeps k next (tree.define d) is = defined_keeps k next d is
 taken_keeps k next (tree.attach_list kind names members) is = attach_keeps k next kind (all_names names) members is
 taken_keeps k next (tree.attach_one kind names member) is = attach_keeps k next kind (all_names names) (member ∷ []) is
@@ -134,12 +135,3 @@ taken_keeps k next (tree.block h inside) is =
     stays k.tables k.tables next.tables (ap (λ r. (known_in next r).tables) is) refl
 taken_keeps k next (tree.constructor c) is =
     stays k.tables k.tables next.tables (ap (λ r. (known_in next r).tables) is) refl
-
--- a definition or an attached list
-pub definition_keeps : (k next : Known) (item : tree.Item) → definition_step k item ≡ Ok next
-    → Keeps k.tables next.tables
-unfolding definition_step
-definition_keeps k next item is =
-    let c = came_of (begin k (is_endian item)) (λ n. taken n item) next is in
-    subst (λ (t : Tables). Keeps t next.tables) (sym (begins_as k c.0 (is_endian item) c.1))
-    (taken_keeps c.0 next item c.2)

@@ -5,4 +5,3 @@ pub mod OperandLemmas
 pub mod ReadLemmas
 pub mod TakenLemmas
 pub mod TreeLemmas
-pub mod WalkLemmas
