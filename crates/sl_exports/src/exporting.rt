@@ -82,6 +82,7 @@ pub fn add_if(numbers: &mut Vec<usize>, holds: bool, number: usize) -> Result<()
 }
 
 /// The tables of the constructors that export.
+#[tactic(auto, unfolding(sl_rules::specs::Gathered::gathered))]
 pub fn exporting(alloc: Global, rows: &[Row]) -> Result<Vec<usize>, AllocError>
     ensures { IfOk result (λ v. v.items ≡ spec.exporting (rows_of rows.now)) }
 {
@@ -94,6 +95,7 @@ pub fn exporting(alloc: Global, rows: &[Row]) -> Result<Vec<usize>, AllocError>
 }
 
 /// The tables of the constructors that aren't `unimpl` and export nothing.
+#[tactic(auto, unfolding(sl_rules::specs::Gathered::gathered))]
 pub fn silent(alloc: Global, rows: &[Row]) -> Result<Vec<usize>, AllocError>
     ensures { IfOk result (λ v. v.items ≡ spec.silent (rows_of rows.now)) }
 {

@@ -53,6 +53,7 @@ fn kind(default: SpaceId, of: &Sectioned) -> ExportKind
 }
 
 /// The tables that export a constant of their own.
+#[tactic(auto, unfolding(sl_rules::specs::Gathered::gathered))]
 pub fn constants(
     alloc: Global,
     default: SpaceId,
@@ -69,6 +70,7 @@ pub fn constants(
 }
 
 /// The tables that export storage of their own that is no target of a jump.
+#[tactic(auto, unfolding(sl_rules::specs::Gathered::gathered))]
 pub fn storages(
     alloc: Global,
     default: SpaceId,
@@ -140,6 +142,7 @@ fn add_edges(
 }
 
 /// Each table with those that its constructors re-export.
+#[tactic(auto, unfolding(sl_rules::specs::Gathered::gathered))]
 pub fn re_exports(
     alloc: Global,
     default: SpaceId,
@@ -157,6 +160,7 @@ pub fn re_exports(
 }
 
 /// Adds the tables that a constructor assigns.
+#[tactic(auto, unfolding(sl_rules::specs::Gathered::gathered))]
 fn add_assigned(alloc: Global, tables: &mut Vec<usize>, of: &Sectioned) -> Result<(), AllocError>
     ensures { OnOk result (tables.new.items
         ≡ tables.old.items ++ spec.assigned_tables (row_of of.now)) }
@@ -173,6 +177,7 @@ fn add_assigned(alloc: Global, tables: &mut Vec<usize>, of: &Sectioned) -> Resul
 }
 
 /// The tables that some constructor assigns.
+#[tactic(auto, unfolding(sl_rules::specs::Gathered::gathered))]
 pub fn assigned_tables(alloc: Global, rows: &[Sectioned]) -> Result<Vec<usize>, AllocError>
     ensures { IfOk result (λ v. v.items ≡ gathered spec.assigned_tables (rows_of rows.now)) }
 {

@@ -1,8 +1,8 @@
-use Rattle.std.proofs.Common.{[]}
-use Rattle.sl_rules.proofs.Gathers.{IsGathered}
+use Rattle.std.proofs.Common.{◌≡◌, ◌++◌, drop}
 use Rattle.sl_tables.specs.Views.{rows_of}
-use Rattle.sl_exports.specs.Exports.{if_so, does_export}
+use Rattle.sl_exports.specs.Exports.{exporting}
 use Rattle.sl_exports.proofs.exporting.exporting.Given as goal
 
+-- what is there and what the rows that are left give is all
 abbrev pub invariant-rows : goal.invariant-rows
-invariant-rows l = IsGathered (λ r. if_so (does_export r.1.1.section) r.0.table) [] (rows_of l.rows) l.tables.items l.index
+invariant-rows l = l.tables.items ++ exporting (rows_of (drop l.index l.rows)) ≡ exporting (rows_of l.rows)

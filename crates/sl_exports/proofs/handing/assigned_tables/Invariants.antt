@@ -1,8 +1,9 @@
-use Rattle.std.proofs.Common.{[]}
-use Rattle.sl_rules.proofs.Gathers.{IsGathered}
+use Rattle.std.proofs.Common.{◌≡◌, ◌++◌, drop}
+use Rattle.sl_rules.specs.Gathered.{gathered}
 use Rattle.sl_exports.specs.Exports as spec
 use Rattle.sl_exports.specs.Views.{rows_of}
 use Rattle.sl_exports.proofs.handing.assigned_tables.Given as goal
 
+-- what is there and what the rows that are left give is all
 abbrev pub invariant-rows : goal.invariant-rows
-invariant-rows l = IsGathered spec.assigned_tables [] (rows_of l.rows) l.tables.items l.index
+invariant-rows l = l.tables.items ++ gathered spec.assigned_tables (rows_of (drop l.index l.rows)) ≡ gathered spec.assigned_tables (rows_of l.rows)

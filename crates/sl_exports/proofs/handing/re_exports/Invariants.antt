@@ -1,9 +1,8 @@
-use Rattle.std.proofs.Common.{[], map}
-use Rattle.sl_rules.proofs.Gathers.{IsGathered}
-use Rattle.sl_equations.specs.Uses.{export_kind}
-use Rattle.sl_exports.specs.Exports.{re_exported}
+use Rattle.std.proofs.Common.{◌≡◌, ◌++◌, drop}
+use Rattle.sl_exports.specs.Exports.{re_exports}
 use Rattle.sl_exports.specs.Views.{rows_of}
 use Rattle.sl_exports.proofs.handing.re_exports.Given as goal
 
+-- what is there and what the rows that are left give is all
 abbrev pub invariant-rows : goal.invariant-rows
-invariant-rows l = IsGathered (λ r. map (λ u. (r.0.0.table, u)) (re_exported r.0.0 (export_kind l.default.0 r.1))) [] (rows_of l.rows) l.edges.items l.index
+invariant-rows l = l.edges.items ++ re_exports l.default.0 (rows_of (drop l.index l.rows)) ≡ re_exports l.default.0 (rows_of l.rows)

@@ -1,9 +1,8 @@
-use Rattle.std.proofs.Common.{[]}
-use Rattle.sl_rules.proofs.Gathers.{IsGathered}
-use Rattle.sl_equations.specs.Uses.{export_kind}
-use Rattle.sl_exports.specs.Exports.{if_so, is_storage}
+use Rattle.std.proofs.Common.{◌≡◌, ◌++◌, drop}
+use Rattle.sl_exports.specs.Exports.{storages}
 use Rattle.sl_exports.specs.Views.{rows_of}
 use Rattle.sl_exports.proofs.handing.storages.Given as goal
 
+-- what is there and what the rows that are left give is all
 abbrev pub invariant-rows : goal.invariant-rows
-invariant-rows l = IsGathered (λ r. if_so (is_storage (export_kind l.default.0 r.1)) r.0.0.table) [] (rows_of l.rows) l.tables.items l.index
+invariant-rows l = l.tables.items ++ storages l.default.0 (rows_of (drop l.index l.rows)) ≡ storages l.default.0 (rows_of l.rows)
