@@ -1,4 +1,4 @@
--- view: answers on how the sets of a table lie to one another, which all are right.
+-- step: answers on how the sets of a table lie to one another, which all are right.
 use Rattle.std.specs.Prelude.{◌≡◌, ◌↔◌, ℕ, ◌⊎◌, List, Option, Some, None, Bool, IsTrue, Contains}
 use Rattle.sl_settle.specs.declared.CubeSet.{CubeSet}
 use Rattle.sl_settle.specs.declared.answers.Answer.{Answer}

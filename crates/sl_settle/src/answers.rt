@@ -22,13 +22,13 @@ struct Answer {
 /// Answers that were found about the sets of one table. An answer's place follows from its two sets;
 /// a later one takes the place of an earlier.
 #[derive(Debug, Drop)]
-pub struct Answers {
+pub(crate) struct Answers {
     slots: Vec<Answer>,
 }
 
 impl Answers {
     /// No answers yet: each slot says that the first set doesn't lie below itself.
-    pub fn new(alloc: Global, sets: &[CubeSet]) -> Result<Answers, AllocError>
+    pub(crate) fn new(alloc: Global, sets: &[CubeSet]) -> Result<Answers, AllocError>
         ensures { IfOk result (λ answers. AreRight sets.now answers) }
     {
         let nothing = Answer {
@@ -65,7 +65,7 @@ impl Answers {
     }
 
     /// Whether the set at the lower index lies properly within the one at the upper.
-    pub fn is_below(
+    pub(crate) fn is_below(
         &mut self,
         alloc: Global,
         sets: &[CubeSet],

@@ -12,7 +12,6 @@ mod report;
 mod search;
 mod within;
 
-pub use answers::Answers;
 pub use hull::hull_of;
 pub use report::{Apart, Report, first_unsettled};
 use sl_cube::Cube;

@@ -427,7 +427,7 @@ fn judged(
 
 /// A point of the region at which some of the sets are left and none is the choice, or `None`
 /// exactly where there is none.
-pub fn unsettled(
+pub(crate) fn unsettled(
     alloc: Global,
     sets: &[CubeSet],
     answers: &mut Answers,
