@@ -1,6 +1,6 @@
 //! `list`: instructions, or the marks of what doesn't decode.
 
-ghost use Rattle.std.specs.Prelude.{◌≡◌, ◌+◌, ◌^◌, ◌<◌, ◌≤◌, List, IfOk, OnOk, length};
+ghost use Rattle.std.specs.Prelude.{◌≡◌, ◌+◌, ◌^◌, ◌<◌, ◌≤◌, List, IfOk, Ok, OnOk, length};
 ghost use Rattle.sl_contexts.specs.Runs.{Stands};
 ghost use Rattle.sl_contexts.specs.declared.commits.Commit.{Commit as CommitOf};
 ghost use Rattle.sl_list.specs.Instructions.{Listed, Tells, mark_of, told_by, window};
@@ -84,6 +84,7 @@ pub fn count_of(length: u32) -> Result<usize, AllocError>
     ensures same { IfOk result (λ n. n ≡ length) }
     ensures some { IfOk result (λ n. 1 ≤ n) }
     ensures most { IfOk result (λ n. n ≤ MOST_BYTES) }
+    ensures given { 1 ≤ length → length ≤ MOST_BYTES → result ≡ Ok length }
 {
     let count = length as usize;
     if count == 0 || count > MOST_BYTES {
