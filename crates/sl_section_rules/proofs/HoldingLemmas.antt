@@ -1,6 +1,7 @@
 -- Which rules hold of each statement, as a loop finds it.
-use Rattle.std.proofs.Common.{◌≡◌, ◌&&◌, ℕ, ◌+◌, ◌<◌, ◌≤◌, Bool, true, false, List, [], ◌∷◌, length, get_or, drop, refl, sym, ap, ◌∙◌}
+use Rattle.std.proofs.Common.{◌≡◌, ℕ, ◌+◌, ◌<◌, ◌≤◌, true, List, [], ◌∷◌, length, get_or, drop, refl, sym, ap, ◌∙◌}
 use Rattle.std.proofs.lemmas.List.{drop_more}
+use Rattle.std.proofs.Math.Bool.{and_assoc, and-true}
 use Rattle.std.proofs.Math.ListN.{drop_of_length-le}
 use Rattle.sl_ast.specs.Trees.{Statement}
 use Rattle.sl_section_rules.specs.Holding.{all_holding, both, holding}
@@ -12,21 +13,13 @@ use Rattle.sl_section_rules.specs.declared.holding.Holds.{Holds}
 use Rattle.sl_section_rules.specs.declared.scopes.Scope.{Scope}
 use Rattle.sl_spec.specs.declared.tables.Tables.{Tables}
 
-and_swap : (a b c : Bool) → ((a && b) && c) ≡ (a && (b && c))
-and_swap true b c = refl
-and_swap false b c = refl
-
-and_true : (a : Bool) → (a && true) ≡ a
-and_true true = refl
-and_true false = refl
-
 both_swap : (h k l : Holds) → both (both h k) l ≡ both h (both k l)
 both_swap h k l = λ i. record {
-  names = and_swap h.names k.names l.names i;
-  places = and_swap h.places k.places l.places i;
-  builds = and_swap h.builds k.builds l.builds i;
-  exports = and_swap h.exports k.exports l.exports i;
-  calls = and_swap h.calls k.calls l.calls i;
+  names = and_assoc h.names k.names l.names i;
+  places = and_assoc h.places k.places l.places i;
+  builds = and_assoc h.builds k.builds l.builds i;
+  exports = and_assoc h.exports k.exports l.exports i;
+  calls = and_assoc h.calls k.calls l.calls i;
 }
 
 abbrev all_true : Holds
@@ -34,11 +27,11 @@ all_true = record { names = true; places = true; builds = true; exports = true; 
 
 both_true : (h : Holds) → both h all_true ≡ h
 both_true h = λ i. record {
-  names = and_true h.names i;
-  places = and_true h.places i;
-  builds = and_true h.builds i;
-  exports = and_true h.exports i;
-  calls = and_true h.calls i;
+  names = and-true h.names i;
+  places = and-true h.places i;
+  builds = and-true h.builds i;
+  exports = and-true h.exports i;
+  calls = and-true h.calls i;
 }
 
 module _ (w : Whole) (t : Tables) (macros : List Signature) (body : List Statement) (start : Scope) where
