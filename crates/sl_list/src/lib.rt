@@ -14,3 +14,4 @@ pub use instructions::{
 pub use lines::{MOST_BYTES, push_address, push_hex, push_listed};
 pub use listings::{ListError, Lister, list_all};
 pub use specified::Specified;
+pub use writing::write_all;

@@ -9,8 +9,9 @@ ghost use Rattle.sl_list.specs.Listings.{AppendsFront};
 use crate::listings::ListError;
 use sl_outside::{Sink, SinkError};
 
-/// Writes the text, piece by piece. At an `Err` a front of it was written.
-pub(crate) fn write_all<K: Sink>(out: &mut K, text: &[u8]) -> Result<(), ListError>
+/// Writes the text, piece by piece. At an `Err` a front of it was written; `WriteFault` comes only
+/// where the sink failed.
+pub fn write_all<K: Sink>(out: &mut K, text: &[u8]) -> Result<(), ListError>
     ensures whole { OnOk result (Appends (K.taken out.old) (K.taken out.new) text.now) }
     ensures front { OnErr result (AppendsFront (K.taken out.old) (K.taken out.new) text.now) }
     ensures sink { UsesSink K.faults K.calls out.old out.new

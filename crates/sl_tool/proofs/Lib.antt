@@ -1,5 +1,4 @@
 pub mod LineLemmas
-pub mod WritingLemmas
 pub mod CompiledLemmas
 pub mod Thens
 pub mod ExpandLemmas

@@ -20,7 +20,6 @@ use Rattle.sl_pcode_lister.specs.Writing as pcode
 use Rattle.sl_tool.specs.Answers.{Due, Tells, shows_of}
 use Rattle.sl_tool.specs.Halts.{listed}
 use Rattle.sl_tool.specs.Outcomes.{FailsToWrite, RanNone, Streams, StreamsFront}
-use Rattle.sl_tool.specs.Writing as writing
 use Rattle.sl_tool.specs.Writing.{IsOfWriting}
 use Rattle.sl_tool.specs.Request.{Listing, Operations}
 use Rattle.sl_tool.specs.Shows.{IsOperations}
@@ -51,7 +50,7 @@ front_goes_on a b text rest w =
     )
 
 -- what was written of a text that is due, where the writing stopped
-pub written_front : (due : Due) (a b : Option (List ℕ)) (G : ℕ → Type 0) (s : Shown) (h : Halt) → due s → G s.ran → IsOfWriting h → writing.AppendsFront a b s.text
+pub written_front : (due : Due) (a b : Option (List ℕ)) (G : ℕ → Type 0) (s : Shown) (h : Halt) → due s → G s.ran → IsOfWriting h → AppendsFront a b s.text
     → Streams due a b G (Err h)
 written_front due a b G s (Refused x) is grew w f = absurd w
 written_front due a b G s ReadFault is grew w f = absurd w

@@ -1,10 +1,10 @@
 use Rattle.std.proofs.Common.{◌≡◌, ℕ, List, length, refl, subst, ◌∙◌}
 use Rattle.std.proofs.lemmas.Result.{err_from_is_err_and}
+use Rattle.sl_list.specs.Listings.{AppendsFront}
 use Rattle.sl_tool.specs.Answers.{counts_of}
 use Rattle.sl_tool.specs.Outcomes.{RanNone}
 use Rattle.sl_tool.specs.StageViews.{compiled_view}
 use Rattle.sl_tool.specs.Values.{shown}
-use Rattle.sl_tool.specs.Writing.{AppendsFront}
 use Rattle.sl_tool.specs.declared.status.Ending.TheVariants.{Done}
 use Rattle.sl_tool.proofs.ShowLemmas.{told_so, written_front}
 use Rattle.sl_tool.specs.Lines.{count_line}

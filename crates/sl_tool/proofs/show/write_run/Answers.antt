@@ -1,5 +1,6 @@
 use Rattle.std.proofs.Common.{ℕ, List, refl, subst}
 use Rattle.std.proofs.lemmas.Result.{err_from_is_err_and}
+use Rattle.sl_list.specs.Listings.{AppendsFront}
 use Rattle.sl_lister.specs.Listing.{image_from}
 use Rattle.sl_runner.specs.Executing.{RunsAs}
 use Rattle.sl_sizing.specs.Sizings.{lists_of}
@@ -9,7 +10,6 @@ use Rattle.sl_tool.specs.Outcomes.{Grew}
 use Rattle.sl_tool.specs.Request.{Run}
 use Rattle.sl_tool.specs.StageViews.{loaded_view}
 use Rattle.sl_tool.specs.Values.{shown}
-use Rattle.sl_tool.specs.Writing.{AppendsFront}
 use Rattle.sl_tool.proofs.ShowLemmas.{written_front}
 use Rattle.sl_tool.proofs.show.write_run.Goals as goal
 
