@@ -1,2 +1,2 @@
-pub mod EmitLemmas
+pub mod Operands
 pub mod SectionLemmas

@@ -1,14 +1,11 @@
 -- Templates, statement by statement.
-use Rattle.std.proofs.Common.{◌≡◌, ◌∙◌, ◌++◌, ◌∷◌, [], ℕ, zero, suc, ◌+◌, ◌≤◌, Bool, true, false, List, Option, Some, None, Ok, Err, OnOk, refl, sym, ap, append_assoc, length, length-append, map, arith, pos}
+use Rattle.std.proofs.Common.{◌≡◌, ◌∙◌, ◌++◌, ◌∷◌, [], ℕ, ◌+◌, Bool, true, false, List, Option, Some, None, refl, sym, ap, append_assoc, length, length-append, map}
 use Rattle.std.proofs.Math.Path.{fun_ext}
-use Rattle.std.specs.Prelude.{if◌then◌else◌, ◌||◌, Result, Vec, is_some, slice_get, unwrap_or}
-use Rattle.std.specs.declared.alloc.Global.{Global}
+use Rattle.std.specs.Prelude.{if◌then◌else◌, ◌||◌, is_some}
 use Rattle.sl_code.specs.Operations.{Operation}
-use Rattle.sl_emit.specs.Views.{jump_inside, jumps_to, lists_of, operations_of, place_by, references_of, scan}
-use Rattle.sl_emit.specs.declared.reference.Reference.{Reference}
-use Rattle.sl_meaning.specs.References.{Setting, number}
-use Rattle.sl_meaning.specs.Values.{Frame, reference_at}
-use Rattle.sl_pcode.specs.declared.operation.Op.{Op}
+use Rattle.sl_emit.specs.Views.{jump_inside, jumps_to, place_by, scan}
+use Rattle.sl_meaning.specs.References.{Setting}
+use Rattle.sl_meaning.specs.Values.{Frame}
 use Rattle.sl_section.specs.Sections.{Label}
 use Rattle.sl_template.specs.Pieces as t
 use Rattle.sl_template.specs.Pieces.{Part, Tail}
@@ -22,15 +19,6 @@ left_alone (Some l) b none = absurd (cc)
 right_alone : (o : Option Label) (b : Bool) → (is_some o || b) ≡ false → b ≡ false
 right_alone None b none = none
 right_alone (Some l) b none = absurd (cc)
-
--- as many operations as are seen
-pub as_many : (ops : List Op) → length (operations_of ops) ≡ length ops
-as_many [] = refl
-as_many (op ∷ ops) = let r = as_many ops in omega (arith, r)
-
-pub longer : (old new : List Op) (more : List Operation) → operations_of new ≡ operations_of old ++ more → length new ≡ length old + length more
-longer old new more is =
-    omega (arith, as_many old, as_many new, ap length is, length-append (operations_of old) more)
 
 module _ (top : ℕ) (g : Setting) (f : Frame) (lists : List (List Operation)) where
   -- no label changes the number of operations
@@ -60,16 +48,16 @@ module _ (top : ℕ) (g : Setting) (f : Frame) (lists : List (List Operation)) w
       ap (λ more. c ++ more) (tail_at label_place (p + length c) place a.tail is)
 
   -- one statement more
-  pub one_more : (label_place : Label → ℕ) (place : ℕ) (a : Part) (ps : List Part) (old new : List Op) → place ≡ place_by label_place (jumps_to a.tail)
-      → operations_of new ≡ operations_of old ++ part_code top g f (λ l. place) lists (length old) a
-      → operations_of new ++ parts_code top g f lists label_place (length new) ps ≡ operations_of old ++ parts_code top g f lists label_place (length old) (a ∷ ps)
+  pub one_more : (label_place : Label → ℕ) (place : ℕ) (a : Part) (ps : List Part) (old new : List Operation) → place ≡ place_by label_place (jumps_to a.tail)
+      → new ≡ old ++ part_code top g f (λ l. place) lists (length old) a
+      → new ++ parts_code top g f lists label_place (length new) ps ≡ old ++ parts_code top g f lists label_place (length old) (a ∷ ps)
   one_more label_place place a ps old new is put =
       let cs = part_code top g f label_place lists (length old) a in
       let same : part_code top g f (λ l. place) lists (length old) a ≡ cs = sym (part_at label_place (length old) place a is) in
-      let here : length new ≡ length old + part_length top g f lists a = longer old new _ put ∙ ap (λ n. length old + n) (part_same (λ l. place) (length old) a) in
-      ap (λ xs. xs ++ parts_code top g f lists label_place (length new) ps) (put ∙ ap (λ xs. operations_of old ++ xs) same)
-      ∙ ap (λ n. (operations_of old ++ cs) ++ parts_code top g f lists label_place n ps) here
-      ∙ append_assoc (operations_of old) cs (parts_code top g f lists label_place (length old + part_length top g f lists a) ps)
+      let here : length new ≡ length old + part_length top g f lists a = ap length put ∙ length-append old _ ∙ ap (λ n. length old + n) (part_same (λ l. place) (length old) a) in
+      ap (λ xs. xs ++ parts_code top g f lists label_place (length new) ps) (put ∙ ap (λ xs. old ++ xs) same)
+      ∙ ap (λ n. (old ++ cs) ++ parts_code top g f lists label_place n ps) here
+      ∙ append_assoc old cs (parts_code top g f lists label_place (length old + part_length top g f lists a) ps)
 
   -- a label's place by the numbers of operations
   pub scanned : (l : Label) (ps : List Part) (p : ℕ) → scan ps (map (part_length top g f lists) ps) l p ≡ label_at top g f lists l p ps
@@ -101,24 +89,3 @@ module _ (top : ℕ) (g : Setting) (f : Frame) (lists : List (List Operation)) w
 pub scan_none : (ps : List Part) (l : Label) (p : ℕ) → scan ps [] l p ≡ p
 scan_none [] l p = refl
 scan_none (a ∷ ps) l p = refl
-
--- lists of operands that aren't there
-pub none_there : (lists : List (Vec Op Global)) (i : ℕ) → length lists ≤ i → unwrap_or (slice_get (lists_of lists) i) [] ≡ []
-none_there [] i past = refl
-none_there (v ∷ vs) zero past = absurd (omega arith)
-none_there (v ∷ vs) (suc i) past = none_there vs i (omega arith)
-
--- an operand that isn't there is 0
-pub absent : (refs : List Reference) (i : ℕ) → length refs ≤ i → reference_at (references_of refs) i ≡ number (pos 0)
-absent [] i past = refl
-absent (r ∷ rs) zero past = absurd (omega arith)
-absent (r ∷ rs) (suc i) past = absent rs i (omega arith)
-
-pub and_nothing : (xs : List Operation) → xs ++ [] ≡ xs
-and_nothing [] = refl
-and_nothing (x ∷ xs) = ap (λ ys. x ∷ ys) (and_nothing xs)
-
--- what holds where a call succeeds
-pub mapped : {T E : Type 0} (r : Result T E) (P Q : Type 0) → (P → Q) → OnOk r P → OnOk r Q
-mapped (Ok v) P Q f h = f h
-mapped (Err e) P Q f h = h

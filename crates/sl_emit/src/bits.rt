@@ -1,177 +1,152 @@
 //! Values that are put into memory, and into bits.
 
-ghost use Rattle.std.specs.Prelude.{◌≡◌, ◌≤◌, ◌^◌, ◌++◌, ◌∷◌, [], OnOk};
+ghost use Rattle.std.specs.Prelude.{◌≡◌, ◌++◌, ◌∷◌, [], OnOk};
 ghost use Rattle.sl_code.specs.Operations as o;
 ghost use Rattle.sl_code.specs.Statements as step;
-ghost use Rattle.sl_emit.specs.Views.{operations_of, reference_of, references_of};
+ghost use Rattle.sl_emit.specs.Views.{reference_of, references_of};
 ghost use Rattle.sl_meaning.specs.References as reference;
 ghost use Rattle.sl_meaning.specs.Values as meaning;
 ghost use Rattle.sl_template.specs.Placed as p;
-ghost use Rattle.sl_word.specs.declared.operation.Op1.TheVariants.{IntZext};
 ghost use Rattle.sl_word.specs.declared.operation.Op2.TheVariants.{IntLeft, IntRight};
 
-use crate::operations::{put_binary, put_store, put_unary};
+use crate::operations::Operations;
 use crate::reading::read_operand;
 use crate::reference::Reference;
 use crate::site::Site;
 use crate::varnodes::{at_temp, local};
-use sl_pcode::{Op, Varnode};
+use sl_pcode::Varnode;
 use sl_section::Span;
 use sl_template::{above, all_but, amount, in_space, sized};
 use sl_word::{Op1, Op2, Size, SpaceId};
-use std::alloc::{AllocError, Global};
+use std::alloc::AllocError;
 
-/// A value is put into memory at a pointer.
+/// Memory at a pointer, which is read at `width`.
+#[derive(Clone, Copy)]
+pub(crate) struct Memory<'a> {
+    pub(crate) space: SpaceId,
+    pub(crate) pointer: &'a Reference,
+    pub(crate) width: Size,
+}
+
+/// A value is put into memory.
 pub(crate) fn memory_put(
-    alloc: Global,
-    top: u64,
-    out: &mut Vec<Op>,
+    site: &Site<'_>,
+    out: &mut Operations,
     t: u32,
-    space: SpaceId,
-    pointer: &Reference,
-    width: Size,
+    at: Memory<'_>,
     v: Varnode,
 ) -> Result<(), AllocError>
-    requires { top ≤ 2 ^ 32 }
-    ensures { OnOk result (operations_of out.new.items ≡ operations_of out.old.items
-        ++ step.memory_put top t space.0 (reference_of pointer.now) width v) }
+    ensures { OnOk result (out.new ≡ out.old ++ step.memory_put site.now.top t at.entry.space.0
+        (reference_of at.entry.pointer.now) at.entry.width v) }
 {
-    let pointer = read_operand(alloc, top, out, t, pointer, width)?;
-    put_store(alloc, out, space, pointer, v)
+    let pointer = read_operand(site, out, t, at.pointer, at.width)?;
+    out.store(at.space, pointer, v)
 }
 
-/// The new bits, moved to their place.
-fn new_bits(
-    alloc: Global,
-    out: &mut Vec<Op>,
+/// Bits of a value of `size` bytes, `old`, which get another value, `new`.
+#[derive(Clone, Copy)]
+struct Bits {
+    size: Size,
+    old: Varnode,
     new: Varnode,
-    v: Varnode,
-    up: Varnode,
-    down: Varnode,
-) -> Result<(), AllocError>
-    ensures { OnOk result (operations_of out.new.items ≡ operations_of out.old.items
-        ++ (o.unary IntZext new v ∷ o.binary IntLeft new new up ∷ o.binary IntRight new new down
-        ∷ [])) }
-{
-    put_unary(alloc, out, Op1::IntZext, new, v)?;
-    put_binary(alloc, out, Op2::IntLeft, new, new, up)?;
-    put_binary(alloc, out, Op2::IntRight, new, new, down)
-}
-
-/// The old bits, in their place.
-fn old_bits(
-    alloc: Global,
-    out: &mut Vec<Op>,
-    field: Varnode,
-    old: Varnode,
-    up: Varnode,
-    down: Varnode,
-    low: Varnode,
-) -> Result<(), AllocError>
-    ensures { OnOk result (operations_of out.new.items ≡ operations_of out.old.items
-        ++ (o.binary IntLeft field old up ∷ o.binary IntRight field field down
-        ∷ o.binary IntLeft field field low ∷ [])) }
-{
-    put_binary(alloc, out, Op2::IntLeft, field, old, up)?;
-    put_binary(alloc, out, Op2::IntRight, field, field, down)?;
-    put_binary(alloc, out, Op2::IntLeft, field, field, low)
-}
-
-/// A value with bits of another in their place. The two temporary values are `t` and the next one.
-fn bits_put(
-    alloc: Global,
-    top: u64,
-    out: &mut Vec<Op>,
-    t: u32,
-    n: Size,
-    old: Varnode,
-    v: Varnode,
     span: Span,
+}
+
+/// A value is moved up, and down again.
+fn moved(
+    out: &mut Operations,
+    to: Varnode,
+    from: Varnode,
+    up: Varnode,
+    down: Varnode,
+) -> Result<(), AllocError>
+    ensures { OnOk result (out.new ≡ out.old
+        ++ (o.binary IntLeft to from up ∷ o.binary IntRight to to down ∷ [])) }
+{
+    out.binary(Op2::IntLeft, to, from, up)?;
+    out.binary(Op2::IntRight, to, to, down)
+}
+
+/// The value with the new bits in their place. The temporary values 2 and 3 hold the new bits and
+/// the old ones.
+fn bits_put(
+    site: &Site<'_>,
+    out: &mut Operations,
+    bits: Bits,
     to: Varnode,
 ) -> Result<(), AllocError>
-    requires low { top ≤ 2 ^ 32 }
-    requires few { t ≤ 4 }
-    ensures { OnOk result (operations_of out.new.items ≡ operations_of out.old.items
-        ++ step.bits_put top t n old v span.low span.count to) }
+    ensures { OnOk result (out.new ≡ out.old ++ step.bits_put site.now.top 2 bits.size bits.old
+        bits.new bits.span.low bits.span.count to) }
 {
-    let count = u64::from(span.count);
-    let new = at_temp(top, t, n);
-    let field = at_temp(top, t + 1, n);
-    let high = amount(above(n, span.low, count));
-    let rest = amount(all_but(n, count));
-    new_bits(alloc, out, new, v, rest, high)?;
-    old_bits(alloc, out, field, old, high, rest, amount(span.low))?;
-    put_binary(alloc, out, Op2::IntSub, field, old, field)?;
-    put_binary(alloc, out, Op2::IntAdd, to, field, new)
+    let count = u64::from(bits.span.count);
+    let new = at_temp(site, 2, bits.size);
+    let field = at_temp(site, 3, bits.size);
+    let high = amount(above(bits.size, bits.span.low, count));
+    let rest = amount(all_but(bits.size, count));
+    out.unary(Op1::IntZext, new, bits.new)?;
+    moved(out, new, new, rest, high)?;
+    moved(out, field, bits.old, high, rest)?;
+    out.binary(Op2::IntLeft, field, field, amount(bits.span.low))?;
+    out.binary(Op2::IntSub, field, bits.old, field)?;
+    out.binary(Op2::IntAdd, to, field, new)
 }
 
 /// Bits are put into a local of a node.
 fn local_bits(
-    alloc: Global,
-    top: u64,
-    out: &mut Vec<Op>,
+    site: &Site<'_>,
+    out: &mut Operations,
     node: u32,
     x: u32,
-    n: Size,
-    old: Varnode,
-    v: Varnode,
-    span: Span,
+    bits: Bits,
 ) -> Result<(), AllocError>
-    requires { top ≤ 2 ^ 32 }
-    ensures { OnOk result (operations_of out.new.items ≡ operations_of out.old.items
-        ++ step.bits_put top 2 n old v span.low span.count (o.temporary (o.range_of node x) n)) }
+    ensures { OnOk result (out.new ≡ out.old ++ step.bits_put site.now.top 2 bits.size bits.old
+        bits.new bits.span.low bits.span.count (o.temporary (o.range_of node x) bits.size)) }
 {
-    let to = local(node, x, n);
-    bits_put(alloc, top, out, 2, n, old, v, span, to)
+    let to = local(node, x, bits.size);
+    bits_put(site, out, bits, to)
 }
 
-/// Bits are put into memory at a pointer.
+/// Bits are put into memory.
 fn memory_bits(
-    alloc: Global,
-    top: u64,
-    out: &mut Vec<Op>,
-    space: SpaceId,
-    pointer: &Reference,
-    width: Size,
-    n: Size,
-    old: Varnode,
-    v: Varnode,
-    span: Span,
+    site: &Site<'_>,
+    out: &mut Operations,
+    at: Memory<'_>,
+    bits: Bits,
 ) -> Result<(), AllocError>
-    requires { top ≤ 2 ^ 32 }
-    ensures { OnOk result (operations_of out.new.items ≡ operations_of out.old.items
-        ++ (step.bits_put top 2 n old v span.low span.count (o.at_temp top 2 n)
-        ++ step.memory_put top 4 space.0 (reference_of pointer.now) width (o.at_temp top 2 n))) }
+    ensures { OnOk result (out.new ≡ out.old ++ (step.bits_put site.now.top 2 bits.size bits.old
+        bits.new bits.span.low bits.span.count (o.at_temp site.now.top 2 bits.size)
+        ++ step.memory_put site.now.top 4 at.entry.space.0 (reference_of at.entry.pointer.now)
+        at.entry.width (o.at_temp site.now.top 2 bits.size))) }
 {
-    let to = at_temp(top, 2, n);
-    bits_put(alloc, top, out, 2, n, old, v, span, to)?;
-    memory_put(alloc, top, out, 4, space, pointer, width, to)
+    let to = at_temp(site, 2, bits.size);
+    bits_put(site, out, bits, to)?;
+    memory_put(site, out, 4, at, to)
 }
 
 /// Bits are put where a reference stands.
 fn reference_bits(
-    alloc: Global,
-    top: u64,
-    out: &mut Vec<Op>,
+    site: &Site<'_>,
+    out: &mut Operations,
     r: &Reference,
-    n: Size,
-    old: Varnode,
-    v: Varnode,
-    span: Span,
+    bits: Bits,
 ) -> Result<(), AllocError>
-    requires { top ≤ 2 ^ 32 }
-    ensures { OnOk result (operations_of out.new.items ≡ operations_of out.old.items
-        ++ step.reference_bits top (reference_of r.now) n old v span.low span.count) }
+    ensures { OnOk result (out.new ≡ out.old ++ step.reference_bits site.now.top
+        (reference_of r.now) bits.size bits.old bits.new bits.span.low bits.span.count) }
 {
     match r {
         Reference::Storage(r) => {
-            let to = in_space(r.space, r.offset, n);
-            bits_put(alloc, top, out, 2, n, old, v, span, to)
+            let to = in_space(r.space, r.offset, bits.size);
+            bits_put(site, out, bits, to)
         }
-        Reference::Local(node, x, _) => { local_bits(alloc, top, out, *node, *x, n, old, v, span) }
+        Reference::Local(node, x, _) => local_bits(site, out, *node, *x, bits),
         Reference::Plain(_) => Ok(()),
         Reference::Memory(space, _, pointer, width) => {
-            memory_bits(alloc, top, out, *space, pointer, *width, n, old, v, span)
+            let at = Memory {
+                space: *space,
+                pointer,
+                width: *width,
+            };
+            memory_bits(site, out, at, bits)
         }
     }
 }
@@ -189,37 +164,40 @@ fn reference_size(r: &Reference) -> Size
 
 /// A value is put into bits of what a reference stands for.
 fn reference_put_bits(
-    alloc: Global,
-    top: u64,
-    out: &mut Vec<Op>,
+    site: &Site<'_>,
+    out: &mut Operations,
     r: &Reference,
     v: Varnode,
     span: Span,
 ) -> Result<(), AllocError>
-    requires { top ≤ 2 ^ 32 }
-    ensures { OnOk result (operations_of out.new.items ≡ operations_of out.old.items
-        ++ p.bits_code top (reference_of r.now) v span.low span.count) }
+    ensures { OnOk result (out.new ≡ out.old
+        ++ p.bits_code site.now.top (reference_of r.now) v span.low span.count) }
 {
-    let n = reference_size(r);
-    let old = read_operand(alloc, top, out, 1, r, n)?;
-    reference_bits(alloc, top, out, r, n, old, v, span)
+    let size = reference_size(r);
+    let old = read_operand(site, out, 1, r, size)?;
+    let bits = Bits {
+        size,
+        old,
+        new: v,
+        span,
+    };
+    reference_bits(site, out, r, bits)
 }
 
 /// A value is put into bits of what an operand stands for.
+#[tactic(auto, using(crate::proofs::Operands::absent, crate::proofs::Operands::and_nothing))]
 pub(crate) fn operand_bits(
-    alloc: Global,
     site: &Site<'_>,
-    out: &mut Vec<Op>,
+    out: &mut Operations,
     i: u32,
     v: Varnode,
     span: Span,
 ) -> Result<(), AllocError>
-    ensures { OnOk result (operations_of out.new.items ≡ operations_of out.old.items
-        ++ p.bits_code site.now.top (meaning.reference_at (references_of site.now.refs.now) i) v
-        span.low span.count) }
+    ensures { OnOk result (out.new ≡ out.old ++ p.bits_code site.now.top
+        (meaning.reference_at (references_of site.now.refs.now) i) v span.low span.count) }
 {
     match site.refs.get(i as usize) {
-        Some(r) => reference_put_bits(alloc, site.top, out, r, v, span),
+        Some(r) => reference_put_bits(site, out, r, v, span),
         None => Ok(()),
     }
 }

@@ -2,18 +2,19 @@
 
 ghost use Rattle.std.specs.Prelude.{◌≡◌, ◌++◌, OnOk};
 ghost use Rattle.sl_code.specs.Terms as term;
-ghost use Rattle.sl_emit.specs.Views.{frame_of, operations_of, references_of, setting_of};
+ghost use Rattle.sl_emit.specs.Views.{frame_of, references_of, setting_of};
 ghost use Rattle.sl_meaning.specs.Values.{reference_at};
 ghost use Rattle.sl_template.specs.Placed as p;
 
+use crate::operations::Operations;
 use crate::reading::{number_into, read_into, read_leaf};
 use crate::reference::{Number, Reference};
 use crate::site::Site;
 use crate::varnodes::{at_temp, number_leaf};
-use sl_pcode::{Op, Varnode};
+use sl_pcode::Varnode;
 use sl_template::Given;
 use sl_word::Size;
-use std::alloc::{AllocError, Global};
+use std::alloc::AllocError;
 
 /// The varnode that an operand stands for, where it is one. An operand that isn't there is 0.
 fn operand_leaf(refs: &[Reference], i: u32, n: Size) -> Option<Varnode>
@@ -39,60 +40,57 @@ pub(crate) fn given_leaf(site: &Site<'_>, a: Given, n: Size) -> Option<Varnode>
 
 /// An operand is put into a varnode.
 fn operand_into(
-    alloc: Global,
     site: &Site<'_>,
-    out: &mut Vec<Op>,
+    out: &mut Operations,
     t: u32,
     i: u32,
     to: Varnode,
 ) -> Result<(), AllocError>
-    ensures { OnOk result (operations_of out.new.items ≡ operations_of out.old.items
+    ensures { OnOk result (out.new ≡ out.old
         ++ term.read_into site.now.top t (reference_at (references_of site.now.refs.now) i) to) }
 {
     match site.refs.get(i as usize) {
-        Some(r) => read_into(alloc, site.top, out, t, r, to),
-        None => number_into(alloc, out, Number::Natural(0), to),
+        Some(r) => read_into(site, out, t, r, to),
+        None => number_into(out, Number::Natural(0), to),
     }
 }
 
 /// What is given is put into a varnode.
 pub(crate) fn given_into(
-    alloc: Global,
     site: &Site<'_>,
-    out: &mut Vec<Op>,
+    out: &mut Operations,
     t: u32,
     a: Given,
     to: Varnode,
 ) -> Result<(), AllocError>
-    ensures { OnOk result (operations_of out.new.items ≡ operations_of out.old.items
+    ensures { OnOk result (out.new ≡ out.old
         ++ term.read_into site.now.top t (p.given site.now.top (setting_of site.now)
         (frame_of site.now) a) to) }
 {
     match a {
-        Given::Operand(i) => operand_into(alloc, site, out, t, i, to),
-        Given::Start => number_into(alloc, out, site.start, to),
-        Given::Next => number_into(alloc, out, site.next, to),
+        Given::Operand(i) => operand_into(site, out, t, i, to),
+        Given::Start => number_into(out, site.start, to),
+        Given::Next => number_into(out, site.next, to),
     }
 }
 
 /// What is given is put into a temporary value, where it is no varnode.
 pub(crate) fn given_read(
-    alloc: Global,
     site: &Site<'_>,
-    out: &mut Vec<Op>,
+    out: &mut Operations,
     t: u32,
     a: Given,
     n: Size,
 ) -> Result<(), AllocError>
-    ensures { OnOk result (operations_of out.new.items ≡ operations_of out.old.items
+    ensures { OnOk result (out.new ≡ out.old
         ++ p.read_code site.now.top (p.given site.now.top (setting_of site.now)
         (frame_of site.now) a) t n) }
 {
     match given_leaf(site, a, n) {
         Some(_) => Ok(()),
         None => {
-            let tmp = at_temp(site.top, t, n);
-            given_into(alloc, site, out, t, a, tmp)
+            let tmp = at_temp(site, t, n);
+            given_into(site, out, t, a, tmp)
         }
     }
 }

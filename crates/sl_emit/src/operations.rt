@@ -1,6 +1,6 @@
-//! One more operation.
+//! The operations so far, and one more.
 
-ghost use Rattle.std.specs.Prelude.{◌≡◌, ◌≤◌, ◌++◌, ◌∷◌, [], Some, None, length, OnOk};
+ghost use Rattle.std.specs.Prelude.{◌≡◌, ◌≤◌, ◌++◌, ◌∷◌, [], None, length, OnOk};
 ghost use Rattle.sl_code.specs.Operations as o;
 ghost use Rattle.sl_emit.specs.Views.{operations_of};
 ghost use Rattle.sl_pcode.specs.declared.code.Code.TheVariants.{CallOther};
@@ -9,21 +9,23 @@ use sl_pcode::{Code, Op, Varnode};
 use sl_template::amount;
 use sl_word::{Op1, Op2, SpaceId};
 use std::alloc::{AllocError, Global};
+use std::marker::Model;
 
-/// An operation with at most three inputs.
-pub(crate) fn put(
+/// The operations so far. Contracts see them by their parts.
+#[derive(Drop)]
+pub(crate) struct Operations {
     alloc: Global,
-    out: &mut Vec<Op>,
-    code: Code,
-    to: Option<Varnode>,
-    inputs: &[Varnode],
-) -> Result<(), AllocError>
-    requires { length inputs.now ≤ 3 }
-    ensures { OnOk result (operations_of out.new.items
-        ≡ operations_of out.old.items ++ record { code = code; out = to; inputs = inputs.now } ∷ []) }
-{
-    out.push(Op::make(alloc, code, to, inputs))?;
-    Ok(())
+    ops: Vec<Op>,
+}
+
+impl Model for Operations {
+    ghost use Rattle.std.specs.Prelude.{List};
+    ghost use Rattle.sl_code.specs.Operations.{Operation};
+    ghost use Rattle.sl_emit.specs.Views.{operations_of};
+
+    ghost Value = { List Operation };
+
+    ghost view = { λ a. operations_of a.ops.items };
 }
 
 fn unary_code(op: Op1) -> Code
@@ -74,97 +76,125 @@ fn binary_code(op: Op2) -> Code
     }
 }
 
-pub(crate) fn put_unary(
-    alloc: Global,
-    out: &mut Vec<Op>,
-    op: Op1,
-    to: Varnode,
-    a: Varnode,
-) -> Result<(), AllocError>
-    ensures { OnOk result (operations_of out.new.items
-        ≡ operations_of out.old.items ++ o.unary op to a ∷ []) }
-{
-    put(alloc, out, unary_code(op), Some(to), &[a])
-}
+impl Operations {
+    pub(crate) fn new(alloc: Global) -> Operations
+        ensures { result ≡ [] }
+    {
+        Operations {
+            alloc,
+            ops: Vec::new(alloc),
+        }
+    }
 
-pub(crate) fn put_binary(
-    alloc: Global,
-    out: &mut Vec<Op>,
-    op: Op2,
-    to: Varnode,
-    a: Varnode,
-    b: Varnode,
-) -> Result<(), AllocError>
-    ensures { OnOk result (operations_of out.new.items
-        ≡ operations_of out.old.items ++ o.binary op to a b ∷ []) }
-{
-    put(alloc, out, binary_code(op), Some(to), &[a, b])
-}
+    /// Where lists get their memory.
+    pub(crate) fn alloc(&self) -> Global {
+        self.alloc
+    }
 
-pub(crate) fn put_load(
-    alloc: Global,
-    out: &mut Vec<Op>,
-    to: Varnode,
-    space: SpaceId,
-    pointer: Varnode,
-) -> Result<(), AllocError>
-    ensures { OnOk result (operations_of out.new.items
-        ≡ operations_of out.old.items ++ o.load_from to space.0 pointer ∷ []) }
-{
-    let number = amount(u64::from(space.0));
-    put(alloc, out, Code::Load, Some(to), &[number, pointer])
-}
+    pub(crate) fn len(&self) -> usize
+        ensures { result ≡ length self.now }
+    {
+        self.ops.len()
+    }
 
-pub(crate) fn put_store(
-    alloc: Global,
-    out: &mut Vec<Op>,
-    space: SpaceId,
-    pointer: Varnode,
-    v: Varnode,
-) -> Result<(), AllocError>
-    ensures { OnOk result (operations_of out.new.items
-        ≡ operations_of out.old.items ++ o.store_to space.0 pointer v ∷ []) }
-{
-    let number = amount(u64::from(space.0));
-    put(alloc, out, Code::Store, None, &[number, pointer, v])
-}
+    pub(crate) fn into_list(self) -> Vec<Op>
+        ensures { operations_of result.items ≡ self }
+    {
+        self.ops
+    }
 
-/// A jump, a call or a return.
-pub(crate) fn put_exit(
-    alloc: Global,
-    out: &mut Vec<Op>,
-    code: Code,
-    target: Varnode,
-) -> Result<(), AllocError>
-    ensures { OnOk result (operations_of out.new.items
-        ≡ operations_of out.old.items ++ o.exit code target ∷ []) }
-{
-    put(alloc, out, code, None, &[target])
-}
+    /// An operation with at most three inputs.
+    fn put(&mut self, code: Code, to: Option<Varnode>, inputs: &[Varnode]) -> Result<(), AllocError>
+        requires { length inputs.now ≤ 3 }
+        ensures { OnOk result (self.new
+            ≡ self.old ++ record { code = code; out = to; inputs = inputs.now } ∷ []) }
+    {
+        self.ops.push(Op::make(self.alloc, code, to, inputs))?;
+        Ok(())
+    }
 
-/// A jump where a condition isn't 0.
-pub(crate) fn put_exit_if(
-    alloc: Global,
-    out: &mut Vec<Op>,
-    target: Varnode,
-    condition: Varnode,
-) -> Result<(), AllocError>
-    ensures { OnOk result (operations_of out.new.items
-        ≡ operations_of out.old.items ++ o.exit_if target condition ∷ []) }
-{
-    put(alloc, out, Code::CBranch, None, &[target, condition])
-}
+    pub(crate) fn unary(&mut self, op: Op1, to: Varnode, a: Varnode) -> Result<(), AllocError>
+        ensures { OnOk result (self.new ≡ self.old ++ o.unary op to a ∷ []) }
+    {
+        self.put(unary_code(op), Some(to), &[a])
+    }
 
-/// A user operation by its number, with its arguments behind it.
-pub(crate) fn put_call(
-    alloc: Global,
-    out: &mut Vec<Op>,
-    inputs: &[Varnode],
-) -> Result<(), AllocError>
-    ensures { OnOk result (operations_of out.new.items ≡ operations_of out.old.items
-        ++ record { code = CallOther; out = None; inputs = inputs.now } ∷ []) }
-{
-    let op = Op::make_long(alloc, Code::CallOther, None, inputs)?;
-    out.push(op)?;
-    Ok(())
+    pub(crate) fn binary(
+        &mut self,
+        op: Op2,
+        to: Varnode,
+        a: Varnode,
+        b: Varnode,
+    ) -> Result<(), AllocError>
+        ensures { OnOk result (self.new ≡ self.old ++ o.binary op to a b ∷ []) }
+    {
+        self.put(binary_code(op), Some(to), &[a, b])
+    }
+
+    pub(crate) fn load(
+        &mut self,
+        to: Varnode,
+        space: SpaceId,
+        pointer: Varnode,
+    ) -> Result<(), AllocError>
+        ensures { OnOk result (self.new ≡ self.old ++ o.load_from to space.0 pointer ∷ []) }
+    {
+        let number = amount(u64::from(space.0));
+        self.put(Code::Load, Some(to), &[number, pointer])
+    }
+
+    pub(crate) fn store(
+        &mut self,
+        space: SpaceId,
+        pointer: Varnode,
+        v: Varnode,
+    ) -> Result<(), AllocError>
+        ensures { OnOk result (self.new ≡ self.old ++ o.store_to space.0 pointer v ∷ []) }
+    {
+        let number = amount(u64::from(space.0));
+        self.put(Code::Store, None, &[number, pointer, v])
+    }
+
+    /// A jump, a call or a return.
+    pub(crate) fn exit(&mut self, code: Code, target: Varnode) -> Result<(), AllocError>
+        ensures { OnOk result (self.new ≡ self.old ++ o.exit code target ∷ []) }
+    {
+        self.put(code, None, &[target])
+    }
+
+    /// A jump where a condition isn't 0.
+    pub(crate) fn exit_if(&mut self, target: Varnode, condition: Varnode) -> Result<(), AllocError>
+        ensures { OnOk result (self.new ≡ self.old ++ o.exit_if target condition ∷ []) }
+    {
+        self.put(Code::CBranch, None, &[target, condition])
+    }
+
+    /// A user operation by its number, with its arguments behind it.
+    pub(crate) fn call(&mut self, inputs: &[Varnode]) -> Result<(), AllocError>
+        ensures { OnOk result (self.new
+            ≡ self.old ++ record { code = CallOther; out = None; inputs = inputs.now } ∷ []) }
+    {
+        let op = Op::make_long(self.alloc, Code::CallOther, None, inputs)?;
+        self.ops.push(op)?;
+        Ok(())
+    }
+
+    /// An operation once more.
+    fn copy(&mut self, op: &Op) -> Result<(), AllocError>
+        ensures { OnOk result (self.new ≡ self.old ++ o.operation_of op.now ∷ []) }
+    {
+        let copy = Op::make_long(self.alloc, op.code, op.out, op.inputs.as_slice())?;
+        self.ops.push(copy)?;
+        Ok(())
+    }
+
+    /// A list once more.
+    pub(crate) fn copy_all(&mut self, list: &[Op]) -> Result<(), AllocError>
+        ensures { OnOk result (self.new ≡ self.old ++ operations_of list.now) }
+    {
+        'list: for index in 0..list.len() {
+            self.copy(&list[index])?;
+        }
+        Ok(())
+    }
 }

@@ -1,21 +1,21 @@
 //! What operands stand for is read.
 
-ghost use Rattle.std.specs.Prelude.{◌≡◌, ◌≤◌, ◌^◌, ◌++◌, IfOk, OnOk};
+ghost use Rattle.std.specs.Prelude.{◌≡◌, ◌++◌, ◌∷◌, [], IfOk, OnOk};
 ghost use Rattle.sl_code.specs.Operations as o;
 ghost use Rattle.sl_code.specs.Terms as term;
-ghost use Rattle.std.specs.Prelude.{◌∷◌, []};
-ghost use Rattle.sl_emit.specs.Views.{number_of, operations_of, reference_of};
+ghost use Rattle.sl_emit.specs.Views.{number_of, reference_of};
 ghost use Rattle.sl_equations.specs.Equations.{size_at};
 ghost use Rattle.sl_word.specs.Numbers as z;
 ghost use Rattle.sl_word.specs.declared.operation.Op1.TheVariants.{IntSext};
 
-use crate::operations::{put_load, put_unary};
+use crate::operations::Operations;
 use crate::reference::{Number, Reference};
+use crate::site::Site;
 use crate::varnodes::{at_temp, number_leaf, range, temporary, wide_number};
-use sl_pcode::{Op, Varnode};
+use sl_pcode::Varnode;
 use sl_template::in_space;
 use sl_word::{Op1, Size};
-use std::alloc::{AllocError, Global};
+use std::alloc::AllocError;
 
 /// The varnode that is read, or another one.
 pub(crate) fn operand(leaf: Option<Varnode>, otherwise: Varnode) -> Varnode
@@ -40,52 +40,45 @@ pub(crate) fn read_leaf(r: &Reference, n: Size) -> Option<Varnode>
 }
 
 /// A number is put into a varnode.
-pub(crate) fn number_into(
-    alloc: Global,
-    out: &mut Vec<Op>,
-    v: Number,
-    to: Varnode,
-) -> Result<(), AllocError>
-    ensures { OnOk result (operations_of out.new.items ≡ operations_of out.old.items
+pub(crate) fn number_into(out: &mut Operations, v: Number, to: Varnode) -> Result<(), AllocError>
+    ensures { OnOk result (out.new ≡ out.old
         ++ term.copied (term.number_leaf (number_of v) to.size) to
         (o.unary IntSext to (o.constant (z.residue 8 (number_of v)) (size_at 8)) ∷ [])) }
 {
     match number_leaf(v, to.size) {
-        Some(leaf) => put_unary(alloc, out, Op1::Copy, to, leaf),
-        None => put_unary(alloc, out, Op1::IntSext, to, wide_number(v)),
+        Some(leaf) => out.unary(Op1::Copy, to, leaf),
+        None => out.unary(Op1::IntSext, to, wide_number(v)),
     }
 }
 
 /// What a reference stands for is put into a varnode.
 pub(crate) fn read_into(
-    alloc: Global,
-    top: u64,
-    out: &mut Vec<Op>,
+    site: &Site<'_>,
+    out: &mut Operations,
     t: u32,
     r: &Reference,
     to: Varnode,
 ) -> Result<(), AllocError>
-    requires { top ≤ 2 ^ 32 }
-    ensures { OnOk result (operations_of out.new.items ≡ operations_of out.old.items
-        ++ term.read_into top t (reference_of r.now) to) }
+    ensures { OnOk result (out.new ≡ out.old
+        ++ term.read_into site.now.top t (reference_of r.now) to) }
 {
     match r {
         Reference::Storage(r) => {
             let from = in_space(r.space, r.offset, to.size);
-            put_unary(alloc, out, Op1::Copy, to, from)
+            out.unary(Op1::Copy, to, from)
         }
         Reference::Local(node, x, _) => {
             let from = temporary(range(*node, *x), to.size);
-            put_unary(alloc, out, Op1::Copy, to, from)
+            out.unary(Op1::Copy, to, from)
         }
-        Reference::Plain(v) => number_into(alloc, out, *v, to),
+        Reference::Plain(v) => number_into(out, *v, to),
         Reference::Memory(space, _, pointer, width) => {
-            let tmp = at_temp(top, t, *width);
+            let tmp = at_temp(site, t, *width);
             match read_leaf(pointer, *width) {
-                Some(leaf) => put_load(alloc, out, to, *space, leaf),
+                Some(leaf) => out.load(to, *space, leaf),
                 None => {
-                    read_into(alloc, top, out, t, pointer, tmp)?;
-                    put_load(alloc, out, to, *space, tmp)
+                    read_into(site, out, t, pointer, tmp)?;
+                    out.load(to, *space, tmp)
                 }
             }
         }
@@ -94,25 +87,23 @@ pub(crate) fn read_into(
 
 /// What a reference stands for is read at `n` bytes: the operations before, and the varnode.
 pub(crate) fn read_operand(
-    alloc: Global,
-    top: u64,
-    out: &mut Vec<Op>,
+    site: &Site<'_>,
+    out: &mut Operations,
     t: u32,
     r: &Reference,
     n: Size,
 ) -> Result<Varnode, AllocError>
-    requires { top ≤ 2 ^ 32 }
-    ensures code { OnOk result (operations_of out.new.items ≡ operations_of out.old.items
+    ensures code { OnOk result (out.new ≡ out.old
         ++ term.code_before (term.read_leaf (reference_of r.now) n)
-        (term.read_into top t (reference_of r.now) (o.at_temp top t n))) }
+        (term.read_into site.now.top t (reference_of r.now) (o.at_temp site.now.top t n))) }
     ensures value { IfOk result (λ v. v
-        ≡ term.operand (term.read_leaf (reference_of r.now) n) (o.at_temp top t n)) }
+        ≡ term.operand (term.read_leaf (reference_of r.now) n) (o.at_temp site.now.top t n)) }
 {
     match read_leaf(r, n) {
         Some(leaf) => Ok(leaf),
         None => {
-            let tmp = at_temp(top, t, n);
-            read_into(alloc, top, out, t, r, tmp)?;
+            let tmp = at_temp(site, t, n);
+            read_into(site, out, t, r, tmp)?;
             Ok(tmp)
         }
     }

@@ -9,6 +9,7 @@ ghost use Rattle.sl_section.specs.Views.{label_of};
 ghost use Rattle.sl_template.specs.Placed as p;
 ghost use Rattle.sl_template.specs.Views.{part_of, parts_of, tail_of};
 
+use crate::operations::Operations;
 use crate::parts::part;
 use crate::site::Site;
 use sl_pcode::Op;
@@ -42,7 +43,6 @@ fn is_label(a: &Tail<'_>, l: Label<'_>) -> bool
 }
 
 /// The number of operations of a statement.
-#[tactic(auto, using(crate::proofs::SectionLemmas::as_many))]
 fn length_of(
     alloc: Global,
     site: &Site<'_>,
@@ -52,8 +52,8 @@ fn length_of(
     ensures { IfOk result (λ n. n ≡ p.part_length site.now.top (setting_of site.now)
         (frame_of site.now) (lists_of lists.now) (part_of a.now)) }
 {
-    let mut scratch = Vec::new(alloc);
-    part(alloc, site, lists, &mut scratch, 0, 0, a)?;
+    let mut scratch = Operations::new(alloc);
+    part(site, lists, &mut scratch, 0, a)?;
     Ok(scratch.len() as u64)
 }
 
@@ -140,13 +140,12 @@ fn all_parts(
         (setting_of site.now) (frame_of site.now) (lists_of lists.now)
         (λ l. scan (parts_of parts.now) lengths.now l 0) 0 (parts_of parts.now)) }
 {
-    let mut out = Vec::new(alloc);
+    let mut out = Operations::new(alloc);
     'parts: for index in 0..parts.len() {
         let place = place_of(parts, lengths, &parts[index])?;
-        let at = out.len() as u64;
-        part(alloc, site, lists, &mut out, at, place, &parts[index])?;
+        part(site, lists, &mut out, place, &parts[index])?;
     }
-    Ok(out)
+    Ok(out.into_list())
 }
 
 /// The numbers of operations of statements as far as places of labels hang on them: none where no

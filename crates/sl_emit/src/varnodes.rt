@@ -8,6 +8,7 @@ ghost use Rattle.sl_equations.specs.Equations.{size_at};
 ghost use Rattle.sl_word.specs.Numbers as z;
 
 use crate::reference::Number;
+use crate::site::Site;
 use sl_pcode::{Place2, Varnode};
 use sl_template::{constant, cut, sized};
 use sl_word::Size;
@@ -37,11 +38,10 @@ pub(crate) fn local(node: u32, x: u32, n: Size) -> Varnode
 }
 
 /// A temporary value.
-pub(crate) fn at_temp(top: u64, t: u32, n: Size) -> Varnode
-    requires { top ≤ 2 ^ 32 }
-    ensures { result ≡ o.at_temp top t n }
+pub(crate) fn at_temp(site: &Site<'_>, t: u32, n: Size) -> Varnode
+    ensures { result ≡ o.at_temp site.now.top t n }
 {
-    temporary(top + u64::from(t) * 16, n)
+    temporary(site.top + u64::from(t) * 16, n)
 }
 
 /// The greatest number of `n` bytes, at most 8.

@@ -1,6 +1,6 @@
 use Rattle.std.proofs.Common.{rules, ◌≡◌, ◌++◌, ◌+◌, ◌∷◌, ℕ, List, length, drop, sym, ap, ◌∙◌, arith}
 use Rattle.std.proofs.lemmas.Grind.{common_steps}
-use Rattle.sl_emit.specs.Views.{frame_of, jumps_to, lists_of, operations_of, place_by, scan, setting_of}
+use Rattle.sl_emit.specs.Views.{frame_of, jumps_to, lists_of, place_by, scan, setting_of}
 use Rattle.sl_emit.proofs.SectionLemmas.{one_more}
 use Rattle.sl_section.specs.Sections.{Label}
 use Rattle.sl_template.specs.Pieces.{Part}
@@ -20,11 +20,11 @@ parts-preserved c =
     let a = part_of c.index-parts-index-in-parts.result in
     let rest = parts_of (drop (i + 1) all) in
     let place = c.in_ok-place.place in
-    let old = c.parts.out.items in
-    let new = c.part.new.out.items in
+    let old = c.parts.out in
+    let new = c.part.new.out in
     let there : place ≡ place_by label_place (jumps_to a.tail) = first_of (grind (arith, common_steps), search rules) in
-    let put : operations_of new ≡ operations_of old ++ part_code site.top g f (λ l. place) lists (length old) a = first_of (grind (arith, common_steps), search rules) in
+    let put : new ≡ old ++ part_code site.top g f (λ l. place) lists (length old) a = first_of (grind (arith, common_steps), search rules) in
     let left : parts_of (drop i all) ≡ a ∷ rest = first_of (grind (arith, common_steps), search rules) in
     one_more site.top g f lists label_place place a rest old new there put
-    ∙ ap (λ (xs : List Part). operations_of old ++ parts_code site.top g f lists label_place (length old) xs) (sym left)
+    ∙ ap (λ (xs : List Part). old ++ parts_code site.top g f lists label_place (length old) xs) (sym left)
     ∙ c.parts.invariant

@@ -1,5 +1,5 @@
 use Rattle.std.proofs.Common.{◌≡◌, ◌++◌, length, drop}
-use Rattle.sl_emit.specs.Views.{frame_of, lists_of, operations_of, scan, setting_of}
+use Rattle.sl_emit.specs.Views.{frame_of, lists_of, scan, setting_of}
 use Rattle.sl_template.specs.Placed.{parts_code}
 use Rattle.sl_template.specs.Views.{parts_of}
 use Rattle.sl_emit.proofs.sections.all_parts.Given as goal
@@ -9,5 +9,5 @@ invariant-parts l =
     let g = setting_of l.site in
     let f = frame_of l.site in
     let lists = lists_of l.lists in
-    operations_of l.out.items ++ parts_code l.site.top g f lists (λ x. scan (parts_of l.parts) l.lengths x 0) (length l.out.items) (parts_of (drop l.index l.parts))
+    l.out ++ parts_code l.site.top g f lists (λ x. scan (parts_of l.parts) l.lengths x 0) (length l.out) (parts_of (drop l.index l.parts))
     ≡ parts_code l.site.top g f lists (λ x. scan (parts_of l.parts) l.lengths x 0) 0 (parts_of l.parts)
