@@ -3,7 +3,7 @@ use Rattle.std.proofs.Common.{◌≡◌, ℕ, ◌+◌, List, [], length, Result,
 use Rattle.std.proofs.Common.{append-nil, ◌++◌}
 use Rattle.sl_decode.specs.Finishing.{Kept, finish_kept, kept}
 use Rattle.sl_decode.specs.Outcomes.{Fails}
-use Rattle.sl_decode.specs.Sprouts.{all_notes, alone, flat, laid, sprouts}
+use Rattle.sl_decode.specs.Sprouts.{all_notes, alone, flat, laid, row, sprouts}
 use Rattle.sl_decode.specs.Walks.{Walked, walk_of, walked}
 use Rattle.sl_decode.specs.declared.outcomes.DecodeError.{DecodeError}
 use Rattle.sl_decode.specs.declared.outcomes.DecodeError.TheVariants as e
@@ -45,7 +45,7 @@ module _ (t : Tables) (i : Input) where
   behind n = address_in t (i.address + n)
 
   root_read : (n after : ℕ) (es : List Sprout) (ns : List Noted) (r : Result Grown Fault)
-      → laid [] [] r ≡ Ok (flat n es ns after)
+      → laid (row [] []) r ≡ Ok (flat n (row es ns) after)
       → walk_of (r >>= λ root. finish i (behind root.node.length) (alone root) []
       >>= λ all. Ok (decoded_of root.node.length (behind root.node.length) all))
       ≡ placed_at n (behind n) (finish_kept i (behind n) es ns (kept [] [] []))
@@ -64,7 +64,7 @@ module _ (t : Tables) (i : Input) where
   root_read n after es ns (Err fault) h = cc
 
   pub read_as : (context n after : ℕ) (es : List Sprout) (ns : List Noted)
-      → laid [] [] (grow i (length t.tables) 0 0 context) ≡ Ok (flat n es ns after)
+      → laid (row [] []) (grow i (length t.tables) 0 0 context) ≡ Ok (flat n (row es ns) after)
       → walk_of (read t i context)
       ≡ placed_at n (behind n) (finish_kept i (behind n) es ns (kept [] [] []))
   read_as context n after es ns h = root_read n after es ns (grow i (length t.tables) 0 0 context) h

@@ -3,7 +3,7 @@ use Rattle.std.proofs.Common.{◌≡◌, ℕ, zero, suc, ◌-◌, List, [], ◌�
 use Rattle.std.proofs.Common.{Result, Ok, Err, refl, ap, subst, ◌∙◌, sym, arith, append_assoc, map}
 use Rattle.std.proofs.Common.{length-append, append-nil}
 use Rattle.sl_decode.specs.Outcomes.{Fails}
-use Rattle.sl_decode.specs.Sprouts.{Flat, all_notes, flat, laid, laid_grove, measured, sprouts}
+use Rattle.sl_decode.specs.Sprouts.{Flat, Row, all_notes, flat, laid, laid_grove, measured, row, sprouts}
 use Rattle.sl_decode.specs.declared.outcomes.DecodeError.{DecodeError}
 use Rattle.sl_decode.specs.declared.outcomes.DecodeError.TheVariants as e
 use Rattle.sl_decode.specs.declared.walk.Sprout.{Sprout}
@@ -90,9 +90,9 @@ sprout ctor at len own noted below = record {
 module _ (ctor at own : ℕ) (es : List Sprout) (ns : List Noted) where
   -- what stands in the end, from what stands behind the operands
   abbrev pub finished : List Noted → Result Flat Fault → Result Flat Fault
-  finished ns1 (Ok (flat len N NS after)) = Ok (flat len
-      (slice_set N (length es)
-      (sprout ctor at len own (length ns1 - length ns) (length N - length es - 1))) NS after)
+  finished ns1 (Ok (flat len (row N NS) after)) = Ok (flat len
+      (row (slice_set N (length es)
+      (sprout ctor at len own (length ns1 - length ns) (length N - length es - 1))) NS) after)
   finished ns1 (Err fault) = Err fault
 
   -- the operands' fault is the node's
@@ -103,12 +103,12 @@ module _ (ctor at own : ℕ) (es : List Sprout) (ns : List Noted) where
 
   node_stands : (ms : List Noted) (e0 : Sprout) (total : List ℕ → ℕ) (lengths : List ℕ)
       (trees : Trees Begun) (after : ℕ)
-      → laid es ns (Ok (record {
+      → laid (row es ns) (Ok (record {
         node = record { ctor = ctor; at = at; length = total lengths; context = own; notes = ms };
         below = trees;
         after = after;
       }))
-      ≡ finished (ns ++ ms) (measured total (laid_grove (es ++ e0 ∷ []) (ns ++ ms)
+      ≡ finished (ns ++ ms) (measured total (laid_grove (row (es ++ e0 ∷ []) (ns ++ ms))
       (Ok (record { lengths = lengths; trees = trees; after = after }))))
   node_stands ms e0 total lengths trees after =
       let noted : length ms ≡ length (ns ++ ms) - length ns = omega (arith, length-append ns ms) in
@@ -127,40 +127,40 @@ module _ (ctor at own : ℕ) (es : List Sprout) (ns : List Noted) where
       let notes : ns ++ (ms ++ (all_notes trees ++ [])) ≡ ns ++ ms ++ all_notes trees =
       ap (λ l. ns ++ (ms ++ l)) (append-nil (all_notes trees))
       ∙ sym (append_assoc ns ms (all_notes trees)) in
-      ap (λ l. Ok (flat (total lengths) l (ns ++ (ms ++ (all_notes trees ++ []))) after)) nodes
-      ∙ ap (λ l. Ok (flat (total lengths) (slice_set (es ++ e0 ∷ [] ++ sprouts trees) (length es) two) l after)) notes
+      ap (λ l. Ok (flat (total lengths) (row l (ns ++ (ms ++ (all_notes trees ++ [])))) after)) nodes
+      ∙ ap (λ l. Ok (flat (total lengths) (row (slice_set (es ++ e0 ∷ [] ++ sprouts trees) (length es) two) l) after)) notes
 
   -- the operands of a node whose actions came to this
   opened_from : (ms : List Noted) (e0 : Sprout) (total : List ℕ → ℕ) (r : Result Grove Fault)
-      → laid es ns (r >>= λ below. Ok (record {
+      → laid (row es ns) (r >>= λ below. Ok (record {
         node = record { ctor = ctor; at = at; length = total below.lengths; context = own; notes = ms };
         below = below.trees;
         after = below.after;
       }))
-      ≡ finished (ns ++ ms) (measured total (laid_grove (es ++ e0 ∷ []) (ns ++ ms) r))
+      ≡ finished (ns ++ ms) (measured total (laid_grove (row (es ++ e0 ∷ []) (ns ++ ms)) r))
   opened_from ms e0 total (Ok g) = node_stands ms e0 total g.lengths g.trees g.after
   opened_from ms e0 total (Err fault) = refl
 
 module _ (grow : Grower) (ctor at : ℕ) (m : Meaning) (es : List Sprout) (ns : List Noted) where
   changes_from : (ns1 : List Noted) (own : ℕ) (e0 : Sprout) (c : Result Changed Fault)
       → with_front ns c ≡ Ok (changed own ns1)
-      → laid es ns (c >>= with_operands grow ctor at m)
+      → laid (row es ns) (c >>= with_operands grow ctor at m)
       ≡ finished ctor at own es ns ns1 (measured m.length
-      (laid_grove (es ++ e0 ∷ []) ns1 (operands grow m.slots at [] own)))
+      (laid_grove (row (es ++ e0 ∷ []) ns1) (operands grow m.slots at [] own)))
   changes_from ns1 own e0 (Ok (changed x ms)) h =
       let a : x ≡ own = cc in
       let b : ns ++ ms ≡ ns1 = cc in
-      subst (λ y. laid es ns (with_operands grow ctor at m (changed y ms))
+      subst (λ y. laid (row es ns) (with_operands grow ctor at m (changed y ms))
       ≡ finished ctor at own es ns ns1 (measured m.length
-      (laid_grove (es ++ e0 ∷ []) ns1 (operands grow m.slots at [] own)))) (sym a)
-      (subst (λ n. laid es ns (with_operands grow ctor at m (changed own ms))
+      (laid_grove (row (es ++ e0 ∷ []) ns1) (operands grow m.slots at [] own)))) (sym a)
+      (subst (λ n. laid (row es ns) (with_operands grow ctor at m (changed own ms))
       ≡ finished ctor at own es ns n (measured m.length
-      (laid_grove (es ++ e0 ∷ []) n (operands grow m.slots at [] own)))) b
+      (laid_grove (row (es ++ e0 ∷ []) n) (operands grow m.slots at [] own)))) b
       (opened_from ctor at own es ns ms e0 m.length (operands grow m.slots at [] own)))
   changes_from ns1 own e0 (Err fault) h = cc
 
   changes_fail : (error : DecodeError) (c : Result Changed Fault) → Fails error (with_front ns c)
-      → Fails error (laid es ns (c >>= with_operands grow ctor at m))
+      → Fails error (laid (row es ns) (c >>= with_operands grow ctor at m))
   changes_fail (e.Fault fault) (Ok (changed x ms)) h = cc
   changes_fail (e.Fault fault) (Err other) h =
       let same : other ≡ fault = cc in ap Err same
@@ -173,16 +173,16 @@ module _ (t : Tables) (grow : Grower) (i : Input) (at context ctor : ℕ) (p : P
 
   -- a node whose actions came to this
   pub opened_as : (ns1 : List Noted) (own : ℕ) (e0 : Sprout) → acted ≡ Ok (changed own ns1)
-      → laid es ns (opened grow i at context (chosen ctor (done t p)))
+      → laid (row es ns) (opened grow i at context (chosen ctor (done t p)))
       ≡ finished ctor at own es ns ns1 (measured (λ lengths. extent p.length lengths)
-      (laid_grove (es ++ e0 ∷ []) ns1 (operands grow (map done_slot p.slots.items) at [] own)))
+      (laid_grove (row (es ++ e0 ∷ []) ns1) (operands grow (map done_slot p.slots.items) at [] own)))
   opened_as ns1 own e0 h =
       changes_from grow ctor at (done t p) es ns ns1 own e0
       (in_turn (early_step t (site_at i ctor at [] context 0)) p.early.items (changed context []))
       (sym (from_none t (site_at i ctor at [] context 0) p.early.items ns context) ∙ h)
 
   pub opened_fails : (error : DecodeError) → Fails error acted
-      → Fails error (laid es ns (opened grow i at context (chosen ctor (done t p))))
+      → Fails error (laid (row es ns) (opened grow i at context (chosen ctor (done t p))))
   opened_fails error h =
       changes_fail grow ctor at (done t p) es ns error
       (in_turn (early_step t (site_at i ctor at [] context 0)) p.early.items (changed context []))
@@ -191,9 +191,9 @@ module _ (t : Tables) (grow : Grower) (i : Input) (at context ctor : ℕ) (p : P
 -- what is written in the end
 pub finished_so : (ctor at own len after : ℕ) (es N : List Sprout) (ns ns1 NS : List Noted) (place noted count : ℕ)
     → place ≡ length es → noted ≡ length ns1 - length ns → count ≡ length N
-    → ◌≡◌ {A = Result Flat Fault} (Ok (flat len (slice_set N (length es)
-    (sprout ctor at len own (length ns1 - length ns) (length N - length es - 1))) NS after))
-    (Ok (flat len (slice_set N place (sprout ctor at len own noted (count - place - 1))) NS after))
+    → ◌≡◌ {A = Result Flat Fault} (Ok (flat len (row (slice_set N (length es)
+    (sprout ctor at len own (length ns1 - length ns) (length N - length es - 1))) NS) after))
+    (Ok (flat len (row (slice_set N place (sprout ctor at len own noted (count - place - 1))) NS) after))
 finished_so ctor at own len after es N ns ns1 NS place noted count a b c = rw (a, b, c) refl
 
 module _ (i : Input) (table at context : ℕ) where
@@ -207,18 +207,17 @@ module _ (i : Input) (table at context : ℕ) where
       ap (λ r. r >>= opened (grow i n) i at context) h
       ∙ ap (λ m. opened (grow i m) i at context x) (sym less)
 
-  pub grow_fails : (left : ℕ) (error : DecodeError) (es : List Sprout) (ns : List Noted)
-      → (left ≡ 0 → ⊥)
+  pub grow_fails : (left : ℕ) (error : DecodeError) (r : Row) → (left ≡ 0 → ⊥)
       → Fails error (or_fault (NoConstructor table at) (chosen_at i table at context))
-      → Fails error (laid es ns (grow i left table at context))
+      → Fails error (laid r (grow i left table at context))
   unfolding grow
-  grow_fails zero error es ns some h = absurd (some refl)
-  grow_fails (suc n) (e.Fault fault) es ns some h =
-      ap (λ r. laid es ns (r >>= opened (grow i n) i at context)) h
-  grow_fails (suc n) e.NoMemory es ns some h = tt
+  grow_fails zero error r some h = absurd (some refl)
+  grow_fails (suc n) (e.Fault fault) r some h =
+      ap (λ o. laid r (o >>= opened (grow i n) i at context)) h
+  grow_fails (suc n) e.NoMemory r some h = tt
 
-  pub grow_none : (left : ℕ) (es : List Sprout) (ns : List Noted) → left ≡ 0
-      → laid es ns (grow i left table at context) ≡ Err (NoConstructor table at)
+  pub grow_none : (left : ℕ) (r : Row) → left ≡ 0
+      → laid r (grow i left table at context) ≡ Err (NoConstructor table at)
   unfolding grow
-  grow_none zero es ns h = refl
-  grow_none (suc n) es ns h = absurd (omega arith)
+  grow_none zero r h = refl
+  grow_none (suc n) r h = absurd (omega arith)

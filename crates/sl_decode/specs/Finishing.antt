@@ -3,6 +3,7 @@ use Rattle.std.specs.Prelude.{ℕ, zero, suc, ℤ, List, [], ◌∷◌, ◌++◌
 use Rattle.std.specs.Prelude.{Result, Ok, Err}
 use Rattle.sl_contexts.specs.declared.commits.Commit.{Commit}
 use Rattle.sl_decode.specs.declared.walk.Sprout.{Sprout}
+use Rattle.sl_decode.specs.declared.walk.Walk.{Walk}
 use Rattle.sl_decoding.specs.Actions.{Own, own}
 use Rattle.sl_decoding.specs.Decoding.{Input, finish_node}
 use Rattle.sl_decoding.specs.Flat.{entry_of}
@@ -39,6 +40,9 @@ roots (suc n) (s ∷ ss) = roots n ss
 -- the nodes, the values and the commits so far
 pub data Kept : Type 0 where
   kept : List Entry → List ℤ → List Commit → Kept
+
+abbrev pub kept_of : Walk → Kept
+kept_of w = kept w.nodes.items w.values.items w.commits.items
 
 abbrev pub commits_kept : Kept → List Commit
 commits_kept (kept es vs cs) = cs

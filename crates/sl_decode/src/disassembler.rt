@@ -29,31 +29,15 @@ impl<C: Choose> Decode<'_, '_, C> {
         walk.nodes.clear();
         walk.values.clear();
         walk.commits.clear();
-        walk.sprouts.clear();
-        walk.notes.clear();
+        walk.growth.sprouts.clear();
+        walk.growth.notes.clear();
         let levels = self.tables.tables.len();
-        let grown = match self.grow(
-            levels,
-            TableId(0),
-            0,
-            context,
-            &mut walk.sprouts,
-            &mut walk.notes,
-        ) {
+        let grown = match self.grow(levels, TableId(0), 0, context, &mut walk.growth) {
             Ok(grown) => grown,
             Err(error) => return Err(error),
         };
         let after = address_behind(self.tables, self.address, grown.length);
-        match self.finish(
-            after,
-            &walk.sprouts,
-            &walk.notes,
-            &mut walk.lengths,
-            &mut walk.own,
-            &mut walk.nodes,
-            &mut walk.values,
-            &mut walk.commits,
-        ) {
+        match self.finish(after, walk) {
             Ok(()) => Ok(Instruction {
                 length: grown.length,
                 after,

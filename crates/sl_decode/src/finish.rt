@@ -3,7 +3,7 @@
 ghost use Rattle.std.specs.Prelude.{◌≡◌, ◌++◌, ◌∷◌, [], List, length, IsTrue, IfOk, OnOk};
 ghost use Rattle.sl_contexts.specs.declared.commits.Commit.{Commit as CommitOf};
 ghost use Rattle.sl_decode.specs.Finishing as spec;
-ghost use Rattle.sl_decode.specs.Finishing.{begun_of, finish_kept, kept, roots, told, told_of};
+ghost use Rattle.sl_decode.specs.Finishing.{begun_of, finish_kept, kept, kept_of, roots, told, told_of};
 ghost use Rattle.sl_decode.specs.Inputs.{input_of};
 ghost use Rattle.sl_decode.specs.Outcomes.{Gives};
 ghost use Rattle.sl_decode.specs.declared.walk.Sprout.{Sprout as SproutOf};
@@ -15,12 +15,20 @@ use crate::decode::{Choose, Decode};
 use crate::late::{look_all, tell_all};
 use crate::outcomes::DecodeError;
 use crate::points::divided;
-use crate::walk::Sprout;
+use crate::walk::{NodeRoom, Sprout, Walk};
 use sl_contexts::Commit;
 use sl_decoding::{Entry, Noted};
 use sl_plan::{Plan, Scope};
 use sl_spec::{CtorId, TableId};
 use std::alloc::AllocError;
+
+/// A node with those that stand below it, and its notes.
+#[derive(Clone, Copy)]
+struct Begun<'g> {
+    sprout: &'g Sprout,
+    below: &'g [Sprout],
+    notes: &'g [Noted],
+}
 
 /// Looks at one more node, of which `skipped` are skipped first: how many are behind it. Its length
 /// is added, if it isn't skipped.
@@ -88,37 +96,35 @@ fn is_idle(plan: &Plan) -> bool
 }
 
 impl<C: Choose> Decode<'_, '_, C> {
-    /// The late moments of a node by the plan of its constructor: values are added to `own`, which
-    /// is empty, and commits to the others.
+    /// The late moments of a node by the plan of its constructor: values are added to those of
+    /// `room`, which are none, and commits to the others.
     #[tactic(auto, using(crate::proofs::FinishLemmas::idle_late))]
     fn finish_by(
         &self,
         plan: &Plan,
         next: u64,
-        sprout: &Sprout,
-        below: &[Sprout],
-        notes: &[Noted],
-        lengths: &mut Vec<u32>,
-        own: &mut Vec<i64>,
+        node: &Begun,
+        room: &mut NodeRoom,
         commits: &mut Vec<Commit>,
     ) -> Result<(), DecodeError>
-        requires { own.old.items ≡ [] }
-        ensures { Gives (λ _. told own.new.items commits.new.items) result
+        requires { room.old.values.items ≡ [] }
+        ensures { Gives (λ _. told room.new.values.items commits.new.items) result
             (told_of ((done self.now.tables.now plan.now).late
-            (site_at (input_of C.chosen self.now) sprout.now.ctor sprout.now.at (roots 0 below.now)
-            sprout.now.context next) (at.own notes.now [] commits.old.items))) }
+            (site_at (input_of C.chosen self.now) node.now.sprout.now.ctor node.now.sprout.now.at
+            (roots 0 node.now.below.now) node.now.sprout.now.context next)
+            (at.own node.now.notes.now [] commits.old.items))) }
     {
         if is_idle(plan) {
             return Ok(());
         }
-        lengths.clear();
-        add_lengths(below, lengths)?;
+        room.lengths.clear();
+        add_lengths(node.below, &mut room.lengths)?;
         let scope = Scope {
-            ctor: sprout.ctor,
+            ctor: node.sprout.ctor,
             bytes: self.bytes,
-            at: sprout.at,
-            lengths: lengths.as_slice(),
-            context: sprout.context,
+            at: node.sprout.at,
+            lengths: room.lengths.as_slice(),
+            context: node.sprout.context,
             start: self.address,
             next,
             values: &[],
@@ -128,60 +134,63 @@ impl<C: Choose> Decode<'_, '_, C> {
             self.tables,
             &scope,
             plan.late.as_slice(),
-            notes,
-            own,
+            node.notes,
+            &mut room.values,
             commits,
         )?;
         Ok(())
     }
 
-    /// The late moments of a node: its values are put in place of those of `own`, and commits are
+    /// The late moments of a node: its values are put in place of those of `room`, and commits are
     /// added.
     fn finish_one(
         &self,
         next: u64,
-        sprout: &Sprout,
-        below: &[Sprout],
-        notes: &[Noted],
-        lengths: &mut Vec<u32>,
-        own: &mut Vec<i64>,
+        node: &Begun,
+        room: &mut NodeRoom,
         commits: &mut Vec<Commit>,
     ) -> Result<(), DecodeError>
-        ensures { Gives (λ _. told own.new.items commits.new.items) result
+        ensures { Gives (λ _. told room.new.values.items commits.new.items) result
             (told_of (finish_node (input_of C.chosen self.now) next
-            (begun_of sprout.now notes.now) (roots 0 below.now) commits.old.items)) }
+            (begun_of node.now.sprout.now node.now.notes.now) (roots 0 node.now.below.now)
+            commits.old.items)) }
     {
-        own.clear();
+        room.values.clear();
+        let sprout = node.sprout;
         let CtorId(number) = sprout.ctor;
         let plan = self.plan_of(sprout.ctor, TableId(number), sprout.at)?;
-        self.finish_by(plan, next, sprout, below, notes, lengths, own, commits)
+        self.finish_by(plan, next, node, room, commits)
     }
 
     /// The late moments of all nodes, `next` being the address behind the instruction. Nodes, values
     /// and commits are added.
-    pub fn finish(
-        &self,
-        next: u64,
-        sprouts: &[Sprout],
-        notes: &[Noted],
-        lengths: &mut Vec<u32>,
-        own: &mut Vec<i64>,
-        nodes: &mut Vec<Entry>,
-        values: &mut Vec<i64>,
-        commits: &mut Vec<Commit>,
-    ) -> Result<(), DecodeError>
-        ensures { Gives (λ _. kept nodes.new.items values.new.items commits.new.items) result
-            (finish_kept (input_of C.chosen self.now) next sprouts.now notes.now
-            (kept nodes.old.items values.old.items commits.old.items)) }
+    pub fn finish(&self, next: u64, walk: &mut Walk) -> Result<(), DecodeError>
+        ensures { Gives (λ _. kept_of walk.new) result
+            (finish_kept (input_of C.chosen self.now) next walk.old.growth.sprouts.items
+            walk.old.growth.notes.items (kept_of walk.old)) }
     {
-        let mut rest = notes;
+        let Walk {
+            nodes,
+            values,
+            commits,
+            growth,
+            room,
+        } = walk;
+        let growth = &*growth;
+        let sprouts = growth.sprouts.as_slice();
+        let mut rest = growth.notes.as_slice();
         'sprouts: for index in 0..sprouts.len() {
             let sprout = &sprouts[index];
             let (_, behind) = divided(sprouts, index + 1);
             let (below, _) = divided(behind, sprout.below);
-            let (noted, left) = divided(rest, sprout.noted);
-            self.finish_one(next, sprout, below, noted, lengths, own, commits)?;
-            keep(sprout, own.as_slice(), nodes, values)?;
+            let (notes, left) = divided(rest, sprout.noted);
+            let node = Begun {
+                sprout,
+                below,
+                notes,
+            };
+            self.finish_one(next, &node, room, commits)?;
+            keep(sprout, room.values.as_slice(), nodes, values)?;
             rest = left;
         }
         Ok(())

@@ -3,7 +3,7 @@
 ghost use Rattle.std.specs.Prelude.{◌≡◌, ◌+◌, ◌≤◌, [], map, length, OnOk};
 ghost use Rattle.sl_decode.specs.Inputs.{input_of};
 ghost use Rattle.sl_decode.specs.Outcomes.{Gives};
-ghost use Rattle.sl_decode.specs.Sprouts.{flat, laid, laid_grove, measured};
+ghost use Rattle.sl_decode.specs.Sprouts.{flat, laid, laid_grove, measured, row_of};
 ghost use Rattle.sl_decoding.specs.Decoding as spec;
 ghost use Rattle.sl_decoding.specs.Decoding.{operands};
 ghost use Rattle.sl_plan.specs.Extents.{extent};
@@ -11,8 +11,8 @@ ghost use Rattle.sl_plan.specs.Plans.{done_slot};
 
 use crate::decode::{Choose, Decode, length_of, place_behind};
 use crate::outcomes::DecodeError;
-use crate::walk::Sprout;
-use sl_decoding::{Fault, Noted};
+use crate::walk::{Growth, Sprout};
+use sl_decoding::Fault;
 use sl_plan::Plan;
 use sl_spec::TableId;
 
@@ -36,13 +36,13 @@ impl<C: Choose> Decode<'_, '_, C> {
         table: TableId,
         at: u32,
         context: u64,
-        sprouts: &mut Vec<Sprout>,
-        notes: &mut Vec<Noted>,
+        growth: &mut Growth,
     ) -> Result<Grown, DecodeError>
-        ensures gives { Gives (λ r. flat r.length sprouts.new.items notes.new.items r.after) result
-            (laid sprouts.old.items notes.old.items
+        ensures gives { Gives (λ r. flat r.length (row_of growth.new) r.after) result
+            (laid (row_of growth.old)
             (spec.grow (input_of C.chosen self.now) left table at context)) }
-        ensures longer { OnOk result (length sprouts.old.items ≤ length sprouts.new.items) }
+        ensures longer { OnOk result
+            (length growth.old.sprouts.items ≤ length growth.new.sprouts.items) }
     {
         if left == 0 {
             return Err(DecodeError::Fault(Fault::NoConstructor { table, at }));
@@ -55,14 +55,14 @@ impl<C: Choose> Decode<'_, '_, C> {
             Ok(plan) => plan,
             Err(error) => return Err(error),
         };
-        let index = sprouts.len();
-        let first = notes.len();
-        let own = match self.change_by(ctor, at, plan, context, notes) {
+        let index = growth.sprouts.len();
+        let first = growth.notes.len();
+        let own = match self.change_by(ctor, at, plan, context, &mut growth.notes) {
             Ok(own) => own,
             Err(error) => return Err(error),
         };
-        let noted = notes.len().saturating_sub(first);
-        sprouts.push(Sprout {
+        let noted = growth.notes.len().saturating_sub(first);
+        growth.sprouts.push(Sprout {
             ctor,
             at,
             length: 0,
@@ -70,17 +70,17 @@ impl<C: Choose> Decode<'_, '_, C> {
             noted,
             below: 0,
         })?;
-        let grown = match self.operands(left - 1, plan, at, own, sprouts, notes) {
+        let grown = match self.operands(left - 1, plan, at, own, growth) {
             Ok(grown) => grown,
             Err(error) => return Err(error),
         };
-        sprouts[index] = Sprout {
-            ctor: ctor,
+        growth.sprouts[index] = Sprout {
+            ctor,
             at,
             length: grown.length,
             context: own,
             noted,
-            below: sprouts.len() - index - 1,
+            below: growth.sprouts.len() - index - 1,
         };
         Ok(grown)
     }
@@ -94,15 +94,15 @@ impl<C: Choose> Decode<'_, '_, C> {
         plan: &Plan,
         at: u32,
         context: u64,
-        sprouts: &mut Vec<Sprout>,
-        notes: &mut Vec<Noted>,
+        growth: &mut Growth,
     ) -> Result<Grown, DecodeError>
-        ensures gives { Gives (λ r. flat r.length sprouts.new.items notes.new.items r.after) result
+        ensures gives { Gives (λ r. flat r.length (row_of growth.new) r.after) result
             (measured (λ lengths. extent plan.now.length lengths)
-            (laid_grove sprouts.old.items notes.old.items
+            (laid_grove (row_of growth.old)
             (operands (spec.grow (input_of C.chosen self.now) left)
             (map done_slot plan.now.slots.items) at [] context))) }
-        ensures longer { OnOk result (length sprouts.old.items ≤ length sprouts.new.items) }
+        ensures longer { OnOk result
+            (length growth.old.sprouts.items ≤ length growth.new.sprouts.items) }
     {
         let slots = plan.slots.as_slice();
         if slots.is_empty() {
@@ -118,7 +118,7 @@ impl<C: Choose> Decode<'_, '_, C> {
         'slots: for k in 0..slots.len() {
             let slot = &slots[k];
             let place = place_behind(at, &slot.place, &lengths[..k])?;
-            let grown = self.grow(left, slot.table, place, after, sprouts, notes)?;
+            let grown = self.grow(left, slot.table, place, after, growth)?;
             lengths[k] = grown.length;
             after = grown.after;
         }

@@ -1,6 +1,6 @@
 //! What is done at a node when the whole tree stands.
 
-ghost use Rattle.std.specs.Prelude.{◌≡◌, drop};
+ghost use Rattle.std.specs.Prelude.{◌≡◌};
 ghost use Rattle.sl_decode.specs.Outcomes.{Gives};
 ghost use Rattle.sl_decode.specs.Finishing.{told, told_of};
 ghost use Rattle.sl_decoding.specs.Actions as spec;
@@ -60,39 +60,38 @@ fn value_with(t: &Tables, scope: &Scope, values: &[i64], value: &Value) -> Resul
     value_of(t, &here, value)
 }
 
-/// One step, where the first `used` notes are taken: how many are taken behind it. A value or a
-/// commit is added.
-fn tell_once(
+/// One step, from notes that aren't taken yet: those that aren't behind it. A value or a commit is
+/// added.
+fn tell_once<'n>(
     t: &Tables,
     scope: &Scope,
     step: &Late,
-    notes: &[Noted],
-    used: usize,
+    notes: &'n [Noted],
     values: &mut Vec<i64>,
     commits: &mut Vec<Commit>,
-) -> Result<usize, DecodeError>
-    ensures { Gives (λ n. own (drop n notes.now) values.new.items commits.new.items) result
+) -> Result<&'n [Noted], DecodeError>
+    ensures { Gives (λ left. own left.now values.new.items commits.new.items) result
         (late_step t.now (site_of scope.now) step.now
-        (own (drop used notes.now) values.old.items commits.old.items)) }
+        (own notes.now values.old.items commits.old.items)) }
 {
     match step {
         Late::Name(value) => {
             match value_with(t, scope, values.as_slice(), value) {
                 Ok(n) => {
                     values.push(n)?;
-                    Ok(used)
+                    Ok(notes)
                 }
                 Err(error) => Err(error),
             }
         }
         Late::Commit(value) => {
-            let Some(note) = notes.get(used) else {
-                return Ok(used);
+            let Some((note, left)) = notes.split_first() else {
+                return Ok(notes);
             };
             match value_with(t, scope, values.as_slice(), value) {
                 Ok(address) => {
                     commits.push(commit_of(t, note, address))?;
-                    Ok(used + 1)
+                    Ok(left)
                 }
                 Err(error) => Err(error),
             }
@@ -113,10 +112,10 @@ pub fn tell_all(
         (told_of (in_turn (late_step t.now (site_of scope.now)) steps.now
         (own notes.now values.old.items commits.old.items))) }
 {
-    let mut used = 0;
+    let mut left = notes;
     'steps: for index in 0..steps.len() {
-        match tell_once(t, scope, &steps[index], notes, used, values, commits) {
-            Ok(next) => used = next,
+        match tell_once(t, scope, &steps[index], left, values, commits) {
+            Ok(next) => left = next,
             Err(error) => return Err(error),
         }
     }

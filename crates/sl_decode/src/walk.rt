@@ -19,6 +19,24 @@ pub struct Sprout {
     pub below: usize,
 }
 
+/// A tree as it grows.
+#[derive(Drop)]
+pub struct Growth {
+    /// Its nodes in a row.
+    pub sprouts: Vec<Sprout>,
+    /// The notes of all nodes, in the same order.
+    pub notes: Vec<Noted>,
+}
+
+/// Room for one node at a time.
+#[derive(Drop)]
+pub struct NodeRoom {
+    /// The lengths of its operands.
+    pub lengths: Vec<u32>,
+    /// The values of its action names.
+    pub values: Vec<i64>,
+}
+
 /// A decoded tree. It is used again from instruction to instruction, and takes no memory once it
 /// has grown.
 #[derive(Drop)]
@@ -29,12 +47,9 @@ pub struct Walk {
     pub values: Vec<i64>,
     /// All commits in order.
     pub commits: Vec<Commit>,
-    /// The nodes as they grow, and their notes.
-    pub(crate) sprouts: Vec<Sprout>,
-    pub(crate) notes: Vec<Noted>,
-    /// Of one node: the lengths of its operands, and its values.
-    pub(crate) lengths: Vec<u32>,
-    pub(crate) own: Vec<i64>,
+    /// The tree as it grows, before its late moments.
+    pub(crate) growth: Growth,
+    pub(crate) room: NodeRoom,
 }
 
 impl Walk {
@@ -44,10 +59,14 @@ impl Walk {
             nodes: Vec::new(alloc),
             values: Vec::new(alloc),
             commits: Vec::new(alloc),
-            sprouts: Vec::new(alloc),
-            notes: Vec::new(alloc),
-            lengths: Vec::new(alloc),
-            own: Vec::new(alloc),
+            growth: Growth {
+                sprouts: Vec::new(alloc),
+                notes: Vec::new(alloc),
+            },
+            room: NodeRoom {
+                lengths: Vec::new(alloc),
+                values: Vec::new(alloc),
+            },
         }
     }
 }

@@ -7,5 +7,5 @@ use Rattle.sl_decode.proofs.late.tell_all.Given as goal
 
 abbrev pub invariant-steps : goal.invariant-steps
 invariant-steps l =
-    in_turn (late_step l.t (site_of l.scope)) (drop l.index l.steps) (own (drop l.used l.notes) l.values.items l.commits.items)
+    in_turn (late_step l.t (site_of l.scope)) (drop l.index l.steps) (own l.left l.values.items l.commits.items)
     ≡ in_turn (late_step l.t (site_of l.scope)) l.steps (own l.notes l.initial.values.items l.initial.commits.items)
