@@ -3,7 +3,8 @@ use Rattle.std.proofs.Common.{◌≡◌, ℕ, zero, suc, ◌-◌, List, [], ◌�
 use Rattle.std.proofs.Common.{Result, Ok, Err, refl, ap, subst, ◌∙◌, sym, arith, append_assoc, map}
 use Rattle.std.proofs.Common.{length-append, append-nil}
 use Rattle.sl_decode.specs.Outcomes.{Fails}
-use Rattle.sl_decode.specs.Sprouts.{Flat, Row, all_notes, flat, laid, laid_grove, measured, row, sprouts}
+use Rattle.sl_decode.specs.Sprouts.{Flat, Row, all_notes, flat, laid, laid_grove, measured, row}
+use Rattle.sl_decode.specs.Sprouts.{sprouts}
 use Rattle.sl_decode.specs.declared.outcomes.DecodeError.{DecodeError}
 use Rattle.sl_decode.specs.declared.outcomes.DecodeError.TheVariants as e
 use Rattle.sl_decode.specs.declared.walk.Sprout.{Sprout}

@@ -33,7 +33,7 @@ pub data Row : Type 0 where
 abbrev pub row_of : Growth → Row
 row_of g = row g.sprouts.items g.notes.items
 
--- trees behind a row
+-- the trees' nodes and notes behind those of the row
 abbrev pub with_trees : Row → Trees Begun → Row
 with_trees (row ss ns) trees = row (ss ++ sprouts trees) (ns ++ all_notes trees)
 

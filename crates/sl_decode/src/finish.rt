@@ -3,7 +3,8 @@
 ghost use Rattle.std.specs.Prelude.{◌≡◌, ◌++◌, ◌∷◌, [], List, length, IsTrue, IfOk, OnOk};
 ghost use Rattle.sl_contexts.specs.declared.commits.Commit.{Commit as CommitOf};
 ghost use Rattle.sl_decode.specs.Finishing as spec;
-ghost use Rattle.sl_decode.specs.Finishing.{begun_of, finish_kept, kept, kept_of, roots, told, told_of};
+ghost use Rattle.sl_decode.specs.Finishing.{begun_of, finish_kept, kept, kept_of, roots};
+ghost use Rattle.sl_decode.specs.Finishing.{told, told_of};
 ghost use Rattle.sl_decode.specs.Inputs.{input_of};
 ghost use Rattle.sl_decode.specs.Outcomes.{Gives};
 ghost use Rattle.sl_decode.specs.declared.walk.Sprout.{Sprout as SproutOf};

@@ -60,7 +60,7 @@ fn value_with(t: &Tables, scope: &Scope, values: &[i64], value: &Value) -> Resul
     value_of(t, &here, value)
 }
 
-/// One step, from notes that aren't taken yet: those that aren't behind it. A value or a commit is
+/// One step: what is left of `notes`, those that no step before it took. A value or a commit is
 /// added.
 fn tell_once<'n>(
     t: &Tables,
