@@ -3,11 +3,13 @@
 #![tactic(auto)]
 
 mod compiled;
+mod compiling;
 mod error;
 mod laws;
 mod places;
 
-pub use compiled::{Compiled, compile};
+pub use compiled::Compiled;
+pub use compiling::compile;
 pub use error::{Ambiguity, CompileError, Flaw};
 pub use laws::{outcome_is_one, some_outcome};
 pub use sl_bind::Bound;

@@ -8,7 +8,7 @@ use Rattle.sl_compile.proofs.StandLemmas.{stands, told_of}
 use Rattle.sl_sound.specs.Soundness.{AreSetsOf, IsSound, Refuses}
 use Rattle.sl_spec.specs.Unfolded.{all_placed}
 use Rattle.sl_spec.specs.declared.unfolded.Unfolded.{Unfolded}
-use Rattle.sl_compile.proofs.compiled.checked.Goals as goal
+use Rattle.sl_compile.proofs.compiling.checked.Goals as goal
 
 pub returns-in-Ok-clause-sound : goal.returns-in-Ok-clause-sound
 returns-in-Ok-clause-sound c =
