@@ -1,10 +1,10 @@
 //! What decodes and shows the instructions of a specification.
 
-ghost use Rattle.std.specs.Prelude.{IfOk, Ok};
+ghost use Rattle.std.specs.Prelude.{IfOk};
 ghost use Rattle.sl_ast.specs.Views.{items_of};
-ghost use Rattle.sl_compile.specs.Outcomes.{Compiles, all_constructors};
+ghost use Rattle.sl_compile.specs.Compiled.{IsCompiled};
+ghost use Rattle.sl_compile.specs.Outcomes.{all_constructors};
 ghost use Rattle.sl_lister.specs.Disassemblies.{StandsFor};
-ghost use Rattle.sl_sound.specs.Soundness.{AreSetsOf};
 
 use sl_choices::Choosers;
 use sl_compile::Compiled;
@@ -26,11 +26,7 @@ pub struct Disassembly<'t, 'a> {
 impl<'t, 'a> Disassembly<'t, 'a> {
     /// The disassembly of a specification. The only error is want of memory.
     pub fn new(alloc: Global, compiled: &'t Compiled<'a>) -> Result<Self, AllocError>
-        requires compiles { Compiles (items_of compiled.now.bound.spec)
-            (Ok compiled.now.bound.tables) }
-        requires sets { AreSetsOf compiled.now.bound.tables
-            (all_constructors (items_of compiled.now.bound.spec))
-            compiled.now.checked.tables.items }
+        requires { IsCompiled compiled.now }
         ensures { IfOk result (λ d. StandsFor d compiled.now.bound.tables
             (all_constructors (items_of compiled.now.bound.spec))) }
     {

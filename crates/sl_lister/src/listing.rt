@@ -1,10 +1,10 @@
 //! `list`: the listing of an image.
 
-ghost use Rattle.std.specs.Prelude.{◌≡◌, ◌+◌, ◌^◌, ◌≤◌, ◌<◌, Ok, OnErr, OnOk, length};
+ghost use Rattle.std.specs.Prelude.{◌+◌, ◌^◌, ◌≤◌, OnErr, OnOk, length};
 ghost use Rattle.std.specs.Result.{IsErrOf};
 ghost use Rattle.sl_ast.specs.Views.{items_of};
-ghost use Rattle.sl_compile.specs.Outcomes.{Compiles, all_constructors};
-ghost use Rattle.sl_decoding.specs.Actions.{address_bytes};
+ghost use Rattle.sl_compile.specs.Compiled.{IsCompiled};
+ghost use Rattle.sl_compile.specs.Outcomes.{all_constructors};
 ghost use Rattle.sl_list.specs.Instructions.{Listed};
 ghost use Rattle.sl_list.specs.Listings.{IsBegun, IsListed};
 ghost use Rattle.sl_lister.specs.Disassemblies.{StandsFor};
@@ -12,7 +12,6 @@ ghost use Rattle.sl_lister.specs.Listing.{image_from, subject};
 ghost use Rattle.sl_lister.specs.Writing.{Writes};
 ghost use Rattle.sl_choices.specs.Choosers.{chosen};
 ghost use Rattle.sl_outside.specs.Uses.{UsesSink};
-ghost use Rattle.sl_sound.specs.Soundness.{AreSetsOf};
 ghost use Rattle.sl_spec.specs.Unfolded.{all_placed};
 
 use crate::disassembly::Disassembly;
@@ -77,10 +76,7 @@ pub fn list_image<K: Sink>(
     start: u64,
     out: &mut K,
 ) -> Result<(), ListError>
-    requires compiles { Compiles (items_of compiled.now.bound.spec)
-        (Ok compiled.now.bound.tables) }
-    requires sets { AreSetsOf compiled.now.bound.tables
-        (all_constructors (items_of compiled.now.bound.spec)) compiled.now.checked.tables.items }
+    requires compiled { IsCompiled compiled.now }
     requires fits { base + length image.now ≤ 2 ^ 64 }
     ensures writes { Writes compiled.now.bound.tables
         (all_constructors (items_of compiled.now.bound.spec)) (image_from image.now base start)

@@ -16,7 +16,7 @@ use Rattle.sl_lister.proofs.listing.list_image.Goals as goal
 pub list_by-requires-clause-aligned : goal.list_by-requires-clause-aligned
 list_by-requires-clause-aligned g c =
     let bound = c.args.compiled.now.bound in
-    subst (λ (t : Tables). 1 ≤ t.alignment) (sym c.in-Ok.ensures.decodes.tables) (aligned (items_of bound.spec) bound.tables c.requires.compiles)
+    subst (λ (t : Tables). 1 ≤ t.alignment) (sym c.in-Ok.ensures.decodes.tables) (aligned (items_of bound.spec) bound.tables c.requires.compiled.compiles)
 
 pub returns-clause-writes : goal.returns-clause-writes
 returns-clause-writes g c =
@@ -32,4 +32,4 @@ returns-clause-writes g c =
     (subst (λ (ks : List (Placed Constructor)). OnOk c.list_by.result (IsListed (Listed (subject d.tables.now ks choose i)) (length i.bytes) old new)) stands.written c.list_by.ensures.whole) in
     let front = subst (λ (t : Tables). OnErr c.list_by.result (IsBegun (Listed (subject t cs choose i)) (length i.bytes) old new)) stands.decodes.tables
     (subst (λ (ks : List (Placed Constructor)). OnErr c.list_by.result (IsBegun (Listed (subject d.tables.now ks choose i)) (length i.bytes) old new)) stands.written c.list_by.ensures.front) in
-    listed_written (items_of bound.spec) bound.tables c.requires.compiles choose stands.chooses i old new c.list_by.result whole front
+    listed_written (items_of bound.spec) bound.tables c.requires.compiled.compiles choose stands.chooses i old new c.list_by.result whole front
