@@ -93,7 +93,7 @@ module _ (x : Stepper) (stands : StandsFor x) (bytes : List ℕ) (address contex
           implemented = b.0;
           faithful = law (items_of x.compiled.now.bound.spec) (specification_in x).tables (specification_in x).sizes
               (choice_in x) bytes address context w.told (operations list)
-              stands.short stands.binds stands.decodes.chooses w.decodes b.0
+              stands.short stands.compiled.binds stands.decodes.chooses w.decodes b.0
               (subst (λ (a : ℕ). map operation_of (operations list)
               ≡ node_code (top_of (count w.told.tree)) (setting_of (specification_in x).tables address a)
               (instruction (specification_in x) bytes w.told.tree)) w.after_is b.1.code);

@@ -1,11 +1,10 @@
 -- meaning: which specification a stepper runs.
-use Rattle.std.specs.Prelude.{◌≡◌, Ok, position, Some}
+use Rattle.std.specs.Prelude.{◌≡◌, position, Some}
 use Rattle.sl_ast.specs.Views.{items_of}
-use Rattle.sl_bind.specs.Binding.{Binds}
 use Rattle.sl_bound_translations.specs.Laws.{IsShort}
 use Rattle.sl_build.specs.Stands as sections
 use Rattle.sl_choices.specs.Choosers.{chosen}
-use Rattle.sl_compile.specs.Outcomes.{Compiles}
+use Rattle.sl_compile.specs.Compiled.{IsCompiled}
 use Rattle.sl_decoding.specs.Actions.{address_bytes}
 use Rattle.sl_decoding.specs.Laws.{Choice}
 use Rattle.sl_instruction.specs.Instructions.{Specification, specification_of}
@@ -27,9 +26,7 @@ choice_in x = chosen x.disassembly.disassembler.choosers
 -- specific constructors.
 pub record StandsFor (x : Stepper) : Type 0 where
   pub short : IsShort (items_of x.compiled.now.bound.spec)
-  pub binds : Binds (items_of x.compiled.now.bound.spec)
-      (Ok ((specification_in x).tables, (specification_in x).sizes))
-  pub compiles : Compiles (items_of x.compiled.now.bound.spec) (Ok (specification_in x).tables)
+  pub compiled : IsCompiled x.compiled.now
   pub decodes : disassembly.StandsFor x.disassembly (specification_in x).tables
       (specification_in x).constructors
   pub tokens : TokensAreShort (specification_in x).tables

@@ -1,12 +1,9 @@
 //! What decodes and builds the instructions of a specification.
 
-ghost use Rattle.std.specs.Prelude.{◌≡◌, IfErr, IfOk, Ok, length};
+ghost use Rattle.std.specs.Prelude.{◌≡◌, IfErr, IfOk, length};
 ghost use Rattle.sl_ast.specs.Views.{items_of};
-ghost use Rattle.sl_bind.specs.Binding.{Binds};
 ghost use Rattle.sl_bound_translations.specs.Laws.{IsShort};
-ghost use Rattle.sl_compile.specs.Outcomes.{Compiles, all_constructors};
-ghost use Rattle.sl_sizing.specs.Sizings.{lists_of};
-ghost use Rattle.sl_sound.specs.Soundness.{AreSetsOf};
+ghost use Rattle.sl_compile.specs.Compiled.{IsCompiled};
 ghost use Rattle.sl_step.specs.Kept.{AreKept, IsReadAs, IsReadFrom};
 ghost use Rattle.sl_step.specs.Stages.{IsUnread, Reads};
 ghost use Rattle.sl_step.specs.Stands.{StandsFor, choice_in, specification_in};
@@ -41,13 +38,7 @@ impl<'t, 'a> Stepper<'t, 'a> {
     /// A stepper of a specification that was compiled. The only error is want of memory.
     pub fn new(alloc: Global, compiled: &'t Compiled<'a>) -> Result<Self, AllocError>
         requires short { IsShort (items_of compiled.now.bound.spec) }
-        requires binds { Binds (items_of compiled.now.bound.spec)
-            (Ok (compiled.now.bound.tables, lists_of compiled.now.bound.sizes.items)) }
-        requires compiles { Compiles (items_of compiled.now.bound.spec)
-            (Ok compiled.now.bound.tables) }
-        requires sets { AreSetsOf compiled.now.bound.tables
-            (all_constructors (items_of compiled.now.bound.spec))
-            compiled.now.checked.tables.items }
+        requires compiled { IsCompiled compiled.now }
         ensures compiled { IfOk result (λ stepper. stepper.compiled.now ≡ compiled.now) }
         ensures stands { IfOk result StandsFor }
     {

@@ -17,6 +17,6 @@ returns-in-Ok-new-clause-read c =
     omega (arith, told, c.min-count.ensures) in
     read_from s (choice_in x) c.in-Ok-new.instruction c.args.bytes.now c.args.address c.args.context walk.commits.items
     c.in-Ok.listed.after (operations c.in-Ok.listed.ops) c.in-Ok.ensures.0 c.requires.stands.tokens
-    (meant_by (items_of x.compiled.now.bound.spec) s.tables s.sizes c.requires.stands.binds)
+    (meant_by (items_of x.compiled.now.bound.spec) s.tables s.sizes c.requires.stands.compiled.binds)
     walk.nodes.items c.in-Ok.ensures.1 c.min-count.result counted c.requires.window made.bytes made.address made.context
     (made.commits ∙ c.as_slice-commits.ensures.value) made.after (ap operations made.ops)

@@ -11,7 +11,7 @@ use Rattle.sl_step.proofs.stepper.Stepper.step.Goals as goal
 pub nonzero_rem-machine : goal.nonzero_rem-machine
 nonzero_rem-machine g c =
     let bound = c.args.self.now.compiled.now.bound in
-    let some = aligned (items_of bound.spec) bound.tables c.requires.stands.compiles in
+    let some = aligned (items_of bound.spec) bound.tables c.requires.stands.compiled.compiles in
     let is = c.from.ensures in
     omega (arith, some, is)
 
