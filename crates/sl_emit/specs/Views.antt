@@ -4,6 +4,9 @@ use Rattle.std.specs.Prelude.{◌+◌, [], ◌∷◌, if◌then◌else◌}
 use Rattle.std.specs.List.{list_any}
 use Rattle.std.specs.declared.alloc.Global.{Global}
 use Rattle.sl_code.specs.Operations.{Operation, operation_of}
+use Rattle.sl_code.specs.Statements.{bits_put, memory_put}
+use Rattle.sl_emit.specs.declared.bits.Bits.{Bits}
+use Rattle.sl_emit.specs.declared.bits.Memory.{Memory}
 use Rattle.sl_emit.specs.declared.reference.Number.{Number}
 use Rattle.sl_emit.specs.declared.reference.Number.TheVariants as n
 use Rattle.sl_emit.specs.declared.reference.Reference.{Reference, fold-Reference}
@@ -12,6 +15,7 @@ use Rattle.sl_emit.specs.declared.site.Site.{Site}
 use Rattle.sl_meaning.specs.References as m
 use Rattle.sl_meaning.specs.Values.{Frame}
 use Rattle.sl_pcode.specs.declared.operation.Op.{Op}
+use Rattle.sl_pcode.specs.declared.varnode.Varnode.{Varnode}
 use Rattle.sl_section.specs.Sections as s
 use Rattle.sl_template.specs.Pieces as t
 use Rattle.sl_template.specs.Placed.{tail_is}
@@ -58,6 +62,14 @@ operations_of ops = map operation_of ops
 -- the lists of operands
 abbrev pub lists_of : List (Vec Op Global) → List (List Operation)
 lists_of lists = map (λ v. operations_of v.items) lists
+
+-- a value is put into memory
+abbrev pub put_into : (top t : ℕ) → Memory → Varnode → List Operation
+put_into top t at v = memory_put top t at.space.0 (reference_of at.pointer.now) at.width v
+
+-- a value with other bits is put into a varnode, by the temporary values 2 and 3
+abbrev pub with_bits : (top : ℕ) → Bits → Varnode → List Operation
+with_bits top b to = bits_put top 2 b.size b.old b.new b.span.low b.span.count to
 
 -- the label that a statement jumps to
 abbrev pub jumps_to : t.Tail → Option s.Label

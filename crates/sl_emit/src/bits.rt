@@ -3,7 +3,7 @@
 ghost use Rattle.std.specs.Prelude.{◌≡◌, ◌++◌, ◌∷◌, [], OnOk};
 ghost use Rattle.sl_code.specs.Operations as o;
 ghost use Rattle.sl_code.specs.Statements as step;
-ghost use Rattle.sl_emit.specs.Views.{reference_of, references_of};
+ghost use Rattle.sl_emit.specs.Views.{put_into, reference_of, references_of, with_bits};
 ghost use Rattle.sl_meaning.specs.References as reference;
 ghost use Rattle.sl_meaning.specs.Values as meaning;
 ghost use Rattle.sl_template.specs.Placed as p;
@@ -36,8 +36,7 @@ pub(crate) fn memory_put(
     at: Memory<'_>,
     v: Varnode,
 ) -> Result<(), AllocError>
-    ensures { OnOk result (out.new ≡ out.old ++ step.memory_put site.now.top t at.entry.space.0
-        (reference_of at.entry.pointer.now) at.entry.width v) }
+    ensures { OnOk result (out.new ≡ out.old ++ put_into site.now.top t at.entry v) }
 {
     let pointer = read_operand(site, out, t, at.pointer, at.width)?;
     out.store(at.space, pointer, v)
@@ -75,8 +74,7 @@ fn bits_put(
     bits: Bits,
     to: Varnode,
 ) -> Result<(), AllocError>
-    ensures { OnOk result (out.new ≡ out.old ++ step.bits_put site.now.top 2 bits.size bits.old
-        bits.new bits.span.low bits.span.count to) }
+    ensures { OnOk result (out.new ≡ out.old ++ with_bits site.now.top bits to) }
 {
     let count = u64::from(bits.span.count);
     let new = at_temp(site, 2, bits.size);
@@ -99,8 +97,8 @@ fn local_bits(
     x: u32,
     bits: Bits,
 ) -> Result<(), AllocError>
-    ensures { OnOk result (out.new ≡ out.old ++ step.bits_put site.now.top 2 bits.size bits.old
-        bits.new bits.span.low bits.span.count (o.temporary (o.range_of node x) bits.size)) }
+    ensures { OnOk result (out.new ≡ out.old
+        ++ with_bits site.now.top bits (o.temporary (o.range_of node x) bits.size)) }
 {
     let to = local(node, x, bits.size);
     bits_put(site, out, bits, to)
@@ -113,10 +111,9 @@ fn memory_bits(
     at: Memory<'_>,
     bits: Bits,
 ) -> Result<(), AllocError>
-    ensures { OnOk result (out.new ≡ out.old ++ (step.bits_put site.now.top 2 bits.size bits.old
-        bits.new bits.span.low bits.span.count (o.at_temp site.now.top 2 bits.size)
-        ++ step.memory_put site.now.top 4 at.entry.space.0 (reference_of at.entry.pointer.now)
-        at.entry.width (o.at_temp site.now.top 2 bits.size))) }
+    ensures { OnOk result (out.new ≡ out.old
+        ++ (with_bits site.now.top bits (o.at_temp site.now.top 2 bits.size)
+        ++ put_into site.now.top 4 at.entry (o.at_temp site.now.top 2 bits.size))) }
 {
     let to = at_temp(site, 2, bits.size);
     bits_put(site, out, bits, to)?;

@@ -5,6 +5,7 @@ ghost use Rattle.sl_code.specs.Operations as o;
 ghost use Rattle.sl_code.specs.Terms as term;
 ghost use Rattle.sl_emit.specs.Views.{number_of, reference_of};
 ghost use Rattle.sl_equations.specs.Equations.{size_at};
+ghost use Rattle.sl_template.specs.Placed as p;
 ghost use Rattle.sl_word.specs.Numbers as z;
 ghost use Rattle.sl_word.specs.declared.operation.Op1.TheVariants.{IntSext};
 
@@ -94,10 +95,8 @@ pub(crate) fn read_operand(
     n: Size,
 ) -> Result<Varnode, AllocError>
     ensures code { OnOk result (out.new ≡ out.old
-        ++ term.code_before (term.read_leaf (reference_of r.now) n)
-        (term.read_into site.now.top t (reference_of r.now) (o.at_temp site.now.top t n))) }
-    ensures value { IfOk result (λ v. v
-        ≡ term.operand (term.read_leaf (reference_of r.now) n) (o.at_temp site.now.top t n)) }
+        ++ p.read_code site.now.top (reference_of r.now) t n) }
+    ensures value { IfOk result (λ v. v ≡ p.read_value site.now.top (reference_of r.now) t n) }
 {
     match read_leaf(r, n) {
         Some(leaf) => Ok(leaf),
