@@ -1,6 +1,6 @@
 -- meaning: the run of an image by a specification, and its text.
-use Rattle.std.specs.Prelude.{◌≡◌, ℕ, ◌-◌, ◌==◌, ◌&&◌, nat_le, Bool, if◌then◌else◌, is_some}
-use Rattle.std.specs.Prelude.{List, [], ◌++◌, slice_index, Option}
+use Rattle.std.specs.Prelude.{◌≡◌, ℕ, ◌+◌, ◌-◌, ◌==◌, ◌<◌, ◌≤◌, ◌&&◌, nat_le, Bool, is_some}
+use Rattle.std.specs.Prelude.{List, [], ◌++◌, Option, if◌then◌else◌, slice_index}
 use Rattle.sl_ast.specs.Trees.{Item}
 use Rattle.sl_bind.specs.Binding.{constructors_of}
 use Rattle.sl_choices.specs.Choices.{IsChoiceOf}
@@ -15,6 +15,11 @@ use Rattle.sl_steps.specs.Counted.{IsCountedRun}
 use Rattle.sl_steps.specs.Steps.{IsRun, Machine, StepFault}
 use Rattle.sl_word.specs.Memories.{Memory}
 use Rattle.sl_word.specs.declared.word.Size.{Size}
+
+-- The base is an address, and so many bytes from it on have addresses.
+pub record HasRoom (addresses base count : ℕ) : Type 0 where
+  pub begins : base < addresses
+  pub ends : base + count ≤ addresses
 
 -- the memory before the first step: the image in the default space from its base on, and zeros
 abbrev pub opening : Tables → Image → Memory

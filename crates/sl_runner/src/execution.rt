@@ -1,15 +1,14 @@
 //! Runs of images.
 
-ghost use Rattle.std.specs.Prelude.{◌≡◌, ℕ, ◌+◌, ◌^◌, ◌<◌, ◌≤◌, IfOk, Ok, length};
+ghost use Rattle.std.specs.Prelude.{ℕ, ◌^◌, IfOk, length};
 ghost use Rattle.sl_ast.specs.Views.{items_of};
-ghost use Rattle.sl_bind.specs.Binding.{Binds};
 ghost use Rattle.sl_bound_translations.specs.Laws.{IsShort};
-ghost use Rattle.sl_compile.specs.Outcomes.{Compiles, all_constructors};
+ghost use Rattle.sl_compile.specs.Compiled.{IsCompiled};
 ghost use Rattle.sl_decoding.specs.Actions.{address_bytes};
 ghost use Rattle.sl_lister.specs.Listing.{image_from};
 ghost use Rattle.sl_runner.specs.Executing.{Executes, Runs, Steps, stopped_by};
+ghost use Rattle.sl_runner.specs.Running.{HasRoom};
 ghost use Rattle.sl_sizing.specs.Sizings.{lists_of};
-ghost use Rattle.sl_sound.specs.Soundness.{AreSetsOf};
 ghost use Rattle.sl_step.specs.Kept.{AreKept};
 ghost use Rattle.sl_step.specs.Machines.{Fits, IsSeen};
 ghost use Rattle.sl_step.specs.Stands.{StandsFor, choice_in, specification_in};
@@ -98,14 +97,9 @@ pub fn execute<R: Runner>(
     runner: &mut R,
 ) -> Result<Execution, AllocError>
     requires short { IsShort (items_of compiled.now.bound.spec) }
-    requires binds { Binds (items_of compiled.now.bound.spec)
-        (Ok (compiled.now.bound.tables, lists_of compiled.now.bound.sizes.items)) }
-    requires compiles { Compiles (items_of compiled.now.bound.spec)
-        (Ok compiled.now.bound.tables) }
-    requires sets { AreSetsOf compiled.now.bound.tables
-        (all_constructors (items_of compiled.now.bound.spec)) compiled.now.checked.tables.items }
-    requires begins { base < 256 ^ address_bytes compiled.now.bound.tables }
-    requires ends { base + length image.now ≤ 256 ^ address_bytes compiled.now.bound.tables }
+    requires compiled { IsCompiled compiled.now }
+    requires room { HasRoom (256 ^ address_bytes compiled.now.bound.tables) base
+        (length image.now) }
     ensures { IfOk result (Executes (items_of compiled.now.bound.spec) compiled.now.bound.tables
         (lists_of compiled.now.bound.sizes.items) (image_from image.now base start) steps
         (R.count runner.old) (R.count runner.new)) }

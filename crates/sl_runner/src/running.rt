@@ -1,16 +1,15 @@
 //! `run`: the run of an image, and its text.
 
-ghost use Rattle.std.specs.Prelude.{◌≡◌, ◌+◌, ◌^◌, ◌<◌, ◌≤◌, IfOk, Ok, length};
+ghost use Rattle.std.specs.Prelude.{◌^◌, IfOk, length};
 ghost use Rattle.sl_ast.specs.Views.{items_of};
-ghost use Rattle.sl_bind.specs.Binding.{Binds};
 ghost use Rattle.sl_bound_translations.specs.Laws.{IsShort};
-ghost use Rattle.sl_compile.specs.Outcomes.{Compiles, all_constructors};
+ghost use Rattle.sl_compile.specs.Compiled.{IsCompiled};
 ghost use Rattle.sl_decoding.specs.Actions.{address_bytes};
 ghost use Rattle.sl_lister.specs.Listing.{image_from};
 ghost use Rattle.sl_runner.specs.Executing.{RunsAs};
+ghost use Rattle.sl_runner.specs.Running.{HasRoom};
 ghost use Rattle.sl_runner.specs.Told.{HasSpacesOf, IsTold, RegistersAreInSpaces};
 ghost use Rattle.sl_sizing.specs.Sizings.{lists_of};
-ghost use Rattle.sl_sound.specs.Soundness.{AreSetsOf};
 
 use crate::execution::{Execution, execute};
 use crate::fault::push_fault;
@@ -68,14 +67,9 @@ pub fn run_image<R: Runner>(
     runner: &mut R,
 ) -> Result<Ran, AllocError>
     requires short { IsShort (items_of compiled.now.bound.spec) }
-    requires binds { Binds (items_of compiled.now.bound.spec)
-        (Ok (compiled.now.bound.tables, lists_of compiled.now.bound.sizes.items)) }
-    requires compiles { Compiles (items_of compiled.now.bound.spec)
-        (Ok compiled.now.bound.tables) }
-    requires sets { AreSetsOf compiled.now.bound.tables
-        (all_constructors (items_of compiled.now.bound.spec)) compiled.now.checked.tables.items }
-    requires begins { base < 256 ^ address_bytes compiled.now.bound.tables }
-    requires ends { base + length image.now ≤ 256 ^ address_bytes compiled.now.bound.tables }
+    requires compiled { IsCompiled compiled.now }
+    requires room { HasRoom (256 ^ address_bytes compiled.now.bound.tables) base
+        (length image.now) }
     ensures { IfOk result (RunsAs (items_of compiled.now.bound.spec) compiled.now.bound.tables
         (lists_of compiled.now.bound.sizes.items) (image_from image.now base start) steps
         (R.count runner.old) (R.count runner.new)) }

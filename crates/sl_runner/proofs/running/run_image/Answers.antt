@@ -10,14 +10,14 @@ pub run_text-requires-clause-registers : goal.run_text-requires-clause-registers
 run_text-requires-clause-registers g c =
     let b = c.args.compiled.now.bound in
     registers_lie b.tables
-    (taken_are_defined (items_of b.spec) b.tables (accepted (items_of b.spec) b.tables c.requires.compiles).keeps_rules)
+    (taken_are_defined (items_of b.spec) b.tables (accepted (items_of b.spec) b.tables c.requires.compiled.compiles).keeps_rules)
 
 pub returns : goal.returns
 returns g c =
     let b = c.args.compiled.now.bound in
     let i = image_from c.args.image.now c.args.base c.args.start in
     let defined = taken_are_defined (items_of b.spec) b.tables
-    (accepted (items_of b.spec) b.tables c.requires.compiles).keeps_rules in
+    (accepted (items_of b.spec) b.tables c.requires.compiled.compiles).keeps_rules in
     let h = c.in_ok-execution.ensures in
     record {
       count = h.count;
