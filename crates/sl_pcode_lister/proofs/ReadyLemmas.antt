@@ -1,10 +1,9 @@
 -- A listing that is ready, and what was written by it.
-use Rattle.std.proofs.Common.{ℕ, ◌≤◌, List, length, Option, Result, Ok, sym, subst}
+use Rattle.std.proofs.Common.{ℕ, ◌≤◌, List, length, Option, Result, sym, subst}
 use Rattle.std.specs.Prelude.{OnErr, OnOk}
-use Rattle.sl_bind.specs.Binding.{Binds}
 use Rattle.sl_bound_translations.specs.Laws.{IsShort}
 use Rattle.sl_choices.specs.Choosers.{chosen}
-use Rattle.sl_compile.specs.Outcomes.{Compiles}
+use Rattle.sl_compile.specs.Compiled.{IsCompiled}
 use Rattle.sl_compile.specs.declared.compiled.Compiled.{Compiled}
 use Rattle.sl_list.specs.Listings.{IsBegun, IsListed}
 use Rattle.sl_list.specs.declared.listings.ListError.{ListError}
@@ -32,13 +31,11 @@ module _ (x : Translator) (c : Compiled) (is : IsTranslatorOf c x) where
       (chosen x.disassembly.disassembler.choosers) own.disassembles.chooses x.names own.names r whole front)
 
 module _ (l : PcodeListing) (c : Compiled) (is : IsTranslatorOf c l.translator.now) where
-  pub ready : IsShort (items_of_compiled c) → Binds (items_of_compiled c) (Ok (c.bound.tables, sizes_of_compiled c))
-      → Compiles (items_of_compiled c) (Ok c.bound.tables) → IsReady l
-  ready short binds compiles = record {
+  pub ready : IsShort (items_of_compiled c) → IsCompiled c → IsReady l
+  ready short compiled = record {
     short = subst (λ (k : Compiled). IsShort (items_of_compiled k)) (sym is.compiled) short;
-    binds = subst (λ (k : Compiled). Binds (items_of_compiled k) (Ok (k.bound.tables, sizes_of_compiled k)))
-        (sym is.compiled) binds;
+    compiled = subst (λ (k : Compiled). IsCompiled k) (sym is.compiled) compiled;
     aligned = subst (λ (k : Compiled). 1 ≤ k.bound.tables.alignment) (sym is.compiled)
-        (aligned (items_of_compiled c) c.bound.tables compiles);
+        (aligned (items_of_compiled c) c.bound.tables compiled.compiles);
     translates = own l.translator.now c is;
   }

@@ -1,14 +1,15 @@
 -- step: what is built of an instruction, and what is known of a listing that is under way.
-use Rattle.std.specs.Prelude.{◌≡◌, ℕ, ◌≤◌, List, ◌++◌, Ok}
+use Rattle.std.specs.Prelude.{◌≡◌, ℕ, ◌≤◌, List, ◌++◌}
 use Rattle.sl_ast.specs.Trees.{Item}
 use Rattle.sl_ast.specs.Views.{items_of}
-use Rattle.sl_bind.specs.Binding.{Binds, constructors_of}
+use Rattle.sl_bind.specs.Binding.{constructors_of}
 use Rattle.sl_bound_translations.specs.Laws.{IsShort}
 use Rattle.sl_build.specs.Built.{IsBuilt}
 use Rattle.sl_build.specs.Stands as build
 use Rattle.sl_build.specs.declared.built.Built.{Built}
 use Rattle.sl_build.specs.declared.built.Built.TheVariants.{Ops, Unimplemented}
 use Rattle.sl_choices.specs.Choosers.{chosen}
+use Rattle.sl_compile.specs.Compiled.{IsCompiled}
 use Rattle.sl_compile.specs.declared.compiled.Compiled.{Compiled}
 use Rattle.sl_decoding.specs.Laws.{Choice}
 use Rattle.sl_decoding.specs.Trees.{Node, Trees}
@@ -79,7 +80,6 @@ shows_in l = shows_by l.translator.now (image_in l)
 -- Its specification is accepted, and is translated.
 pub record IsReady (l : PcodeListing) : Type 0 where
   pub short : IsShort (items_of_compiled (compiled_in l))
-  pub binds : Binds (items_of_compiled (compiled_in l))
-      (Ok ((compiled_in l).bound.tables, sizes_of_compiled (compiled_in l)))
+  pub compiled : IsCompiled (compiled_in l)
   pub aligned : 1 ≤ (compiled_in l).bound.tables.alignment
   pub translates : IsTranslatorOf (compiled_in l) l.translator.now

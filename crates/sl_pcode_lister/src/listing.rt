@@ -1,16 +1,14 @@
 //! `pcode`: the listing of an image with the operations of each instruction.
 
-ghost use Rattle.std.specs.Prelude.{◌+◌, ◌^◌, ◌≤◌, Ok, length};
+ghost use Rattle.std.specs.Prelude.{◌+◌, ◌^◌, ◌≤◌, length};
 ghost use Rattle.std.specs.Result.{IsErrOf};
 ghost use Rattle.sl_ast.specs.Views.{items_of};
-ghost use Rattle.sl_bind.specs.Binding.{Binds};
 ghost use Rattle.sl_bound_translations.specs.Laws.{IsShort};
-ghost use Rattle.sl_compile.specs.Outcomes.{Compiles, all_constructors};
+ghost use Rattle.sl_compile.specs.Compiled.{IsCompiled};
 ghost use Rattle.sl_lister.specs.Listing.{image_from};
 ghost use Rattle.sl_outside.specs.Uses.{UsesSink};
 ghost use Rattle.sl_pcode_lister.specs.Writing.{Writes};
 ghost use Rattle.sl_sizing.specs.Sizings.{lists_of};
-ghost use Rattle.sl_sound.specs.Soundness.{AreSetsOf};
 
 use crate::shown::{PcodeBuffers, PcodeListing};
 use crate::translator::Translator;
@@ -33,12 +31,7 @@ pub fn list_pcode<K: Sink>(
     out: &mut K,
 ) -> Result<(), ListError>
     requires short { IsShort (items_of compiled.now.bound.spec) }
-    requires bound { Binds (items_of compiled.now.bound.spec)
-        (Ok (compiled.now.bound.tables, lists_of compiled.now.bound.sizes.items)) }
-    requires compiles { Compiles (items_of compiled.now.bound.spec)
-        (Ok compiled.now.bound.tables) }
-    requires sets { AreSetsOf compiled.now.bound.tables
-        (all_constructors (items_of compiled.now.bound.spec)) compiled.now.checked.tables.items }
+    requires compiled { IsCompiled compiled.now }
     requires fits { base + length image.now ≤ 2 ^ 64 }
     ensures writes { Writes (items_of compiled.now.bound.spec) compiled.now.bound.tables
         (lists_of compiled.now.bound.sizes.items) (image_from image.now base start)

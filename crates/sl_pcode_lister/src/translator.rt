@@ -1,14 +1,12 @@
 //! What decodes the instructions of a specification and builds their operations.
 
-ghost use Rattle.std.specs.Prelude.{◌≡◌, IfOk, Ok, OnOk};
-ghost use Rattle.sl_ast.specs.Views.{items_of};
-ghost use Rattle.sl_compile.specs.Outcomes.{Compiles, all_constructors};
+ghost use Rattle.std.specs.Prelude.{◌≡◌, IfOk, OnOk};
+ghost use Rattle.sl_compile.specs.Compiled.{IsCompiled};
+ghost use Rattle.sl_compile.specs.declared.compiled.Compiled.{Compiled as CompiledOf};
 ghost use Rattle.sl_decoding.specs.Flat.{all_values, entries};
 ghost use Rattle.sl_decoding.specs.Trees.{Node, Trees};
 ghost use Rattle.sl_pcode_lister.specs.Ready.{AppendsBuilt, IsTranslatorOf};
 ghost use Rattle.sl_pcode_lister.specs.Ready.{specification_of_compiled};
-ghost use Rattle.sl_compile.specs.declared.compiled.Compiled.{Compiled as CompiledOf};
-ghost use Rattle.sl_sound.specs.Soundness.{AreSetsOf};
 
 use crate::lines::push_built;
 use crate::names::names_of;
@@ -34,11 +32,7 @@ pub struct Translator<'t, 'a> {
 impl<'t, 'a> Translator<'t, 'a> {
     /// The translator of a specification. The only error is want of memory.
     pub fn new(alloc: Global, compiled: &'t Compiled<'a>) -> Result<Self, AllocError>
-        requires compiles { Compiles (items_of compiled.now.bound.spec)
-            (Ok compiled.now.bound.tables) }
-        requires sets { AreSetsOf compiled.now.bound.tables
-            (all_constructors (items_of compiled.now.bound.spec))
-            compiled.now.checked.tables.items }
+        requires { IsCompiled compiled.now }
         ensures { IfOk result (IsTranslatorOf compiled.now) }
     {
         let disassembly = Disassembly::new(alloc, compiled)?;

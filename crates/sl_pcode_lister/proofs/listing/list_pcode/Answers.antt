@@ -3,8 +3,7 @@ use Rattle.sl_pcode_lister.proofs.ReadyLemmas.{ready, written}
 use Rattle.sl_pcode_lister.proofs.listing.list_pcode.Goals as goal
 
 pub list_all-requires : goal.list_all-requires
-list_all-requires g c = ready _ c.args.compiled.now c.in-Ok.ensures c.requires.short c.requires.bound
-    c.requires.compiles
+list_all-requires g c = ready _ c.args.compiled.now c.in-Ok.ensures c.requires.short c.requires.compiled
 
 pub returns-clause-writes : goal.returns-clause-writes
 returns-clause-writes g c =

@@ -57,7 +57,7 @@ returns-in_ok-push_lines-in-Ok-clause-shown c cs stands =
     c.put_line-in-Ok.new.line.items window c.window_at-window.ensures context c.from.result c.from.ensures
     c.if-beyond-gt0.false c.at-context.type_inv (c.at-context.ensures _ cs stands)
     c.decode.new.walk c.decode.new.text.items c.decode.new.commits.items c.in_ok-instruction.field-0 keeps
-    bound_are_translated c.requires.ready.short c.requires.ready.binds is.disassembles.chooses c.in-Ok.instruction
+    bound_are_translated c.requires.ready.short c.requires.ready.compiled.binds is.disassembles.chooses c.in-Ok.instruction
     c.in-Ok.is count c.in_ok-count-in-Ok.ensures.same fits
     (c.in_ok-put_line-in-Ok.ensures
     ∙ ap (λ (n : ℕ). listed_line n address (take count window) c.as_slice.result.now) c.address_size-size.ensures
