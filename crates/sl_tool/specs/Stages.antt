@@ -1,5 +1,5 @@
 -- meaning: the stages from the name of a specification to what a command works on.
-use Rattle.std.specs.Prelude.{◌≡◌, ℕ, ◌+◌, ◌^◌, ◌<◌, ◌≤◌, ◌⊎◌, List, length, Option, Some, None, Bool, if◌then◌else◌, Result, Ok, Err, ⊤}
+use Rattle.std.specs.Prelude.{◌≡◌, ℕ, ◌^◌, ◌≤◌, ◌⊎◌, List, length, Option, Some, None, Bool, if◌then◌else◌, Result, Ok, Err, ⊤}
 use Rattle.sl_ast.specs.Spelling.{spell}
 use Rattle.sl_ast.specs.Unfolding.{firsts}
 use Rattle.sl_ast.specs.Validity.{AreItems}
@@ -28,6 +28,7 @@ use Rattle.sl_request.specs.Images.{image_of}
 use Rattle.sl_request.specs.Requests.{Target}
 use Rattle.sl_spec.specs.declared.tables.Tables as spec
 use Rattle.sl_symbols.specs.Symbols.{symbols_of}
+use Rattle.sl_runner.specs.Running.{HasRoom}
 use Rattle.sl_tool.specs.Places.{place_of_byte, place_of_some, place_of_token}
 use Rattle.sl_tool.specs.Problems.{refusal, refusal_at, refusal_of_field}
 use Rattle.sl_tool.specs.Stage.{Stage, Then}
@@ -141,11 +142,6 @@ decoded name None = Err (refusal name 0 BadHex)
 
 abbrev pub Decodes : Target → Stage Refusal (List ℕ) (List ℕ)
 Decodes t bytes r = r ≡ decoded t.image (image_in t.is_hex bytes)
-
--- The base is an address, and so many bytes from it on have addresses.
-pub record HasRoom (addresses base count : ℕ) : Type 0 where
-  pub begins : base < addresses
-  pub ends : base + count ≤ addresses
 
 -- The image fits the memory, or it is too long.
 abbrev pub Fits : ℕ → Target → Stage Refusal (List ℕ) (List ℕ)

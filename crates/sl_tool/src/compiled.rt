@@ -1,6 +1,8 @@
 //! The fourth stage: the tables that stand for the tree, which are sound.
 
 ghost use Rattle.std.specs.Prelude.{◌≡◌, IfOk};
+ghost use Rattle.sl_ast.specs.Views.{items_of};
+ghost use Rattle.sl_bound_translations.specs.Laws.{IsShort};
 ghost use Rattle.sl_tool.specs.Halts.{TellsRefusal};
 ghost use Rattle.sl_tool.specs.Places.{place_of_some};
 ghost use Rattle.sl_tool.specs.Problems.{refusal_at};
@@ -16,11 +18,13 @@ use crate::tree::Tree;
 use sl_compile::{Ambiguity, CompileError, Compiled as Specification, Flaw, compile};
 use std::alloc::{AllocError, Global};
 
-/// A specification with its tables, which are sound, beside its tokens.
+/// A specification with its tables, which are sound, beside its tokens. It has no more tokens than a
+/// file has bytes.
 #[derive(Drop)]
 pub struct Compiled<'s, 'r> {
     pub tokens: Tokens<'s, 'r>,
     pub specification: Specification<'s>,
+    pub ghost short: { IsShort (items_of specification.bound.spec) },
 }
 
 /// The problem that a flaw is.
@@ -108,7 +112,7 @@ fn refused(alloc: Global, tokens: &Tokens<'_, '_>, error: CompileError<'_>) -> H
 
 impl<'s, 'r> Compiled<'s, 'r> {
     ghost use Rattle.std.specs.Prelude.{IfOk};
-    ghost use Rattle.sl_tool.specs.Inputs.{IsCompiled};
+    ghost use Rattle.sl_compile.specs.Compiled.{IsCompiled};
     ghost use Rattle.sl_tool.specs.Outcomes.{Gives};
     ghost use Rattle.sl_tool.specs.Stages.{Compiles};
     ghost use Rattle.sl_tool.specs.StageViews.{compiled_view, tree_view};
@@ -116,7 +120,7 @@ impl<'s, 'r> Compiled<'s, 'r> {
     /// The tables that stand for the tree, where it keeps all rules and they are sound.
     pub fn read(alloc: Global, tree: Tree<'s, 'r>) -> Result<Self, Halt>
         ensures gives { Gives (Compiles (tree_view tree.entry)) compiled_view result }
-        ensures ready { IfOk result IsCompiled }
+        ensures compiled { IfOk result (λ c. IsCompiled c.specification) }
     {
         let tokens = tree.tokens;
         match compile(alloc, tree.spec) {

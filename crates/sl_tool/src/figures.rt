@@ -1,6 +1,7 @@
 //! `gen`: an image that is generated is listed and run.
 
 ghost use Rattle.std.specs.Prelude.{◌≡◌, ◌-◌, ◌^◌, ◌<◌, IfOk};
+ghost use Rattle.sl_compile.specs.Compiled.{IsCompiled};
 ghost use Rattle.sl_generator.specs.Image.{image};
 ghost use Rattle.sl_outside.specs.Uses.{UsesSink};
 ghost use Rattle.sl_runner.specs.Told.{RegistersAreInSpaces};
@@ -8,7 +9,6 @@ ghost use Rattle.sl_step.specs.Machines.{Fits};
 ghost use Rattle.sl_tool.specs.Answers.{figures_of};
 ghost use Rattle.sl_tool.specs.Figures.{ImageFits, IsFigured, IsListed};
 ghost use Rattle.sl_tool.specs.Generated.{figures_told, lines_behind, register_at, shown_lines};
-ghost use Rattle.sl_tool.specs.Inputs.{IsCompiled};
 ghost use Rattle.sl_tool.specs.Outcomes.{FailsToWrite, Grew, Streams};
 ghost use Rattle.sl_tool.specs.StageViews.{compiled_view};
 ghost use Rattle.sl_word.specs.Bytes.{byte_at};
@@ -36,7 +36,7 @@ pub fn figures<K: Sink, R: Runner>(
     out: &mut K,
     runner: &mut R,
 ) -> Result<Ending, Halt>
-    requires { IsCompiled compiled.now }
+    requires { IsCompiled compiled.now.specification }
     ensures streams { Streams (figures_of size (compiled_view compiled.now)) (K.taken out.old)
         (K.taken out.new) (Grew (R.count runner.old) (R.count runner.new)) result }
     ensures sink { UsesSink K.faults K.calls out.old out.new (FailsToWrite result) }
@@ -53,7 +53,7 @@ fn line<R: Runner>(
     compiled: &Compiled<'_, '_>,
     runner: &mut R,
 ) -> Result<Vec<u8>, AllocError>
-    requires { IsCompiled compiled.now }
+    requires { IsCompiled compiled.now.specification }
     ensures { IfOk result (λ line. IsFigured (compiled_view compiled.now) size
         (R.count runner.old) (R.count runner.new) line.items) }
 {
@@ -86,7 +86,7 @@ fn image_for(alloc: Global, tables: &Tables<'_>, size: u64) -> Result<Vec<u8>, A
 
 /// How many lines of the image's listing show an instruction.
 fn listed(alloc: Global, compiled: &Compiled<'_, '_>, image: &[u8]) -> Result<u64, AllocError>
-    requires compiled { IsCompiled compiled.now }
+    requires compiled { IsCompiled compiled.now.specification }
     requires fits { ImageFits compiled.now.specification.bound.tables image.now }
     ensures { IfOk result (IsListed (compiled_view compiled.now) image.now) }
 {

@@ -3,7 +3,8 @@
 ghost use Rattle.std.specs.Prelude.{◌≡◌, ◌↔◌, ◌≤◌, ◌^◌, IfOk, IsTrue, length};
 ghost use Rattle.sl_request.specs.Views.{target as target_view};
 ghost use Rattle.sl_tool.specs.Outcomes.{Gives};
-ghost use Rattle.sl_tool.specs.Stages.{Decodes, Fits, HasRoom, Prepares};
+ghost use Rattle.sl_runner.specs.Running.{HasRoom};
+ghost use Rattle.sl_tool.specs.Stages.{Decodes, Fits, Prepares};
 
 use crate::halt::Halt;
 use crate::problem::Problem;

@@ -65,7 +65,8 @@ impl Image {
     ghost use Rattle.sl_outside.specs.Uses.{UsesFiles};
     ghost use Rattle.sl_tool.specs.Outcomes.{FailsToRead, IsEarly, Obtains};
     ghost use Rattle.sl_decoding.specs.Actions.{address_bytes};
-    ghost use Rattle.sl_tool.specs.Stages.{HasRoom, Readies};
+    ghost use Rattle.sl_runner.specs.Running.{HasRoom};
+    ghost use Rattle.sl_tool.specs.Stages.{Readies};
     ghost use Rattle.sl_tool.specs.StageViews.{image_view};
 
     /// The image of the target's file, where it fits the default space of the tables and the words for
@@ -99,7 +100,8 @@ impl Image {
 impl<'s, 'r> Loaded<'s, 'r> {
     ghost use Rattle.std.specs.Prelude.{[], ◌∷◌};
     ghost use Rattle.sl_outside.specs.Uses.{UsesFiles};
-    ghost use Rattle.sl_tool.specs.Inputs.{IsCompiled, IsLoaded};
+    ghost use Rattle.sl_compile.specs.Compiled.{IsCompiled};
+    ghost use Rattle.sl_tool.specs.Inputs.{IsLoaded};
     ghost use Rattle.sl_tool.specs.Outcomes.{FailsToRead, IsEarly, Obtains};
     ghost use Rattle.sl_tool.specs.Stages.{Loads};
     ghost use Rattle.sl_tool.specs.StageViews.{compiled_view, loaded_view};
@@ -111,7 +113,7 @@ impl<'s, 'r> Loaded<'s, 'r> {
         compiled: Compiled<'s, 'r>,
         files: &mut F,
     ) -> Result<Self, Halt>
-        requires { IsCompiled compiled }
+        requires { IsCompiled compiled.specification }
         ensures gives { Obtains (Loads (F.told files.old) (target_view target.now)
             (compiled_view compiled.entry)) loaded_view result }
         ensures ready { IfOk result IsLoaded }

@@ -1,12 +1,13 @@
 //! What is shown of an image: its listing, the listing with operations, or its run.
 
 ghost use Rattle.std.specs.Prelude.{◌≡◌, [], ◌∷◌};
+ghost use Rattle.sl_compile.specs.Compiled.{IsCompiled};
 ghost use Rattle.sl_outside.specs.Uses.{UsesFiles, UsesSink};
 ghost use Rattle.sl_request.specs.Views.{target as target_view};
 ghost use Rattle.sl_tool.specs.Answers.{Shows, shows_of};
 ghost use Rattle.sl_tool.specs.Ends.{IsStill};
 ghost use Rattle.sl_tool.specs.Halts.{listed};
-ghost use Rattle.sl_tool.specs.Inputs.{IsCompiled, IsLoaded};
+ghost use Rattle.sl_tool.specs.Inputs.{IsLoaded};
 ghost use Rattle.sl_tool.specs.Outcomes.{FailsToRead, FailsToWrite, Grew, IsEarly, RanNone};
 ghost use Rattle.sl_tool.specs.Outcomes.{Streams, Writes};
 ghost use Rattle.sl_tool.specs.Request.{Listing, Operations, Run};
@@ -40,7 +41,7 @@ pub fn show<F: Files, K: Sink, R: Runner>(
     out: &mut K,
     runner: &mut R,
 ) -> Result<Ending, Halt>
-    requires { IsCompiled compiled }
+    requires { IsCompiled compiled.specification }
     ensures writes { Writes (Then (Loads (F.told files.old) (target_view target.now))
         (Shows (shows_of (show_of what))) (compiled_view compiled.entry)) (K.taken out.old)
         (K.taken out.new) (Grew (R.count runner.old) (R.count runner.new)) result }

@@ -13,7 +13,7 @@ use Rattle.sl_tool.proofs.figures.line.Goals as goal
 pub figures_of-figures-requires-clause-spaces : goal.figures_of-figures-requires-clause-spaces
 figures_of-figures-requires-clause-spaces g c =
     let b = c.args.compiled.now.specification.bound in
-    registers_lie (items_of b.spec) b.tables (lists_of b.sizes.items) c.requires.bound
+    registers_lie (items_of b.spec) b.tables (lists_of b.sizes.items) c.requires.binds
 
 pub returns : goal.returns
 returns g c =
@@ -25,5 +25,5 @@ returns g c =
     let new = g.R.Runner.count c.execute.new.runner in
     let listed = subst (λ (bytes : List ℕ). IsListed v bytes c.in_ok-listed.listed) c.as_slice.ensures.value c.in_ok-listed.ensures in
     let runs = subst (λ (bytes : List ℕ). Executes v.tree.items v.tables sizes (image_from bytes 0 0) c.args.size old new e) c.as_slice-2.ensures.value c.in_ok-execution.ensures in
-    figures_due v c.args.size c.in_ok-listed.listed sizes c.in_ok-image.image.items e old new c.push_line.new.line.items c.in_ok-image.ensures.same c.requires.bound
+    figures_due v c.args.size c.in_ok-listed.listed sizes c.in_ok-image.image.items e old new c.push_line.new.line.items c.in_ok-image.ensures.same c.requires.binds
     listed runs (c.in_ok-push_line.ensures ∙ ap (λ (s : List ℕ). s ++ figures_line c.figures_of-figures.result) c.new-line.ensures.items ∙ ap (λ (f : Figures). figures_line f) c.figures_of-figures.ensures)

@@ -23,7 +23,7 @@ returns-clause-streams g c =
     let wrote = subst (λ (b : List ℕ). Writes l.compiled.tree.items l.compiled.tables sizes (image_from b i.base i.start) old new c.list_pcode-written.result)
     c.as_slice-bytes.ensures.value c.list_pcode-written.ensures.writes in
     subst (λ (r : Result Ending Halt). Streams (shows_of Operations l) old new RanNone r) (sym c.listed.ensures)
-    (printed_streams l sizes is.short is.bound is.compiles old new c.list_pcode-written.result wrote)
+    (printed_streams l sizes c.args.loaded.now.compiled.short is.binds is.compiles old new c.list_pcode-written.result wrote)
 
 pub returns-clause-sink : goal.returns-clause-sink
 returns-clause-sink g c =

@@ -25,4 +25,4 @@ returns-in_err-write_all-clause-streams g c =
     let runs = subst (λ (b : List ℕ). RunsAs l.compiled.tree.items l.compiled.tables sizes (image_from b i.base i.start) c.args.steps old new r) c.as_slice-bytes.ensures.value c.in_ok-ran.ensures in
     let front = subst (λ (b : List ℕ). AppendsFront (g.K.Sink.taken c.args.out.now) (g.K.Sink.taken c.write_all.new.out) b) c.as_slice.ensures.value c.in_err-write_all.ensures.front in
     rw (p.1, p.2) (written_front (shows_of (Run c.args.steps) l) _ _ (Grew old new) (shown (ending_of r.stopped) r.text.items runs.count) c.in_err-write_all.field-0.0
-    (record { sizes = sizes; bound = c.requires.compiled.bound; stopped = r.stopped; ending = refl; runs = runs.tells }) runs.counted c.in_err-write_all.ensures.writing front)
+    (record { sizes = sizes; bound = c.requires.compiled.binds; stopped = r.stopped; ending = refl; runs = runs.tells }) runs.counted c.in_err-write_all.ensures.writing front)

@@ -3,9 +3,10 @@ use Rattle.std.proofs.lemmas.Result.{err_from_is_err_and}
 use Rattle.sl_decoding.specs.Actions.{address_bytes}
 use Rattle.sl_lister.specs.Listing.{image_from}
 use Rattle.sl_request.specs.Views.{target}
+use Rattle.sl_runner.specs.Running.{HasRoom}
 use Rattle.sl_tool.specs.Outcomes.{Gives}
 use Rattle.sl_tool.specs.Stage.Then.{stops, goes}
-use Rattle.sl_tool.specs.Stages.{Fetches, HasRoom, Prepares, Readies, Starts}
+use Rattle.sl_tool.specs.Stages.{Fetches, Prepares, Readies, Starts}
 use Rattle.sl_tool.specs.StageViews.{image_view}
 use Rattle.sl_tool.proofs.AnsweredLemmas.{gives_obtains, reads_on}
 use Rattle.sl_tool.proofs.ImageLemmas.{image_fits, obtains_err}
