@@ -2,6 +2,8 @@ pub mod FieldLemmas
 mod AttachmentLemmas
 mod BegunLemmas
 pub mod KeyedLemmas
+pub mod MadeLemmas
+pub mod NumberLemmas
 pub mod SeenLemmas
 mod ThingLemmas
 pub mod TokenLemmas

@@ -4,15 +4,16 @@ use Rattle.std.specs.Prelude.{IfOk}
 use Rattle.std.specs.declared.alloc.Global.{Global}
 use Rattle.std.proofs.lemmas.List.{drop_more}
 use Rattle.std.proofs.Math.ListN.{drop_of_length-le}
-use Rattle.sl_ast.specs.Trees.{Constructor, Head, Inside, Item, nothing, block_then, constructor, block}
+use Rattle.sl_ast.specs.Trees.{Constructor, Head, Inside, Item, nothing, block_then, constructor_then, constructor, block}
 use Rattle.sl_ast.specs.Unfolding.{Placed, all_in_block, as_items, constructors_inside, count_inside, in_block, unfolded_from}
-use Rattle.sl_ast.specs.Views.{chained, head_of, inner_step, inside_of}
+use Rattle.sl_ast.specs.Views.{chained, constructor_of, head_of, inner_step, inside_of}
+use Rattle.sl_ast.specs.declared.constructors.Constructor as own
 use Rattle.sl_ast.specs.declared.constructors.Head as head
 use Rattle.sl_ast.specs.declared.constructors.Inner as n
 use Rattle.sl_ast.specs.declared.constructors.Inner.{Inner}
 use Rattle.sl_ast.specs.declared.constructors.Inner.TheFolds.{fold-roll-Inner}
 use Rattle.sl_ast.specs.declared.constructors.Inner.TheOpen.{Inner-F}
-use Rattle.sl_ast.specs.declared.constructors.Inner.TheVariants.{rolls-With}
+use Rattle.sl_ast.specs.declared.constructors.Inner.TheVariants.{rolls-Constructor, rolls-With}
 use Rattle.sl_spec.specs.Unfolded.{constructor_at, constructors_in, under, unfolded_one}
 use Rattle.sl_spec.specs.Walks.{Adds, AddsItem, all_under, inner_before}
 
@@ -122,6 +123,29 @@ module _ (heads : List Head) (h : Head) (number next : ℕ) (parts : List Inner)
         let e = block_number in
         omega (arith, count);
   }
+
+-- ---- a constructor
+
+inner_own : (first : ℕ) (own : own.Constructor) (rest : Inside) → inner_before (n.Constructor first own) rest ≡ constructor_then (constructor_of own) rest
+inner_own first own rest =
+    ap (λ x. inner_before x rest) (sym (rolls-Constructor first own)) ∙ ap (λ f. f rest) (fold-roll-Inner (Inside → Inside) inner_step (Inner-F.Constructor first own))
+
+pub adds_constructor : {E : Type 0} (heads : List Head) (number first : ℕ) (own : own.Constructor) (old new : List (Placed Constructor)) (r : Result ℕ E)
+    → IfOk r (λ next. new ≡ old ++ (number, under heads (constructor_of own)) ∷ []) → IfOk r (λ next. next ≡ number + 1)
+    → IfOk r (λ next. Adds heads number (inner_before (n.Constructor first own)) old next new)
+adds_constructor heads number first own old new (Ok next) added is =
+    let turn : 1 + number ≡ next = omega (arith, is) in
+    record {
+      constructors = λ rest.
+          ap (λ (l : List (Placed Constructor)). l ++ all_under heads (constructors_inside next rest)) added
+          ∙ append_assoc old ((number, under heads (constructor_of own)) ∷ []) (all_under heads (constructors_inside next rest))
+          ∙ ap (λ (k : ℕ). old ++ (number, under heads (constructor_of own)) ∷ all_under heads (constructors_inside k rest)) (sym turn)
+          ∙ ap (λ (p : Inside). old ++ all_under heads (constructors_inside number p)) (sym (inner_own first own rest));
+      numbers = λ rest.
+          let count : count_inside (inner_before (n.Constructor first own) rest) ≡ 1 + count_inside rest = ap count_inside (inner_own first own rest) in
+          omega (arith, count, is);
+    }
+adds_constructor heads number first own old new (Err e) added is = tt
 
 -- ---- items
 

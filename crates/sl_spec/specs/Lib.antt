@@ -2,6 +2,7 @@ pub mod Attachments
 pub mod Begun
 pub mod FieldValues
 pub mod Named
+pub mod Numbers
 pub mod Tables
 pub mod Views
 pub mod Unfolded

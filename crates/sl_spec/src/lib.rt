@@ -3,6 +3,7 @@
 #![tactic(auto)]
 
 mod attachments;
+mod by_block;
 mod constructors;
 mod definitions;
 mod fields;
@@ -13,6 +14,7 @@ mod tables;
 mod unfolded;
 
 pub use attachments::Attachments;
+pub use by_block::ByBlock;
 pub use constructors::{Ctor, Macro, Means, Operand, Table, UserOp};
 pub use definitions::{Attached, BitRange, Entries, Field, Register, Space, SpaceKind, Token};
 pub use fields::field_value;

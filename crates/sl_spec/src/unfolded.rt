@@ -4,6 +4,7 @@ ghost use Rattle.std.specs.Prelude.{◌≡◌, ◌+◌, ◌++◌, ◌∷◌, [],
 ghost use Rattle.sl_ast.specs.Trees.{block};
 ghost use Rattle.sl_ast.specs.Unfolding.{unfolded};
 ghost use Rattle.sl_ast.specs.Views.{constructor_of, head_of, inside_of, item_of};
+ghost use Rattle.sl_spec.specs.Numbers.{AreNumbered, AreNumberedBelow};
 ghost use Rattle.sl_spec.specs.Unfolded.{all_placed, constructors_in, heads_of, under};
 ghost use Rattle.sl_spec.specs.Walks.{Adds, AddsItem, inner_before};
 
@@ -11,9 +12,11 @@ use sl_ast::constructors::{Constructor, Head, Inner};
 use sl_ast::items::{Item, ItemKind};
 use std::alloc::{AllocError, Global};
 
-/// The head of a `with` block.
+/// The head of a `with` block, with the number of its item among all items, by which the block is
+/// known again.
 #[derive(Clone, Copy)]
 pub struct Around<'s, 'a> {
+    pub number: u32,
     pub head: &'s Head<'a>,
 }
 
@@ -36,31 +39,18 @@ fn next(number: u32) -> Result<u32, AllocError>
     }
 }
 
-/// The same blocks.
-fn copied<'s, 'a>(
-    alloc: Global,
-    heads: &[Around<'s, 'a>],
-) -> Result<Vec<Around<'s, 'a>>, AllocError>
-    ensures { IfOk result (λ all. heads_of all.items ≡ heads_of heads.now) }
-{
-    let mut all = Vec::new(alloc);
-    'heads: for index in 0..heads.len() {
-        all.push(heads[index])?;
-    }
-    Ok(all)
-}
-
 /// The blocks with one more inside them.
 fn inside_one<'s, 'a>(
     alloc: Global,
     heads: &[Around<'s, 'a>],
+    number: u32,
     head: &'s Head<'a>,
 ) -> Result<Vec<Around<'s, 'a>>, AllocError>
-    ensures { IfOk result (λ all. heads_of all.items
-        ≡ heads_of heads.now ++ head_of head.now ∷ []) }
+    ensures { IfOk result (λ all. all.items
+        ≡ heads.now ++ record { number = number; head = head.entry } ∷ []) }
 {
-    let mut all = copied(alloc, heads)?;
-    all.push(Around { head })?;
+    let mut all = Vec::from_slice(alloc, heads)?;
+    all.push(Around { number, head })?;
     Ok(all)
 }
 
@@ -75,8 +65,10 @@ fn add_constructor<'s, 'a>(
     ensures added { IfOk result (λ _. all_placed all.new.items ≡ all_placed all.old.items
         ++ (number, under (heads_of heads.now) (constructor_of own.now)) ∷ []) }
     ensures next { IfOk result (λ next. next ≡ number + 1) }
+    ensures numbered { IfOk result (λ next. AreNumberedBelow number heads.now all.old.items
+        → AreNumberedBelow next heads.now all.new.items) }
 {
-    let heads = copied(alloc, heads)?;
+    let heads = Vec::from_slice(alloc, heads)?;
     all.push(Unfolded { number, heads, own })?;
     next(number)
 }
@@ -89,17 +81,19 @@ fn add_inner<'s, 'a>(
     inner: &'s Inner<'a>,
     all: &mut Vec<Unfolded<'s, 'a>>,
 ) -> Result<u32, AllocError>
-    ensures { IfOk result (λ next. Adds (heads_of heads.now) number (inner_before inner.now)
+    ensures added { IfOk result (λ next. Adds (heads_of heads.now) number (inner_before inner.now)
         (all_placed all.old.items) next (all_placed all.new.items)) }
+    ensures numbered { IfOk result (λ next. AreNumberedBelow number heads.now all.old.items
+        → AreNumberedBelow next heads.now all.new.items) }
 {
     match inner {
         Inner::Constructor(_, own) => add_constructor(alloc, heads, number, own, all),
         Inner::With(_, head, inside) => {
-            let heads = inside_one(alloc, heads, head)?;
+            let around = inside_one(alloc, heads, number, head)?;
             let inside = inside.as_slice();
             let mut number = next(number)?;
             'inside: for index in 0..inside.len() {
-                number = add_inner(alloc, heads.as_slice(), number, &inside[index], all)?;
+                number = add_inner(alloc, around.as_slice(), number, &inside[index], all)?;
             }
             Ok(number)
         }
@@ -114,10 +108,13 @@ fn add_block<'s, 'a>(
     inside: &'s [Inner<'a>],
     all: &mut Vec<Unfolded<'s, 'a>>,
 ) -> Result<u32, AllocError>
-    ensures { IfOk result (λ next. AddsItem number (block (head_of head.now) (inside_of inside.now))
+    ensures added { IfOk result (λ next.
+        AddsItem number (block (head_of head.now) (inside_of inside.now))
         (all_placed all.old.items) next (all_placed all.new.items)) }
+    ensures numbered { IfOk result (λ next. AreNumberedBelow number [] all.old.items
+        → AreNumberedBelow next [] all.new.items) }
 {
-    let heads = inside_one(alloc, &[], head)?;
+    let heads = inside_one(alloc, &[], number, head)?;
     let mut number = next(number)?;
     'inside: for index in 0..inside.len() {
         number = add_inner(alloc, heads.as_slice(), number, &inside[index], all)?;
@@ -125,15 +122,18 @@ fn add_block<'s, 'a>(
     Ok(number)
 }
 
-/// Adds the constructors of an item. The number behind it.
+/// Adds the constructors of an item. The number behind it. Blocks with different heads have
+/// different numbers, if those that are there have.
 pub fn add_unfolded<'s, 'a>(
     alloc: Global,
     number: u32,
     item: &'s Item<'a>,
     all: &mut Vec<Unfolded<'s, 'a>>,
 ) -> Result<u32, AllocError>
-    ensures { IfOk result (λ next. AddsItem number (item_of item.now)
+    ensures added { IfOk result (λ next. AddsItem number (item_of item.now)
         (all_placed all.old.items) next (all_placed all.new.items)) }
+    ensures numbered { IfOk result (λ next. AreNumberedBelow number [] all.old.items
+        → AreNumberedBelow next [] all.new.items) }
 {
     match &item.kind {
         ItemKind::Constructor(own) => add_constructor(alloc, &[], number, own, all),
@@ -145,13 +145,15 @@ pub fn add_unfolded<'s, 'a>(
     }
 }
 
-/// The constructors of a text in its order, each with the blocks round it.
+/// The constructors of a text in its order, each with the blocks round it. Blocks with different
+/// heads have different numbers.
 pub fn unfolded_constructors<'s, 'a>(
     alloc: Global,
     items: &'s [Item<'a>],
 ) -> Result<Vec<Unfolded<'s, 'a>>, AllocError>
-    ensures { IfOk result (λ all. all_placed all.items
+    ensures all { IfOk result (λ all. all_placed all.items
         ≡ constructors_in (unfolded (map item_of items.now))) }
+    ensures numbered { IfOk result (λ all. AreNumbered all.items) }
 {
     let mut all = Vec::new(alloc);
     let mut number = 0;
