@@ -1,10 +1,10 @@
 -- Blocks and their numbers.
-use Rattle.std.proofs.Common.{◌≡◌, ℕ, zero, suc, ◌+◌, ◌≤◌, Bool, true, false, if◌then◌else◌, nat_eq, ◌≢◌, List, [], ◌∷◌, ◌++◌, Option, None, Result, Ok, Err, refl, sym, subst, ap, ◌∙◌, arith}
+use Rattle.std.proofs.Common.{◌≡◌, ℕ, ◌+◌, ◌≤◌, Bool, true, false, if◌then◌else◌, nat_eq, ◌≢◌, List, [], ◌∷◌, ◌++◌, None, Result, Ok, Err, sym, subst, ap, ◌∙◌, arith}
 use Rattle.std.specs.Prelude.{IfOk}
 use Rattle.std.specs.List.{AllByRecursion}
 use Rattle.sl_ast.specs.Trees.{Head}
 use Rattle.sl_ast.specs.Views.{head_of}
-use Rattle.sl_spec.specs.Numbers.{AreNumbered, AreNumberedBelow, IsBelow, made_of}
+use Rattle.sl_spec.specs.Numbers.{AreNumbered, AreNumberedBelow, IsBelow}
 use Rattle.sl_spec.specs.declared.unfolded.Around.{Around}
 use Rattle.sl_spec.specs.declared.unfolded.Unfolded.{Unfolded}
 use Rattle.sl_spec.proofs.KeyedLemmas.{all_push}
@@ -99,12 +99,3 @@ module _ (n k : ℕ) (blocks inner : List Around) (us : List Unfolded) (a : Arou
 
   pub ends_inside : AreNumberedBelow k inner us → AreNumberedBelow k blocks us
   ends_inside numbered = numbers_outer k blocks us a (subst (λ (bs : List Around). AreNumberedBelow k bs us) listed numbered)
-
--- ---- what was made of blocks
-
--- nothing was made in a list that is longer by nothing
-pub made_none : {V : Type 0} (made : List (Option V)) (n : ℕ) → made_of (made ++ None ∷ []) n ≡ made_of made n
-made_none [] zero = refl
-made_none [] (suc n) = refl
-made_none (x ∷ xs) zero = refl
-made_none (x ∷ xs) (suc n) = made_none xs n

@@ -1,37 +1,25 @@
 //! What was made of blocks.
 
-ghost use Rattle.std.specs.Prelude.{◌≡◌, ◌≤◌, [], ℕ, IfOk, Some, nat_eq, option_copied};
-ghost use Rattle.std.specs.Prelude as lists;
-ghost use Rattle.std.specs.Prelude.{if◌then◌else◌};
-ghost use Rattle.sl_spec.specs.Numbers.{made_of};
+ghost use Rattle.std.specs.Prelude.{◌≡◌, [], ℕ, IfOk, Some, cond, option_copied};
+ghost use Rattle.sl_spec.specs.Numbers.{is_number, made_of};
 
 use std::alloc::{AllocError, Global};
+use std::collections::BTreeMap;
 use std::marker::Model;
 
 /// What was made of some blocks, by their numbers, so that it is made once for all constructors
-/// inside a block. Contracts see a list with something or nothing for each number.
+/// inside a block. Contracts see the numbers with what was made.
 #[derive(Drop)]
 pub struct ByBlock<V: Drop> {
-    made: Vec<Option<V>>,
+    made: BTreeMap<u32, V>,
 }
 
 impl<V: Drop> Model for ByBlock<V> {
-    ghost use Rattle.std.specs.Prelude.{List, Option};
+    ghost use Rattle.std.specs.Prelude.{List, ℕ};
 
-    ghost Value = { List (Option V) };
+    ghost Value = { List (ℕ × V) };
 
-    ghost view = { λ b. b.made.items };
-}
-
-/// Makes the list at least so long.
-fn fill<V: Drop>(made: &mut Vec<Option<V>>, length: usize) -> Result<(), AllocError>
-    ensures kept { IfOk result (λ _. (n : ℕ) → made_of made.new.items n ≡ made_of made.old.items n) }
-    ensures long { IfOk result (λ _. length ≤ lists.length made.new.items) }
-{
-    'made: for _index in made.len()..length {
-        made.push(None)?;
-    }
-    Ok(())
+    ghost view = { λ b. b.made.entries };
 }
 
 impl<V: Drop> ByBlock<V> {
@@ -40,7 +28,7 @@ impl<V: Drop> ByBlock<V> {
         ensures { result ≡ [] }
     {
         ByBlock {
-            made: Vec::new(alloc),
+            made: BTreeMap::new(alloc),
         }
     }
 
@@ -48,18 +36,17 @@ impl<V: Drop> ByBlock<V> {
     pub fn get(&self, number: u32) -> Option<&V>
         ensures { option_copied result ≡ made_of self.now number }
     {
-        let made = self.made.get(number as usize)?;
-        made.as_ref()
+        self.made.get(&number)
     }
 
     /// Keeps what was made of the block of this number.
     pub fn put(&mut self, number: u32, value: V) -> Result<(), AllocError>
         ensures { IfOk result (λ _. (n : ℕ) → made_of self.new n
-            ≡ (if nat_eq n number then Some value else made_of self.old n)) }
+            ≡ cond (is_number number n) (Some value) (made_of self.old n)) }
     {
-        let index = number as usize;
-        fill(&mut self.made, index + 1)?;
-        self.made[index] = Some(value);
-        Ok(())
+        match self.made.insert(number, value) {
+            Ok(_) => Ok(()),
+            Err(_) => Err(AllocError),
+        }
     }
 }
