@@ -1,6 +1,7 @@
 pub mod PrecedenceLemmas
 pub mod RankLemmas
 pub mod OrderLemmas
+pub mod CountLemmas
 pub mod SideLemmas
 pub mod SharedLemmas
 pub mod TreeLemmas

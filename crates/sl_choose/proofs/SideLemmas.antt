@@ -1,11 +1,12 @@
 -- Entries at the two sides of bits.
-use Rattle.std.proofs.Common.{◌≡◌, ◌↔◌, ℕ, ◌+◌, ◌<◌, ◌≤◌, ◌⊎◌, List, length, get_or, [], ◌∷◌, ◌++◌, below_more, min, bit_and, arith, sym, ◌∙◌, ap, refl, inl, inr, subst, length-append}
+use Rattle.std.proofs.Common.{◌≡◌, ◌↔◌, ℕ, ◌+◌, ◌<◌, ◌≤◌, ◌⊎◌, List, length, get_or, take, [], ◌∷◌, ◌++◌, below_more, min, bit_and, cond, arith, sym, ◌∙◌, ap, refl, inl, inr, subst, length-append}
 use Rattle.std.specs.Prelude.{Contains}
 use Rattle.std.specs.Int.{bit_at}
 use Rattle.std.specs.List.{HoldsAt}
 use Rattle.std.proofs.lemmas.Nat.{and_le_l}
 use Rattle.std.proofs.lemmas.Nat.Bits.{bit_at_and, bit_at-lt, bit_at-zero, same_from_bits}
-use Rattle.std.proofs.lemmas.List.Elements.{Contains-append_left, Contains-get_or, Contains-push, Contains-push_cases, at_read}
+use Rattle.std.proofs.lemmas.List.{take_all}
+use Rattle.std.proofs.lemmas.List.Elements.{Contains-append_left, Contains-push, Contains-push_cases, at_read}
 use Rattle.sl_cube.specs.declared.Cube.{Cube}
 use Rattle.sl_cube.specs.declared.Point.{Point}
 use Rattle.sl_cube.specs.Bits.{Agrees}
@@ -13,7 +14,8 @@ use Rattle.sl_cube.specs.Points.{IsIn}
 use Rattle.sl_cube.specs.Search.{Lacks}
 use Rattle.sl_cube.proofs.BitLemmas.{within_bit, agrees_from_and, and_from_agrees}
 use Rattle.sl_choose.specs.declared.Entry.{Entry}
-use Rattle.sl_choose.specs.Sides.{SetsNone, Covers, IsPut, AllCover, SomeClear, SomeSet, IsSides, IsForced}
+use Rattle.sl_choose.specs.Sides.{SetsNone, Covers, IsPut, AllCover, SomeClear, SomeSet, IsSides, has_count, lacks_count, may_have, may_lack}
+use Rattle.sl_choose.proofs.CountLemmas.{count_more, have_clear, have_free, have_set, kept_count, lack_false, lack_true, more_count}
 
 -- ---- bits of a cube and of its points
 
@@ -60,9 +62,8 @@ pub record SidesFirst (entries : List Entry) (bits : Point) (low high : List Ent
   pub high_among : (e : Entry) → Contains high e → Contains entries e
   pub low_all : (k : ℕ) → k < n → HoldsAt (λ (e : Entry). SetsNone e.cube bits → Contains low e) entries k
   pub high_all : (k : ℕ) → k < n → HoldsAt (λ (e : Entry). (SetsNone e.cube bits × Covers e.cube bits → ⊥) → Contains high e) entries k
-  pub low_most : length low ≤ n
-  pub high_most : length high ≤ n
-  pub together : ((k : ℕ) → k < n → HoldsAt (λ (e : Entry). Covers e.cube bits) entries k) → length low + length high ≡ n
+  pub low_count : length low ≡ lacks_count bits (take n entries)
+  pub high_count : length high ≡ has_count bits (take n entries)
 
 not_in_nothing : (e : Entry) → Contains [] e → ⊥
 not_in_nothing e h = omega (arith, h.1)
@@ -73,28 +74,24 @@ sides_none entries bits = record {
   high_among = λ e h. absurd (not_in_nothing e h);
   low_all = λ k below. absurd (omega arith);
   high_all = λ k below. absurd (omega arith);
-  low_most = omega arith;
-  high_most = omega arith;
-  together = λ all. refl;
+  low_count = refl;
+  high_count = refl;
 }
 
 record Grows (e : Entry) (old new : List Entry) : Type 0 where
   among : (x : Entry) → Contains new x → Contains old x ⊎ (e ≡ x)
   up : (x : Entry) → Contains old x → Contains new x
-  most : length new ≤ length old + 1
 
 grows_same : (e : Entry) (old new : List Entry) → new ≡ old → Grows e old new
 grows_same e old new same = record {
   among = λ x h. inl (subst (λ (xs : List Entry). Contains xs x) same h);
   up = λ x h. subst (λ (xs : List Entry). Contains xs x) (sym same) h;
-  most = omega (arith, ap length same);
 }
 
 grows_pushed : (e : Entry) (old new : List Entry) → new ≡ old ++ e ∷ [] → Grows e old new
 grows_pushed e old new pushed = record {
   among = λ x h. Contains-push_cases old e x (subst (λ (xs : List Entry). Contains xs x) pushed h);
   up = λ x h. subst (λ (xs : List Entry). Contains xs x) (sym pushed) (Contains-append_left old (e ∷ []) x h);
-  most = omega (arith, simp length-append at (ap length pushed));
 }
 
 has_pushed : (e : Entry) (old new : List Entry) → new ≡ old ++ e ∷ [] → Contains new e
@@ -106,9 +103,9 @@ longer e old new pushed = omega (arith, simp length-append at (ap length pushed)
 sides_step : (entries : List Entry) (bits : Point) (low high low_new high_new : List Entry) (n : ℕ) (e : Entry) → n < length entries → e ≡ get_or entries n e
     → Grows e low low_new → Grows e high high_new → (SetsNone e.cube bits → Contains low_new e)
     → ((SetsNone e.cube bits × Covers e.cube bits → ⊥) → Contains high_new e)
-    → (Covers e.cube bits → length low_new + length high_new ≡ length low + length high + 1)
+    → length low_new ≡ length low + cond (may_lack bits e.cube) 1 0 → length high_new ≡ length high + cond (may_have bits e.cube) 1 0
     → SidesFirst entries bits low high n → SidesFirst entries bits low_new high_new (n + 1)
-sides_step entries bits low high low_new high_new n e below is l h low_here high_here sum f = record {
+sides_step entries bits low high low_new high_new n e below is l h low_here high_here low_sum high_sum f = record {
   low_among = λ x c. elim (l.among x c) [ inl old ↦ f.low_among x old | inr same ↦ subst (λ (y : Entry). Contains entries y) same (n, below, sym is) ];
   high_among = λ x c. elim (h.among x c) [ inl old ↦ f.high_among x old | inr same ↦ subst (λ (y : Entry). Contains entries y) same (n, below, sym is) ];
   low_all = below_more (λ k. HoldsAt (λ (x : Entry). SetsNone x.cube bits → Contains low_new x) entries k) n
@@ -117,27 +114,27 @@ sides_step entries bits low high low_new high_new n e below is l h low_here high
   high_all = below_more (λ k. HoldsAt (λ (x : Entry). (SetsNone x.cube bits × Covers x.cube bits → ⊥) → Contains high_new x) entries k) n
       (λ k lt d out. h.up (get_or entries k d) (f.high_all k lt d out))
       (at_read entries (λ (x : Entry). (SetsNone x.cube bits × Covers x.cube bits → ⊥) → Contains high_new x) n e below is high_here);
-  low_most = omega (arith, l.most, f.low_most);
-  high_most = omega (arith, h.most, f.high_most);
-  together = λ all.
-      let here : Covers e.cube bits = subst (λ (x : Entry). Covers x.cube bits) (sym is) (all n (omega arith) e) in
-      omega (arith, sum here, f.together (λ k lt. all k (omega arith)));
+  low_count = omega (arith, low_sum, f.low_count, count_more (λ (x : Entry). may_lack bits x.cube) entries n e below is);
+  high_count = omega (arith, high_sum, f.high_count, count_more (λ (x : Entry). may_have bits x.cube) entries n e below is);
 }
 
 pub sides_more : (entries : List Entry) (bits : Point) (low high low_new high_new : List Entry) (n : ℕ) (e : Entry) → n < length entries → e ≡ get_or entries n e
     → IsPut e bits low high low_new high_new → SidesFirst entries bits low high n → SidesFirst entries bits low_new high_new (n + 1)
 sides_more entries bits low high low_new high_new n e below is (inl p) f = sides_step entries bits low high low_new high_new n e below is
     (grows_same e low low_new p.1) (grows_pushed e high high_new p.2) (λ none. absurd (p.0 none)) (λ out. has_pushed e high high_new p.2)
-    (λ covers. omega (arith, ap length p.1, longer e high high_new p.2)) f
+    (kept_count (length low) (length low_new) _ (ap length p.1) (lack_false bits e.cube p.0))
+    (more_count (length high) (length high_new) _ (longer e high high_new p.2) (have_set bits e.cube p.0)) f
 sides_more entries bits low high low_new high_new n e below is (inr (inl p)) f = sides_step entries bits low high low_new high_new n e below is
     (grows_pushed e low low_new p.2) (grows_same e high high_new p.3) (λ none. has_pushed e low low_new p.2) (λ out. absurd (out (p.0, p.1)))
-    (λ covers. omega (arith, ap length p.3, longer e low low_new p.2)) f
+    (more_count (length low) (length low_new) _ (longer e low low_new p.2) (lack_true bits e.cube p.0))
+    (kept_count (length high) (length high_new) _ (ap length p.3) (have_clear bits e.cube p.0 p.1)) f
 sides_more entries bits low high low_new high_new n e below is (inr (inr p)) f = sides_step entries bits low high low_new high_new n e below is
     (grows_pushed e low low_new p.2) (grows_pushed e high high_new p.3) (λ none. has_pushed e low low_new p.2) (λ out. has_pushed e high high_new p.3)
-    (λ covers. absurd (p.1 covers)) f
+    (more_count (length low) (length low_new) _ (longer e low low_new p.2) (lack_true bits e.cube p.0))
+    (more_count (length high) (length high_new) _ (longer e high high_new p.3) (have_free bits e.cube p.1)) f
 
-pub sides_all : (entries : List Entry) (bits : Point) (low high : List Entry) (n : ℕ) → length entries ≤ n → n ≤ length entries → SidesFirst entries bits low high n → IsSides entries bits low high
-sides_all entries bits low high n all most f = record {
+pub sides_all : (entries : List Entry) (bits : Point) (low high : List Entry) (n : ℕ) → length entries ≤ n → SidesFirst entries bits low high n → IsSides entries bits low high
+sides_all entries bits low high n all f = record {
   low_among = f.low_among;
   high_among = f.high_among;
   low_all = λ e h none.
@@ -146,31 +143,9 @@ sides_all entries bits low high n all most f = record {
   high_all = λ e h out.
       let lt : h.0 < n = omega (arith, h.1) in
       (subst (λ (x : Entry). (SetsNone x.cube bits × Covers x.cube bits → ⊥) → Contains high x) h.2 (f.high_all h.0 lt e)) out;
-  low_most = omega (arith, f.low_most);
-  high_most = omega (arith, f.high_most);
-  together = λ cover.
-      let sum = f.together (λ k lt d.
-      let within : k < length entries = omega arith in
-      cover (get_or entries k d) (Contains-at entries k d within)) in
-      omega (arith, sum);
+  low_count = f.low_count ∙ ap (lacks_count bits) (take_all n entries all);
+  high_count = f.high_count ∙ ap (has_count bits) (take_all n entries all);
 }
-  where
-    Contains-at : (xs : List Entry) (k : ℕ) (d : Entry) → k < length xs → Contains xs (get_or xs k d)
-    Contains-at xs k d below = Contains-get_or xs k d below
-
--- ---- where a split has to be made
-
-some_long : (xs : List Entry) (e : Entry) → Contains xs e → 0 < length xs
-some_long xs e h = omega (arith, h.1)
-
--- with a bit that all fix and two differ in, both sides have fewer, and no entry stands on both
-pub forced_fits : (entries : List Entry) (bits : Point) (low high : List Entry) → IsSides entries bits low high → IsForced entries bits
-    → (length low < length entries) × (length high < length entries) × (length low + length high ≤ length entries)
-forced_fits entries bits low high s f =
-    let sum = s.together f.all in
-    let low_some : 0 < length low = some_long low f.clear.0 (s.low_all f.clear.0 f.clear.1 f.clear.2) in
-    let high_some : 0 < length high = some_long high f.set.0 (s.high_all f.set.0 f.set.1 (λ both. f.set.2 both.0)) in
-    (omega arith, omega arith, omega arith)
 
 -- ---- tests over a list
 

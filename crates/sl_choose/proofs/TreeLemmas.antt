@@ -1,5 +1,5 @@
 -- A tree of fewer entries, among which are all that have the point, is a tree of all.
-use Rattle.std.proofs.Common.{ℕ, ◌⊎◌, List, inl, inr}
+use Rattle.std.proofs.Common.{List}
 use Rattle.std.specs.Prelude.{Contains}
 use Rattle.sl_cube.specs.declared.Point.{Point}
 use Rattle.sl_cube.specs.Points.{IsIn}
@@ -7,7 +7,7 @@ use Rattle.sl_settle.specs.declared.CubeSet.{CubeSet}
 use Rattle.sl_choose.specs.Order.{IsOrdered}
 use Rattle.sl_choose.specs.declared.Entry.{Entry}
 use Rattle.sl_choose.specs.declared.Node.{Node, Leaf, Test'}
-use Rattle.sl_choose.specs.Sides.{IsSplitOf, IsForced, HasNoForced, byte_bit, context_bit}
+use Rattle.sl_choose.specs.Sides.{IsSides, IsForced, HasNoForced, byte_bit, context_bit}
 use Rattle.sl_choose.specs.Trees.{IsTreeOf, IsLeafOf, IsTest}
 use Rattle.sl_choose.proofs.SideLemmas.{none_from_lacking, lacking_from_clear}
 
@@ -22,15 +22,11 @@ module _ (sets : List CubeSet) (few entries : List Entry) (p : Point) (among : (
   }
   wider (Test' bits a low b high) t = (λ lacks. wider low (t.0 lacks), λ has. wider high (t.1 has))
 
-pub tree_from : (sets : List CubeSet) (entries : List Entry) (bits p : Point) (room : ℕ) (few many : List Entry) (low high node : Node) → IsSplitOf entries bits room few many → IsTest bits low high node
+pub tree_from : (sets : List CubeSet) (entries : List Entry) (bits p : Point) (few many : List Entry) (low high node : Node) → IsSides entries bits few many → IsTest bits low high node
     → IsTreeOf sets low few p → IsTreeOf sets high many p → IsTreeOf sets node entries p
-tree_from sets entries bits p room few many low high node s t l h = t.tree sets entries p
-    (λ lacks. wider sets few entries p s.sides.low_among (λ e there inside. s.sides.low_all e there (none_from_lacking e.cube bits p inside lacks)) low l)
-    (λ has. wider sets many entries p s.sides.high_among (λ e there inside. s.sides.high_all e there (λ both. has (lacking_from_clear e.cube bits p both.0 both.1 inside))) high h)
-
-pub not_forced : (entries : List Entry) (bits : Point) → HasNoForced entries ⊎ IsForced entries bits → (IsForced entries bits → ⊥) → HasNoForced entries
-not_forced entries bits (inl none) out = none
-not_forced entries bits (inr forced) out = absurd (out forced)
+tree_from sets entries bits p few many low high node s t l h = t.tree sets entries p
+    (λ lacks. wider sets few entries p s.low_among (λ e there inside. s.low_all e there (none_from_lacking e.cube bits p inside lacks)) low l)
+    (λ has. wider sets many entries p s.high_among (λ e there inside. s.high_all e there (λ both. has (lacking_from_clear e.cube bits p both.0 both.1 inside))) high h)
 
 forced_moved : (xs ys : List Entry) (bits : Point) → ((e : Entry) → Contains ys e → Contains xs e) → ((e : Entry) → Contains xs e → Contains ys e) → IsForced ys bits → IsForced xs bits
 forced_moved xs ys bits from to f = record {

@@ -7,3 +7,5 @@ pub mod Choosers
 pub mod Laws
 pub mod Picked
 pub mod Added
+pub mod Splits
+pub mod Best

@@ -1,9 +1,8 @@
 -- meaning: entries at the two sides of bits, and bits at which a split has to be made.
-use Rattle.std.specs.Prelude.{◌≡◌, ℕ, ◌+◌, ◌<◌, ◌≤◌, ◌^◌, ◌⊎◌, List, [], ◌∷◌, ◌++◌, length, Option, Some, None, Contains, bit_and}
+use Rattle.std.specs.Prelude.{◌≡◌, ℕ, ◌<◌, ◌^◌, ◌⊎◌, ◌==◌, ◌&&◌, Bool, List, [], ◌∷◌, ◌++◌, length, Contains, bit_and, count_by, not}
 use Rattle.sl_cube.specs.declared.Cube.{Cube}
 use Rattle.sl_cube.specs.declared.Point.{Point}
 use Rattle.sl_choose.specs.declared.Entry.{Entry}
-use Rattle.sl_choose.specs.declared.Halves.{Halves}
 
 -- The cube fixes none of the bits to 1.
 abbrev pub SetsNone : Cube → Point → Type 0
@@ -29,15 +28,34 @@ SomeClear entries bits = (e : Entry) × Contains entries e × SetsNone e.cube bi
 abbrev pub SomeSet : List Entry → Point → Type 0
 SomeSet entries bits = (e : Entry) × Contains entries e × (SetsNone e.cube bits → ⊥)
 
+-- whether the cube may have a point with none of the bits: it fixes none of them to 1
+abbrev pub may_lack : Point → Cube → Bool
+may_lack bits c = (bit_and c.value bits.bytes == 0) && (bit_and c.ctx_value bits.context == 0)
+
+-- whether the cube fixes each of the bits
+abbrev pub fixes : Point → Cube → Bool
+fixes bits c = (bit_and c.mask bits.bytes == bits.bytes) && (bit_and c.ctx_mask bits.context == bits.context)
+
+-- whether the cube may have a point with some of the bits: it doesn't fix all of them to 0
+abbrev pub may_have : Point → Cube → Bool
+may_have bits c = not (may_lack bits c && fixes bits c)
+
+-- how many entries a point without the bits may be in
+abbrev pub lacks_count : Point → List Entry → ℕ
+lacks_count bits entries = count_by (λ e. may_lack bits e.cube) entries
+
+-- how many entries a point with some of the bits may be in
+abbrev pub has_count : Point → List Entry → ℕ
+has_count bits entries = count_by (λ e. may_have bits e.cube) entries
+
 -- The two lists have the entries that a point without the bits, and one with some of them, may be in.
 pub record IsSides (entries : List Entry) (bits : Point) (low high : List Entry) : Type 0 where
   pub low_among : (e : Entry) → Contains low e → Contains entries e
   pub high_among : (e : Entry) → Contains high e → Contains entries e
   pub low_all : (e : Entry) → Contains entries e → SetsNone e.cube bits → Contains low e
   pub high_all : (e : Entry) → Contains entries e → (SetsNone e.cube bits × Covers e.cube bits → ⊥) → Contains high e
-  pub low_most : length low ≤ length entries
-  pub high_most : length high ≤ length entries
-  pub together : AllCover entries bits → length low + length high ≡ length entries
+  pub low_count : length low ≡ lacks_count bits entries
+  pub high_count : length high ≡ has_count bits entries
 
 -- All cubes fix the bits, and two differ in them.
 pub record IsForced (entries : List Entry) (bits : Point) : Type 0 where
@@ -61,14 +79,3 @@ HasNoForcedContext entries n = (k : ℕ) → k < n → IsForced entries (context
 pub record HasNoForced (entries : List Entry) : Type 0 where
   pub bytes : HasNoForcedByte entries 128
   pub context : HasNoForcedContext entries 64
-
--- Two sides with fewer entries each, and room for both.
-pub record IsSplitOf (entries : List Entry) (bits : Point) (room : ℕ) (low high : List Entry) : Type 0 where
-  pub sides : IsSides entries bits low high
-  pub low_fewer : length low < length entries
-  pub high_fewer : length high < length entries
-  pub fit : length low + length high ≤ room
-
-abbrev pub IsDivided : List Entry → Point → ℕ → Option Halves → Type 0
-IsDivided entries bits room None = IsForced entries bits → ⊥
-IsDivided entries bits room (Some s) = IsSplitOf entries bits room s.low.items s.high.items

@@ -9,6 +9,7 @@ mod precedence;
 mod ranks;
 mod shared;
 mod sides;
+mod splits;
 mod tree;
 
 pub use chooser::Chooser;

@@ -77,7 +77,7 @@ fn has_all(point: &Point, bits: &Point) -> bool
 }
 
 /// Whether the point has none of the bits.
-fn has_none(point: &Point, bits: &Point) -> bool
+pub fn has_none(point: &Point, bits: &Point) -> bool
     ensures { IsTrue result ↔ HasNone point.now bits.now }
 {
     point.bytes & bits.bytes == 0 && point.context & bits.context == 0

@@ -1,28 +1,28 @@
 //! Entries at the two sides of bits.
 
-ghost use Rattle.std.specs.Prelude.{◌≡◌, ◌↔◌, ◌≤◌, IsTrue, IfOk, MatchOption, length};
+ghost use Rattle.std.specs.Prelude.{◌≡◌, ◌↔◌, IsTrue, IfOk, MatchOption};
 ghost use Rattle.sl_cube.specs.Points.{InRange};
 ghost use Rattle.sl_cube.specs.Search.{Lacks};
 ghost use Rattle.sl_choose.specs.Picked.{lacks};
 ghost use Rattle.sl_choose.specs.Shared.{IsShared};
 ghost use Rattle.sl_choose.specs.Sides.{SetsNone, Covers, AllCover, SomeClear, SomeSet};
-ghost use Rattle.sl_choose.specs.Sides.{IsPut, IsSides, IsDivided};
+ghost use Rattle.sl_choose.specs.Sides.{IsPut, IsSides};
 ghost use Rattle.sl_choose.specs.Sides.{IsForced, HasNoForced, HasNoForcedByte, HasNoForcedContext};
 
-use super::shared::{Shared, first_byte_bit, first_context_bit, may_differ, shared_by};
+use super::shared::{Shared, first_byte_bit, first_context_bit, may_differ};
 use super::{Entry, Halves};
 use sl_cube::{Cube, Point};
 use std::alloc::{AllocError, Global};
 
 /// Whether the cube fixes none of the bits to 1.
-fn sets_none(cube: &Cube, bits: &Point) -> bool
+pub fn sets_none(cube: &Cube, bits: &Point) -> bool
     ensures { IsTrue result ↔ SetsNone cube.now bits.now }
 {
     cube.value & bits.bytes == 0 && cube.ctx_value & bits.context == 0
 }
 
 /// Whether the cube fixes all of the bits.
-fn covers(cube: &Cube, bits: &Point) -> bool
+pub fn covers(cube: &Cube, bits: &Point) -> bool
     ensures { IsTrue result ↔ Covers cube.now bits.now }
 {
     cube.mask & bits.bytes == bits.bytes && cube.ctx_mask & bits.context == bits.context
@@ -61,7 +61,7 @@ fn put(
 }
 
 /// The entries that a point without the bits, and one with some of them, may be in.
-fn sides(alloc: Global, entries: &[Entry], bits: &Point) -> Result<Halves, AllocError>
+pub fn sides(alloc: Global, entries: &[Entry], bits: &Point) -> Result<Halves, AllocError>
     ensures { IfOk result (λ sides. IsSides entries.now bits.now sides.low.items sides.high.items) }
 {
     let mut low = Vec::new(alloc);
@@ -162,36 +162,13 @@ fn forced_context(shared: &Shared, entries: &[Entry]) -> Option<Point>
 }
 
 /// A bit that all cubes fix and in which two differ, where there is one.
-pub fn forced(entries: &[Entry]) -> Option<Point>
+pub fn forced(shared: &Shared, entries: &[Entry]) -> Option<Point>
+    requires { IsShared entries.now shared.now }
     ensures { MatchOption result (HasNoForced entries.now) (IsForced entries.now) }
 {
-    let shared = shared_by(entries);
-    let byte = forced_byte(&shared, entries);
+    let byte = forced_byte(shared, entries);
     let Some(bits) = byte else {
-        return forced_context(&shared, entries);
+        return forced_context(shared, entries);
     };
     Some(bits)
-}
-
-/// Both sides, where each has fewer entries and there is room for both.
-pub fn divided(
-    alloc: Global,
-    entries: &[Entry],
-    bits: &Point,
-    room: usize,
-) -> Result<Option<Halves>, AllocError>
-    requires { length entries.now ≤ room }
-    ensures { IfOk result (IsDivided entries.now bits.now room) }
-{
-    let both = sides(alloc, entries, bits)?;
-    if both.low.len() >= entries.len() {
-        return Ok(None);
-    }
-    if both.high.len() >= entries.len() {
-        return Ok(None);
-    }
-    if both.high.len() > room - both.low.len() {
-        return Ok(None);
-    }
-    Ok(Some(both))
 }

@@ -14,5 +14,4 @@ loop-entry-preserved c =
 pub returns : goal.returns
 returns c =
     let all : length c.args.entries.now ≤ c.loop-entry.entry-index = omega arith in
-    let most : c.loop-entry.entry-index ≤ length c.args.entries.now = omega arith in
-    sides_all c.args.entries.now c.args.bits.now c.loop-entry.low.items c.loop-entry.high.items c.loop-entry.entry-index all most c.loop-entry.invariant
+    sides_all c.args.entries.now c.args.bits.now c.loop-entry.low.items c.loop-entry.high.items c.loop-entry.entry-index all c.loop-entry.invariant
