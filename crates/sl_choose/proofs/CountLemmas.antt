@@ -1,7 +1,7 @@
 -- How many entries each side of bits has, and when a split helps and fits.
 use Rattle.std.proofs.Common.{◌≡◌, ◌↔◌, ℕ, zero, suc, ◌+◌, ◌-◌, ◌<◌, ◌≤◌, List, [], ◌∷◌, length, get_or, take, Option, Some, None, Bool, true, false, cond, not, ◌&&◌, IsPermutation, arith, sym, ◌∙◌, ap, refl, subst, eq-eqb, eqb-true}
 use Rattle.std.specs.Prelude.{Contains, MatchOption, count_by}
-use Rattle.std.proofs.lemmas.Bool.{and_from, and_left, and_parts, and_right, false_from_ne_true, false≢true, not_from_false, not_from_true}
+use Rattle.std.proofs.lemmas.Bool.{and_from, and_left, and_parts, and_right, false_from_ne_true, false≢true, not-false, not_from_false, not_from_true}
 use Rattle.std.proofs.lemmas.List.Sums.{count_by-le-length, sum_by-cons, sum_by_more}
 use Rattle.std.proofs.lemmas.List.Sorted.{length_permutation, sum_by-IsPermutation}
 use Rattle.std.proofs.lemmas.Option.{same_Some}
@@ -40,6 +40,15 @@ have_free bits c free = not_from_false _ (and_right _ _ (fixes_false bits c free
 
 pub have_clear : (bits : Point) (c : Cube) → SetsNone c bits → Covers c bits → may_have bits c ≡ false
 have_clear bits c none covers = not_from_true _ (and_from _ _ (lack_true bits c none) (fixes_true bits c covers))
+
+pub clear_from : (bits : Point) (c : Cube) → may_have bits c ≡ false → SetsNone c bits × Covers c bits
+clear_from bits c out =
+    let both = and_parts _ _ (not-false _ out) in
+    let covers = and_parts _ _ both.1 in
+    (lack_none bits c both.0, (eqb-true _ _ covers.0, eqb-true _ _ covers.1))
+
+pub set_from : (bits : Point) (c : Cube) → may_lack bits c ≡ false → SetsNone c bits → ⊥
+set_from bits c out none = false≢true (sym out ∙ lack_true bits c none)
 
 and_true : (a b : Bool) → b ≡ true → (a && b) ≡ a
 and_true true b e = e
@@ -137,7 +146,7 @@ none_forced entries room fits none = record {
 pub none_set_splits : (entries : List Entry) (s : Shared) (bits : Point) (room : ℕ) → IsShared entries s → HasNone s.some bits → IsSplit entries bits room → ⊥
 none_set_splits entries s bits room shared none split =
     let set = some_fails (λ (e : Entry). may_lack bits e.cube) entries split.low_fewer in
-    shared.some bits (set.0, set.1, λ clear. false≢true (sym set.2 ∙ lack_true bits set.0.cube clear)) none
+    shared.some bits (set.0, set.1, set_from bits set.0.cube set.2) none
 
 split_moved : (entries out : List Entry) (bits : Point) (room : ℕ) → IsPermutation entries out → IsSplit out bits room → IsSplit entries bits room
 split_moved entries out bits room moved split =

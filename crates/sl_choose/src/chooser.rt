@@ -1,7 +1,7 @@
 //! The chooser: which constructor a point picks.
 
 ghost use Rattle.std.specs.Prelude.{◌≤◌, ◌*◌};
-ghost use Rattle.sl_choose.specs.Splits.{IsFilled};
+ghost use Rattle.sl_choose.specs.Splits.{IsGrown};
 ghost use Rattle.sl_choose.specs.Trees.{entries_in};
 
 use super::entries::{entries_of, first_of};
@@ -13,14 +13,15 @@ use sl_settle::CubeSet;
 use std::alloc::{AllocError, Global};
 
 /// Finds which of a list of constructors a point picks, by a tree of tests of bits. Its leaves have
-/// room for four times as many entries as there are cubes. The room is shared out among them, and no
-/// leaf could be split at a bit so that each side had fewer entries and both fitted its share.
+/// room for four times as many entries as there are cubes, which is shared out among them. Each test
+/// tells some cubes apart, and no leaf could be split at a bit so that each side had fewer entries
+/// and both fitted its share.
 #[derive(Debug, Drop)]
 pub struct Chooser {
     root: Node,
     pub cubes: usize,
     ghost bounded: { entries_in root ≤ 4 * cubes },
-    ghost filled: { ∥ IsFilled root (4 * cubes) ∥₁ },
+    ghost grown: { ∥ IsGrown root (4 * cubes) ∥₁ },
 }
 
 impl Chooser {

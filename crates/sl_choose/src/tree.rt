@@ -1,12 +1,12 @@
 //! The tree: entries split at bits, as far as the leaves may have so many entries.
 
-ghost use Rattle.std.specs.Prelude.{◌≡◌, ◌≤◌, List, IfOk, length};
+ghost use Rattle.std.specs.Prelude.{◌≡◌, ◌≤◌, Contains, List, IfOk, length};
 ghost use Rattle.sl_cube.specs.declared.Point.{Point};
 ghost use Rattle.sl_settle.specs.declared.CubeSet.{CubeSet};
 ghost use Rattle.sl_choose.specs.declared.Entry.{Entry};
 ghost use Rattle.sl_choose.specs.Picked.{leaf_at};
 ghost use Rattle.sl_choose.specs.Ranks.{AreRanks};
-ghost use Rattle.sl_choose.specs.Splits.{IsFilled, IsUnsplit};
+ghost use Rattle.sl_choose.specs.Splits.{HasEntry, IsGrown, IsUnsplit};
 ghost use Rattle.sl_choose.specs.Trees.{IsTreeOf, IsLeafOf, entries_in, IsTest};
 
 use super::order::ordered;
@@ -21,7 +21,8 @@ fn leaf(alloc: Global, ranks: &[usize], entries: &[Entry], room: usize) -> Resul
     requires fits { length entries.now ≤ room }
     requires unsplit { IsUnsplit entries.now room }
     ensures size { IfOk result (λ node. entries_in node ≤ room) }
-    ensures filled { IfOk result (λ node. IsFilled node room) }
+    ensures grown { IfOk result (λ node. IsGrown node room) }
+    ensures all { IfOk result (λ node. (e : Entry) → Contains entries.now e → HasEntry node e) }
     ensures tree { IfOk result (λ node. (sets : List CubeSet) → AreRanks sets ranks.now
         → (p : Point) → IsTreeOf sets node entries.now p) }
 {
@@ -55,7 +56,8 @@ pub fn grow(
 ) -> Result<Node, AllocError>
     requires { length entries.now ≤ room }
     ensures size { IfOk result (λ node. entries_in node ≤ room) }
-    ensures filled { IfOk result (λ node. IsFilled node room) }
+    ensures grown { IfOk result (λ node. IsGrown node room) }
+    ensures all { IfOk result (λ node. (e : Entry) → Contains entries.now e → HasEntry node e) }
     ensures tree { IfOk result (λ node. (sets : List CubeSet) → AreRanks sets ranks.now
         → (p : Point) → IsTreeOf sets node entries.now p) }
 {
@@ -64,8 +66,9 @@ pub fn grow(
         return Ok(all);
     };
     let both = sides(alloc, entries, &bits)?;
-    let spare = room - both.low.len() - both.high.len();
-    let low_room = both.low.len() + share(both.low.len(), both.high.len(), spare);
+    let low = both.low.len();
+    let high = both.high.len();
+    let low_room = low + share(low, high, room - low - high);
     let below = grow(alloc, ranks, &both.low, low_room)?;
     let above = grow(alloc, ranks, &both.high, room - low_room)?;
     let node = test(alloc, bits, below, above)?;
