@@ -172,10 +172,6 @@ pub lack_is : (bits : Point) (c : Cube) (b : Bool) → (b ≡ true) ↔ SetsNone
 lack_is bits c true is = sym (lack_true bits c (is.0 refl))
 lack_is bits c false is = sym (lack_false bits c (λ none. false≢true (is.1 none)))
 
-pub fixes_is : (bits : Point) (c : Cube) (b : Bool) → (b ≡ true) ↔ Covers c bits → b ≡ fixes bits c
-fixes_is bits c true is = sym (fixes_true bits c (is.0 refl))
-fixes_is bits c false is = sym (fixes_false bits c (λ covers. false≢true (is.1 covers)))
-
 -- ---- the best bits
 
 pub best_of : (entries : List Entry) (room low high larger before : ℕ) (bits : Point) → low ≡ lacks_count bits entries → high ≡ has_count bits entries
