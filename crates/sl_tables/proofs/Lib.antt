@@ -1,5 +1,7 @@
+pub mod BlockLemmas
 pub mod CapLemmas
 pub mod HeadLemmas
+pub mod LengthLemmas
 pub mod RowLemmas
 pub mod ViewLemmas
 pub mod StepLemmas

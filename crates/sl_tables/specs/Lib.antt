@@ -1,4 +1,5 @@
 pub mod Amounts
+pub mod BlockLengths
 pub mod Heads
 pub mod Lengths
 pub mod Rows

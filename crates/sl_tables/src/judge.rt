@@ -2,7 +2,9 @@
 
 ghost use Rattle.std.specs.Prelude.{◌≡◌, ◌∷◌, [], IfOk, length};
 ghost use Rattle.sl_levels.specs.Orders.{IsOrder};
+ghost use Rattle.sl_spec.specs.Numbers.{AreNumbered};
 ghost use Rattle.sl_spec.specs.Unfolded.{all_placed};
+ghost use Rattle.sl_tables.specs.BlockLengths.{AreMeasured, AreMeasuredGroups};
 ghost use Rattle.sl_tables.specs.Rows as spec;
 ghost use Rattle.sl_tables.specs.Rows.{graph, is_of};
 ghost use Rattle.sl_tables.specs.TableRules.{amount_rules, broken_at, early_rules, empty_place};
@@ -10,6 +12,7 @@ ghost use Rattle.sl_tables.specs.TableRules.{first_fault, first_place, has_few_n
 ghost use Rattle.sl_tables.specs.TableRules.{late_fault, reaching_place};
 ghost use Rattle.sl_tables.specs.Views.{groups_of, rows_of};
 
+use crate::block_lengths::{Length, block_lengths};
 use crate::faults::{LateFault, Place};
 use crate::lengths::known;
 use crate::quantities::{Quantity, table_amounts};
@@ -18,7 +21,7 @@ use crate::rules::{
     first_empty, first_of_instruction, first_reaching, has_default, has_instruction, past_most,
 };
 use sl_levels::order_of;
-use sl_spec::{Tables, Unfolded};
+use sl_spec::{ByBlock, Tables, Unfolded};
 use std::alloc::{AllocError, Global};
 
 /// How many nodes an instruction may have.
@@ -53,16 +56,19 @@ fn early_fault(t: &Tables, rows: &[Row]) -> Option<LateFault>
 fn empty_place(
     alloc: Global,
     t: &Tables,
+    made: &ByBlock<Length>,
     groups: &[Vec<Row>],
     rows: &[Row],
     order: &[usize],
 ) -> Result<Option<Place>, AllocError>
-    requires { IsOrder (graph (groups_of groups.now)) order.now }
+    requires groups { AreMeasuredGroups t.now made.now groups.now }
+    requires rows { AreMeasured t.now made.now rows.now }
+    requires order { IsOrder (graph (groups_of groups.now)) order.now }
     ensures { IfOk result (λ place. place
         ≡ empty_place t.now (groups_of groups.now) (rows_of rows.now)) }
 {
-    let values = table_amounts(alloc, Quantity::Least, t, groups, order)?;
-    let place = first_empty(t, values.as_slice(), rows);
+    let values = table_amounts(alloc, Quantity::Least, t, made, groups, order)?;
+    let place = first_empty(t, made, values.as_slice(), rows);
     Ok(place)
 }
 
@@ -70,15 +76,17 @@ fn empty_place(
 fn nodes_place(
     alloc: Global,
     t: &Tables,
+    made: &ByBlock<Length>,
     groups: &[Vec<Row>],
     rows: &[Row],
     order: &[usize],
 ) -> Result<Option<Place>, AllocError>
-    requires { IsOrder (graph (groups_of groups.now)) order.now }
+    requires groups { AreMeasuredGroups t.now made.now groups.now }
+    requires order { IsOrder (graph (groups_of groups.now)) order.now }
     ensures { IfOk result (λ place. place ≡ broken_at (has_few_nodes t.now (groups_of groups.now))
         (first_place (is_of 0) (rows_of rows.now))) }
 {
-    let values = table_amounts(alloc, Quantity::Nodes, t, groups, order)?;
+    let values = table_amounts(alloc, Quantity::Nodes, t, made, groups, order)?;
     if known(values.as_slice(), 0) <= MOST_NODES {
         return Ok(None);
     }
@@ -90,15 +98,17 @@ fn nodes_place(
 fn bytes_place(
     alloc: Global,
     t: &Tables,
+    made: &ByBlock<Length>,
     groups: &[Vec<Row>],
     rows: &[Row],
     order: &[usize],
 ) -> Result<Option<Place>, AllocError>
-    requires { IsOrder (graph (groups_of groups.now)) order.now }
+    requires groups { AreMeasuredGroups t.now made.now groups.now }
+    requires order { IsOrder (graph (groups_of groups.now)) order.now }
     ensures { IfOk result (λ place. place ≡ broken_at (is_short t.now (groups_of groups.now))
         (first_place (is_of 0) (rows_of rows.now))) }
 {
-    let values = table_amounts(alloc, Quantity::Greatest, t, groups, order)?;
+    let values = table_amounts(alloc, Quantity::Greatest, t, made, groups, order)?;
     if known(values.as_slice(), 0) <= MOST_BYTES {
         return Ok(None);
     }
@@ -110,21 +120,24 @@ fn bytes_place(
 fn amount_fault(
     alloc: Global,
     t: &Tables,
+    made: &ByBlock<Length>,
     groups: &[Vec<Row>],
     rows: &[Row],
     order: &[usize],
 ) -> Result<Option<LateFault>, AllocError>
-    requires { IsOrder (graph (groups_of groups.now)) order.now }
+    requires groups { AreMeasuredGroups t.now made.now groups.now }
+    requires rows { AreMeasured t.now made.now rows.now }
+    requires order { IsOrder (graph (groups_of groups.now)) order.now }
     ensures { IfOk result (λ fault. fault
         ≡ first_fault (amount_rules t.now (groups_of groups.now) (rows_of rows.now))) }
 {
-    if let Some(place) = empty_place(alloc, t, groups, rows, order)? {
+    if let Some(place) = empty_place(alloc, t, made, groups, rows, order)? {
         return Ok(Some(LateFault { rule: 35, place }));
     }
-    if let Some(place) = nodes_place(alloc, t, groups, rows, order)? {
+    if let Some(place) = nodes_place(alloc, t, made, groups, rows, order)? {
         return Ok(Some(LateFault { rule: 36, place }));
     }
-    if let Some(place) = bytes_place(alloc, t, groups, rows, order)? {
+    if let Some(place) = bytes_place(alloc, t, made, groups, rows, order)? {
         return Ok(Some(LateFault { rule: 37, place }));
     }
     Ok(None)
@@ -134,10 +147,13 @@ fn amount_fault(
 fn reaching_fault(
     alloc: Global,
     t: &Tables,
+    made: &ByBlock<Length>,
     groups: &[Vec<Row>],
     rows: &[Row],
 ) -> Result<Option<LateFault>, AllocError>
-    requires { groups_of groups.now ≡ spec.groups (length t.now.tables) (rows_of rows.now) }
+    requires groups { AreMeasuredGroups t.now made.now groups.now }
+    requires rows { AreMeasured t.now made.now rows.now }
+    requires grouped { groups_of groups.now ≡ spec.groups (length t.now.tables) (rows_of rows.now) }
     ensures { IfOk result (λ fault. fault ≡ first_fault
         ((34, reaching_place (groups_of groups.now) (rows_of rows.now))
         ∷ amount_rules t.now (groups_of groups.now) (rows_of rows.now))) }
@@ -147,18 +163,19 @@ fn reaching_fault(
     if let Some(place) = first_reaching(levels.reaching.as_slice(), rows) {
         return Ok(Some(LateFault { rule: 34, place }));
     }
-    let fault = amount_fault(alloc, t, groups, rows, levels.order.as_slice())?;
+    let fault = amount_fault(alloc, t, made, groups, rows, levels.order.as_slice())?;
     Ok(fault)
 }
 
 /// The first broken rule from 32 to 37 of the tables of a text, with its place, and `None` where all
-/// hold. `constructors` are those of `t` as they are written, in the same order. The only error is
-/// want of memory.
+/// hold. `constructors` are those of `t` as they are written, in the same order. The pattern of a
+/// block is walked once for all constructors inside. The only error is want of memory.
 pub fn judge_tables<'s, 'a>(
     alloc: Global,
     t: &Tables<'a>,
     constructors: &[Unfolded<'s, 'a>],
 ) -> Result<Option<LateFault>, AllocError>
+    requires { AreNumbered constructors.now }
     ensures { IfOk result (λ fault. fault ≡ late_fault t.now (all_placed constructors.now)) }
 {
     let rows = all_rows(alloc, t.constructors.as_slice(), constructors)?;
@@ -166,6 +183,7 @@ pub fn judge_tables<'s, 'a>(
         return Ok(Some(fault));
     }
     let groups = grouped(alloc, t.tables.len(), rows.as_slice())?;
-    let fault = reaching_fault(alloc, t, groups.as_slice(), rows.as_slice())?;
+    let made = block_lengths(alloc, t, constructors)?;
+    let fault = reaching_fault(alloc, t, &made, groups.as_slice(), rows.as_slice())?;
     Ok(fault)
 }

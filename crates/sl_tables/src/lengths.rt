@@ -1,19 +1,22 @@
 //! How many bytes patterns have.
 
-ghost use Rattle.std.specs.Prelude.{◌≡◌, ◌≤◌, ◌/◌, min, get_or, option_copied};
+ghost use Rattle.std.specs.Prelude.{◌≡◌, ◌≤◌, ◌/◌, ◌∷◌, [], min, get_or, option_copied};
 ghost use Rattle.sl_ast.specs.Views.{constructor_of, head_of, pattern_of};
 ghost use Rattle.sl_spec.specs.FieldValues.{token_of};
 ghost use Rattle.sl_spec.specs.Named.{named};
+ghost use Rattle.sl_spec.specs.Numbers.{AreMadeFor};
+ghost use Rattle.sl_tables.specs.BlockLengths.{IsLengthOf, IsMeasured};
 ghost use Rattle.sl_tables.specs.Lengths.{field_bytes, joined_bytes, means_bytes, operand_bytes};
 ghost use Rattle.sl_tables.specs.Lengths.{pattern_bytes, row_bytes, token_bytes};
 ghost use Rattle.sl_tables.specs.Heads.{head_bytes, heads_bytes};
 ghost use Rattle.sl_tables.specs.Views.{row_of};
 ghost use Rattle.sl_spec.specs.Unfolded.{heads_of};
 
+use crate::block_lengths::{Length, length_bytes};
 use crate::rows::{Row, number};
 use sl_ast::constructors::Head;
 use sl_ast::patterns::{Pattern, PatternOp};
-use sl_spec::{Around, Field, Means, Operand, Tables, Token};
+use sl_spec::{Around, ByBlock, Field, Means, Operand, Tables, Token};
 
 /// One more than each limit: numbers above it needn't be told apart.
 const ENOUGH: usize = 1025;
@@ -46,7 +49,7 @@ fn field_bytes(t: &Tables, field: &Field) -> usize
 }
 
 /// The bytes of the field of this name.
-fn constraint_bytes(t: &Tables, name: &[u8]) -> usize
+pub fn constraint_bytes(t: &Tables, name: &[u8]) -> usize
     ensures { result ≡ field_bytes t.now (named (λ f. f.name) name.now t.now.fields) }
 {
     match t.fields.get(name) {
@@ -87,7 +90,7 @@ fn operand<'x, 'a>(operands: &'x [Operand<'a>], name: &[u8]) -> Option<&'x Opera
 }
 
 /// The bytes of the operand of a name.
-fn operand_bytes(t: &Tables, values: &[usize], operands: &[Operand], name: &[u8]) -> usize
+pub fn operand_bytes(t: &Tables, values: &[usize], operands: &[Operand], name: &[u8]) -> usize
     ensures { result ≡ operand_bytes t.now (λ u. get_or values.now u 0)
         (named (λ o. o.name) name.now operands.now) }
 {
@@ -98,7 +101,7 @@ fn operand_bytes(t: &Tables, values: &[usize], operands: &[Operand], name: &[u8]
 }
 
 /// The bytes of two patterns that are joined.
-fn joined_bytes(op: PatternOp, left: usize, right: usize) -> usize
+pub fn joined_bytes(op: PatternOp, left: usize, right: usize) -> usize
     requires left { left ≤ 1025 }
     requires right { right ≤ 1025 }
     ensures { result ≡ min (joined_bytes op left right) 1025 }
@@ -140,21 +143,48 @@ fn head_bytes(t: &Tables, values: &[usize], operands: &[Operand], head: &Head) -
     }
 }
 
+/// The bytes of the pattern of a block's head, by what was made of the block.
+fn block_bytes(
+    t: &Tables,
+    made: &ByBlock<Length>,
+    values: &[usize],
+    operands: &[Operand],
+    block: &Around,
+) -> usize
+    requires { AreMadeFor (IsLengthOf t.now) (block.now ∷ []) made.now }
+    ensures { result ≡ min (head_bytes t.now (λ u. get_or values.now u 0) operands.now
+        (head_of block.now.head.now)) 1025 }
+{
+    match made.get(block.number) {
+        Some(length) => length_bytes(t, values, operands, length),
+        None => head_bytes(t, values, operands, block.head),
+    }
+}
+
 /// The greatest number of bytes of the patterns of blocks' heads.
-fn heads_bytes(t: &Tables, values: &[usize], operands: &[Operand], heads: &[Around]) -> usize
+fn heads_bytes(
+    t: &Tables,
+    made: &ByBlock<Length>,
+    values: &[usize],
+    operands: &[Operand],
+    heads: &[Around],
+) -> usize
+    requires { AreMadeFor (IsLengthOf t.now) heads.now made.now }
     ensures { result ≡ min (heads_bytes t.now (λ u. get_or values.now u 0) operands.now
         (heads_of heads.now)) 1025 }
 {
     let mut most = 0;
     'heads: for index in 0..heads.len() {
-        let bytes = head_bytes(t, values, operands, heads[index].head);
+        let block = heads[index];
+        let bytes = block_bytes(t, made, values, operands, &block);
         most = capped(bytes.max(most));
     }
     most
 }
 
 /// The bytes of a constructor.
-pub fn row_bytes(t: &Tables, values: &[usize], row: &Row) -> usize
+pub fn row_bytes(t: &Tables, made: &ByBlock<Length>, values: &[usize], row: &Row) -> usize
+    requires { IsMeasured t.now made.now row.now }
     ensures { result ≡ min (row_bytes t.now (λ u. get_or values.now u 0) (row_of row.now)) 1025 }
 {
     let ctor = row.ctor;
@@ -162,5 +192,5 @@ pub fn row_bytes(t: &Tables, values: &[usize], row: &Row) -> usize
     let own = row.own;
     let constructor = own.own;
     let inner = pattern_bytes(t, values, operands, &constructor.pattern);
-    capped(inner.max(heads_bytes(t, values, operands, own.heads.as_slice())))
+    capped(inner.max(heads_bytes(t, made, values, operands, own.heads.as_slice())))
 }

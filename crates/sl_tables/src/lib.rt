@@ -2,6 +2,7 @@
 //! `instruction`, tables that reach themselves, and the lengths and nodes of instructions.
 #![tactic(auto)]
 
+mod block_lengths;
 mod faults;
 mod judge;
 mod lengths;

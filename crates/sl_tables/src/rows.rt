@@ -1,10 +1,13 @@
 //! The constructors of each table, and the tables that they name.
 
-ghost use Rattle.std.specs.Prelude.{◌≡◌, ◌++◌, ◌∷◌, [], length, replicate, set, IfOk, OnOk};
+ghost use Rattle.std.specs.Prelude.{◌≡◌, ◌++◌, ◌∷◌, [], ℕ, length, replicate, set, IfOk, OnOk};
 ghost use Rattle.std.specs.List.{zip};
 ghost use Rattle.sl_levels.specs.Views.{graph_of};
 ghost use Rattle.sl_rules.specs.Gathered.{gathered};
+ghost use Rattle.sl_ast.specs.Trees.{Head};
+ghost use Rattle.sl_spec.specs.Numbers.{AreToldOf};
 ghost use Rattle.sl_spec.specs.Unfolded.{all_placed};
+ghost use Rattle.sl_tables.specs.BlockLengths.{AreToldGroups, AreToldRows};
 ghost use Rattle.sl_tables.specs.Rows.{graph, group, groups, table_of, tables_in, tables_of};
 ghost use Rattle.sl_tables.specs.Views.{groups_of, row_of, rows_of};
 
@@ -31,8 +34,10 @@ pub fn all_rows<'x, 's: 'x, 'a: 's>(
     ctors: &'x [Ctor<'a>],
     constructors: &'x [Unfolded<'s, 'a>],
 ) -> Result<Vec<Row<'x, 's, 'a>>, AllocError>
-    ensures { IfOk result (λ all. rows_of all.items
+    ensures all { IfOk result (λ all. rows_of all.items
         ≡ zip ctors.now (all_placed constructors.now)) }
+    ensures told { IfOk result (λ all. (head_at : ℕ → Head) → AreToldOf head_at constructors.now
+        → AreToldRows head_at all.items) }
 {
     let mut all = Vec::new(alloc);
     'ctors: for index in 0..ctors.len().min(constructors.len()) {
@@ -111,9 +116,11 @@ fn add_to_group<'x, 's: 'x, 'a: 's>(
     groups: &mut Vec<Vec<Row<'x, 's, 'a>>>,
     row: Row<'x, 's, 'a>,
 ) -> Result<(), AllocError>
-    ensures { OnOk result (groups_of groups.new.items
+    ensures added { OnOk result (groups_of groups.new.items
         ≡ set (groups_of groups.old.items) row.entry.ctor.now.table
         (group (groups_of groups.old.items) row.entry.ctor.now.table ++ row_of row.entry ∷ [])) }
+    ensures told { OnOk result ((head_at : ℕ → Head) → AreToldGroups head_at groups.old.items
+        → AreToldRows head_at (row.entry ∷ []) → AreToldGroups head_at groups.new.items) }
 {
     let ctor = row.ctor;
     let table = number(ctor.table);
@@ -129,7 +136,9 @@ pub fn grouped<'x, 's: 'x, 'a: 's>(
     count: usize,
     rows: &[Row<'x, 's, 'a>],
 ) -> Result<Vec<Vec<Row<'x, 's, 'a>>>, AllocError>
-    ensures { IfOk result (λ all. groups_of all.items ≡ groups count (rows_of rows.now)) }
+    ensures all { IfOk result (λ all. groups_of all.items ≡ groups count (rows_of rows.now)) }
+    ensures told { IfOk result (λ all. (head_at : ℕ → Head) → AreToldRows head_at rows.now
+        → AreToldGroups head_at all.items) }
 {
     let mut all = Vec::new(alloc);
     add_empty(alloc, count, &mut all)?;

@@ -2,15 +2,17 @@
 
 ghost use Rattle.std.specs.Prelude.{◌≡◌, ◌==◌, ◌&&◌, false, get_or, min, option_copied, slice_get};
 ghost use Rattle.std.specs.List.{list_any};
+ghost use Rattle.sl_tables.specs.BlockLengths.{AreMeasured, IsMeasured};
 ghost use Rattle.sl_tables.specs.Lengths.{row_bytes};
 ghost use Rattle.sl_tables.specs.Rows.{is_of};
 ghost use Rattle.sl_tables.specs.TableRules.{first_place, has_default, has_instruction, past_most};
 ghost use Rattle.sl_tables.specs.Views.{row_of, rows_of};
 
+use crate::block_lengths::Length;
 use crate::faults::Place;
 use crate::lengths::row_bytes;
 use crate::rows::{Row, number};
-use sl_spec::Tables;
+use sl_spec::{ByBlock, Tables};
 
 /// How many constructors there may be.
 const MOST_CONSTRUCTORS: usize = 65_535;
@@ -118,21 +120,28 @@ pub fn first_reaching(told: &[bool], rows: &[Row]) -> Option<Place>
 }
 
 /// Whether a constructor is one of `instruction` and has no byte.
-fn is_empty(t: &Tables, values: &[usize], row: &Row) -> bool
+fn is_empty(t: &Tables, made: &ByBlock<Length>, values: &[usize], row: &Row) -> bool
+    requires { IsMeasured t.now made.now row.now }
     ensures { result ≡ (is_of 0 (row_of row.now)
         && (min (row_bytes t.now (λ u. get_or values.now u 0) (row_of row.now)) 1025 == 0)) }
 {
-    is_of_instruction(row) && row_bytes(t, values, row) == 0
+    is_of_instruction(row) && row_bytes(t, made, values, row) == 0
 }
 
 /// Rule 35: the place of the first constructor of `instruction` that may have no byte.
-pub fn first_empty(t: &Tables, values: &[usize], rows: &[Row]) -> Option<Place>
+pub fn first_empty(
+    t: &Tables,
+    made: &ByBlock<Length>,
+    values: &[usize],
+    rows: &[Row],
+) -> Option<Place>
+    requires { AreMeasured t.now made.now rows.now }
     ensures { result ≡ first_place (λ r. is_of 0 r
         && (min (row_bytes t.now (λ u. get_or values.now u 0) r) 1025 == 0)) (rows_of rows.now) }
 {
     'rows: for index in 0..rows.len() {
         let row = rows[index];
-        if is_empty(t, values, &row) {
+        if is_empty(t, made, values, &row) {
             return Some(place(&row));
         }
     }

@@ -1,15 +1,21 @@
-use Rattle.std.proofs.Common.{◌≡◌, ℕ, get_or, map, max, min, sym, ap, ◌∙◌, arith}
+use Rattle.std.proofs.Common.{◌≡◌, ℕ, get_or, map, max, min, arith}
 use Rattle.sl_rules.proofs.Seen.{below_map, seen_map}
 use Rattle.sl_ast.specs.Trees.{Head}
 use Rattle.sl_ast.specs.Views.{head_of}
 use Rattle.sl_spec.specs.Unfolded.{heads_of}
 use Rattle.sl_spec.specs.declared.unfolded.Around.{Around}
 use Rattle.sl_tables.specs.Heads.{head_bytes}
+use Rattle.sl_tables.proofs.BlockLemmas.{all_at}
 use Rattle.sl_tables.proofs.CapLemmas.{max_keeps, one_together}
 use Rattle.sl_tables.proofs.lengths.heads_bytes.Goals as goal
 
 abbrev seen : Around → Head
 seen a = head_of a.head.now
+
+pub block_bytes-bytes-requires : goal.block_bytes-bytes-requires
+block_bytes-bytes-requires c =
+    let tells : Around → Type 0 = λ a. c.requires.0 a.number ≡ head_of a.head.now in
+    (c.requires.0, (all_at tells c.args.heads.now c.heads.index c.index-heads-index.result c.requires.1 c.heads-test.true c.index-heads-index.is, tt), c.requires.2)
 
 pub heads-preserved : goal.heads-preserved
 heads-preserved c =
@@ -20,12 +26,12 @@ heads-preserved c =
     let h = c.index-heads-index.result in
     let below = c.heads-test.true in
     let n = bytes (seen h) in
-    let is_k : c.head_bytes-bytes.result ≡ min n 1025 = c.head_bytes-bytes.ensures ∙ ap (λ (a : Around). min (bytes (seen a)) 1025) (sym c.index-heads-index.is) in
+    let is_k : c.block_bytes-bytes.result ≡ min n 1025 = c.block_bytes-bytes.ensures in
     let m = c.max.ensures in
     let k = c.capped-most.ensures in
     record {
       small = omega arith;
-      alike = one_together 1025 max (max_keeps 1025) _ c.heads.most c.capped-most.result n c.head_bytes-bytes.result (map bytes (heads_of hs)) i
+      alike = one_together 1025 max (max_keeps 1025) _ c.heads.most c.capped-most.result n c.block_bytes-bytes.result (map bytes (heads_of hs)) i
           (below_map bytes (heads_of hs) i (below_map seen hs i below)) (seen_map bytes (heads_of hs) i (seen h) (below_map seen hs i below) (seen_map seen hs i h below c.index-heads-index.is))
           is_k (omega arith) c.heads.invariant.alike;
     }

@@ -1,11 +1,19 @@
 use Rattle.std.proofs.Common.{◌==◌, ◌&&◌, Bool, ap, sym, ◌∙◌, get_or, min, Some}
 use Rattle.sl_rules.proofs.Seen.{below_map, past_map, seen_map}
+use Rattle.sl_spec.specs.Numbers.{AreTold}
 use Rattle.sl_tables.specs.Lengths.{row_bytes}
 use Rattle.sl_tables.specs.Rows as spec
 use Rattle.sl_tables.specs.Rows.{is_of}
 use Rattle.sl_tables.specs.Views.{row_of, rows_of}
+use Rattle.sl_tables.specs.declared.rows.Row.{Row}
+use Rattle.sl_tables.proofs.BlockLemmas.{all_at}
 use Rattle.sl_tables.proofs.RuleLemmas.{found_here, found_later, found_nowhere}
 use Rattle.sl_tables.proofs.rules.first_empty.Goals as goal
+
+pub is_empty-requires : goal.is_empty-requires
+is_empty-requires c =
+    let m = c.requires in
+    (m.0, all_at (λ (x : Row). AreTold m.0 x.own.now.heads.items) c.args.rows.now c.rows.index c.index-rows-index.result m.1 c.rows-test.true c.index-rows-index.is, m.2)
 
 pub rows-preserved : goal.rows-preserved
 rows-preserved c =
