@@ -1,5 +1,7 @@
 pub mod BlockLemmas
 pub mod DisplayLemmas
+pub mod FactLemmas
+pub mod MadeLemmas
 pub mod MemberLemmas
 pub mod NumberLemmas
 pub mod OperandLemmas

@@ -3,25 +3,22 @@ use Rattle.std.proofs.Common.{◌≡◌, ◌+◌, ◌<◌, ◌≤◌, ℕ, zero,
 use Rattle.std.specs.Prelude.{unwrap_or}
 use Rattle.std.proofs.lemmas.List.{drop_more}
 use Rattle.std.proofs.Math.ListN.{drop_of_length-le}
-use Rattle.sl_rules.specs.Gathered.{gathered}
 use Rattle.sl_rules.specs.Names.{Name}
 use Rattle.sl_spec.specs.Tables.{Operand}
 use Rattle.sl_spec.specs.declared.constructors.Means.TheVariants as means
 use Rattle.sl_parts.specs.Parts.{Part}
 use Rattle.sl_constructors.specs.Operands.{action_operands, bare_names, is_operand}
 
--- the bare names of a part
-abbrev pub bare_of : Part → List Name
-bare_of p = bare_names (p ∷ [])
-
 more_by : (b : Bool) (p : Part) (ps : List Part) → map (λ (q : Part). q.name) (cond b (p ∷ filter is_operand ps) (filter is_operand ps)) ≡ map (λ (q : Part). q.name) (cond b (p ∷ []) []) ++ bare_names ps
 more_by true p ps = refl
 more_by false p ps = refl
 
-pub bare_gathered : (ps : List Part) → gathered bare_of ps ≡ bare_names ps
-unfolding gathered
-bare_gathered [] = refl
-bare_gathered (p ∷ ps) = ap (λ (ns : List Name). bare_of p ++ ns) (bare_gathered ps) ∙ sym (more_by (is_operand p) p ps)
+pub bare_append : (ps qs : List Part) → bare_names (ps ++ qs) ≡ bare_names ps ++ bare_names qs
+bare_append [] qs = refl
+bare_append (p ∷ ps) qs =
+    more_by (is_operand p) p (ps ++ qs) ∙ ap (λ (ns : List Name). bare_names (p ∷ []) ++ ns) (bare_append ps qs)
+    ∙ sym (append_assoc (bare_names (p ∷ [])) (bare_names ps) (bare_names qs))
+    ∙ ap (λ (ns : List Name). ns ++ bare_names qs) (sym (more_by (is_operand p) p ps))
 
 got : {X : Type 0} (xs : List X) (i : ℕ) (x : X) → slice_get xs i ≡ Some x → get_or xs i x ≡ x
 got [] i x is = absurd (cc)

@@ -2,6 +2,8 @@ pub mod Blocks
 pub mod ConstraintValues
 pub mod ConstructorRules
 pub mod Displays
+pub mod FactSteps
+pub mod Facts
 pub mod Laws
 pub mod Listed
 pub mod Operands

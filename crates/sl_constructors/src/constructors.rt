@@ -2,23 +2,28 @@
 
 ghost use Rattle.std.specs.Prelude.{◌≡◌, OnOk, IfOk};
 ghost use Rattle.sl_rules.specs.Demands.{Gives, first_broken};
+ghost use Rattle.sl_actions.specs.ActionRules.{action_demands};
 ghost use Rattle.sl_actions.specs.SeenActions.{seen_actions};
 ghost use Rattle.sl_constructors.specs.ConstructorRules.{is_of_root, may_begin, shows_operands};
-ghost use Rattle.sl_constructors.specs.Steps.{added, constructor_step, demands, operands_of};
-ghost use Rattle.sl_constructors.specs.Steps.{pattern_demands, with_ctor};
+ghost use Rattle.sl_constructors.specs.FactSteps.{demands_by, demands_with, operands_with};
+ghost use Rattle.sl_constructors.specs.FactSteps.{step_with};
+ghost use Rattle.sl_constructors.specs.Facts.{AreOfHead};
+ghost use Rattle.sl_constructors.specs.Steps.{added, constructor_step, with_ctor};
 ghost use Rattle.sl_constructors.specs.WholeText.{table_name};
+ghost use Rattle.sl_parts.specs.Parts.{parts_of};
+ghost use Rattle.sl_spec.specs.Numbers.{AreMadeFor, KeepsMade};
 ghost use Rattle.sl_spec.specs.Unfolded.{placed};
 
-use crate::constraints::all_have_values;
 use crate::displays::shows_operands;
-use crate::operands::{bare_names, operand_names, operands, small, table_number};
-use crate::patterns::{all_allowed_there, all_known, are_few};
+use crate::facts::{PatternFacts, facts_of_unfolded};
+use crate::operands::{operand_names, operands, small, table_number};
+use crate::patterns::are_few;
 use crate::whole_text::table_name;
 use sl_actions::{ActionRef, action_names, actions_of_unfolded, judge_actions};
 use sl_definitions::is_new;
-use sl_parts::{Part, parts_of};
+use sl_parts::parts_of;
 use sl_rules::{Fault, NameSet};
-use sl_spec::{Ctor, CtorId, Named, Operand, Table, TableId, Tables, Unfolded};
+use sl_spec::{ByBlock, Ctor, CtorId, Named, Operand, Table, TableId, Tables, Unfolded};
 use std::alloc::{AllocError, Global};
 
 /// Rule 3, of a table: it has a constructor before, or its name is new.
@@ -44,48 +49,68 @@ fn shows<'s, 'a>(t: &Tables<'a>, of: &Unfolded<'s, 'a>, names: &NameSet<'a>, tab
     shows_operands(t, names, is_of_root(table), own.display.as_slice())
 }
 
-/// The first rule that a pattern or its actions break.
+/// The first rule that the actions of a constructor break. The parts of its pattern are made for
+/// actions alone.
+#[tactic(auto, unfolding(sl_actions::specs::ActionRules::each_holds))]
+fn broken_in_actions<'s, 'a>(
+    alloc: Global,
+    tables: &Named<'a, Table<'a>>,
+    t: &Tables<'a>,
+    of: &Unfolded<'s, 'a>,
+    actions: &[ActionRef<'s, 'a>],
+) -> Result<Option<u8>, AllocError>
+    ensures { IfOk result (λ broken. broken ≡ first_broken
+        (action_demands tables.now t.now (parts_of tables.now (placed of.now).1.pattern)
+        (seen_actions actions.now))) }
+{
+    if actions.is_empty() {
+        return Ok(None);
+    }
+    let parts = parts_of(alloc, tables, of)?;
+    judge_actions(alloc, tables, t, parts.as_slice(), actions)
+}
+
+/// The first rule that a pattern or its actions break, by what is said of the pattern.
 fn broken_in_pattern<'s, 'a>(
     alloc: Global,
     tables: &Named<'a, Table<'a>>,
     t: &Tables<'a>,
     of: &Unfolded<'s, 'a>,
-    parts: &[Part<'a>],
+    facts: &PatternFacts<'a>,
     names: &NameSet<'a>,
     actions: &[ActionRef<'s, 'a>],
 ) -> Result<Option<u8>, AllocError>
-    ensures { IfOk result (λ broken. broken ≡ first_broken
-        (pattern_demands tables.now t.now (placed of.now).1.pattern parts.now names.now
-        (seen_actions actions.now))) }
+    ensures { IfOk result (λ broken. broken ≡ first_broken (demands_by facts.now names.now
+        (action_demands tables.now t.now (parts_of tables.now (placed of.now).1.pattern)
+        (seen_actions actions.now)))) }
 {
-    if !all_known(&t.fields, tables, parts) {
+    if !facts.known {
         return Ok(Some(17));
     }
-    let bare = bare_names(alloc, parts)?;
-    if !are_few(alloc, bare.as_slice(), names)? {
+    if !are_few(alloc, facts.bare.as_slice(), names)? {
         return Ok(Some(18));
     }
-    if !all_allowed_there(parts) {
+    if !facts.allowed {
         return Ok(Some(19));
     }
-    if !all_have_values(of) {
+    if !facts.valued {
         return Ok(Some(20));
     }
-    judge_actions(alloc, tables, t, parts, actions)
+    broken_in_actions(alloc, tables, t, of, actions)
 }
 
-/// The first rule that a constructor breaks.
+/// The first rule that a constructor breaks, by what is said of its pattern.
 fn broken<'s, 'a>(
     alloc: Global,
     tables: &Named<'a, Table<'a>>,
     t: &Tables<'a>,
     of: &Unfolded<'s, 'a>,
-    parts: &[Part<'a>],
+    facts: &PatternFacts<'a>,
     names: &NameSet<'a>,
     actions: &[ActionRef<'s, 'a>],
 ) -> Result<Option<u8>, AllocError>
     ensures { IfOk result (λ broken. broken ≡ first_broken
-        (demands tables.now t.now (placed of.now).1 parts.now names.now
+        (demands_with tables.now t.now (placed of.now).1 facts.now names.now
         (seen_actions actions.now))) }
 {
     let table = table_name(of);
@@ -95,24 +120,22 @@ fn broken<'s, 'a>(
     if !shows(t, of, names, table) {
         return Ok(Some(16));
     }
-    broken_in_pattern(alloc, tables, t, of, parts, names, actions)
+    broken_in_pattern(alloc, tables, t, of, facts, names, actions)
 }
 
-/// The operands of a constructor, by the parts of its pattern and its actions.
+/// The operands of a constructor, by the bare names of its pattern and its actions.
 fn operands_of<'s, 'a>(
     alloc: Global,
     tables: &Named<'a, Table<'a>>,
     t: &Tables<'a>,
-    parts: &[Part<'a>],
+    facts: &PatternFacts<'a>,
     actions: &[ActionRef<'s, 'a>],
 ) -> Result<Vec<Operand<'a>>, AllocError>
     ensures { IfOk result (λ all. all.items
-        ≡ operands_of tables.now t.now parts.now (seen_actions actions.now)) }
+        ≡ operands_with tables.now t.now facts.now (seen_actions actions.now)) }
 {
-    let bare = bare_names(alloc, parts)?;
     let given = action_names(alloc, t, actions)?;
-    let all = operands(alloc, &t.fields, tables, bare.as_slice(), &given)?;
-    Ok(all)
+    operands(alloc, &t.fields, tables, facts.bare.as_slice(), &given)
 }
 
 /// Adds a constructor to a table.
@@ -151,32 +174,46 @@ fn add_with<'s, 'a>(
     add(alloc, t, name, added)
 }
 
-/// Defines a constructor (SLEIGH manual, "Constructors"). `tables` are all tables of the text.
-pub fn define_constructor<'s, 'a>(
+/// Adds a constructor whose pattern is known by what is said of it, or tells the first rule that it
+/// breaks.
+fn define_by<'s, 'a>(
     alloc: Global,
     tables: &Named<'a, Table<'a>>,
     t: &mut Tables<'a>,
     of: &Unfolded<'s, 'a>,
+    facts: &PatternFacts<'a>,
 ) -> Result<(), Fault>
     ensures { Gives (λ _. t.new) result
-        (constructor_step tables.now t.old (placed of.now).0 (placed of.now).1) }
+        (step_with tables.now t.old (placed of.now).0 (placed of.now).1 facts.now) }
 {
-    let parts = parts_of(alloc, tables, of)?;
     let actions = actions_of_unfolded(alloc, of)?;
-    let operands = operands_of(alloc, tables, t, parts.as_slice(), actions.as_slice())?;
+    let operands = operands_of(alloc, tables, t, facts, actions.as_slice())?;
     let names = operand_names(alloc, operands.as_slice())?;
-    let broken = broken(
-        alloc,
-        tables,
-        t,
-        of,
-        parts.as_slice(),
-        &names,
-        actions.as_slice(),
-    )?;
+    let broken = broken(alloc, tables, t, of, facts, &names, actions.as_slice())?;
     if let Some(rule) = broken {
         return Err(Fault::Rule(rule));
     }
     add_with(alloc, tables, t, of, operands)?;
     Ok(())
+}
+
+/// Defines a constructor (SLEIGH manual, "Constructors"). `tables` are all tables of the text.
+/// `made` is what rules 17 to 20 say of the patterns of blocks, as long as no field is defined: of a
+/// block it is made once, and all constructors inside are judged by it. The actions of a constructor
+/// are judged with those of the blocks round it, by the names of the whole pattern.
+pub fn define_constructor<'s, 'a>(
+    alloc: Global,
+    tables: &Named<'a, Table<'a>>,
+    t: &mut Tables<'a>,
+    of: &Unfolded<'s, 'a>,
+    made: &mut ByBlock<PatternFacts<'a>>,
+) -> Result<(), Fault>
+    requires { AreMadeFor (AreOfHead t.old.fields tables.now) of.now.heads.items made.old }
+    ensures gives { Gives (λ _. t.new) result
+        (constructor_step tables.now t.old (placed of.now).0 (placed of.now).1) }
+    ensures kept { IfOk result (λ _.
+        KeepsMade (AreOfHead t.old.fields tables.now) of.now.heads.items made.old made.new) }
+{
+    let facts = facts_of_unfolded(alloc, &t.fields, tables, of, made)?;
+    define_by(alloc, tables, t, of, &facts)
 }

@@ -4,6 +4,7 @@
 mod constraints;
 mod constructors;
 mod displays;
+mod facts;
 mod laws;
 mod operands;
 mod patterns;
@@ -12,5 +13,6 @@ mod whole_text;
 pub use constraints::constraint_value;
 pub use constructors::define_constructor;
 pub use displays::{blanks, is_blank, is_literal};
+pub use facts::PatternFacts;
 pub use laws::tables_stand_in_order;
 pub use whole_text::{all_tables, table_name};

@@ -27,7 +27,7 @@ fn is_operand(part: &Part) -> bool
 }
 
 /// Adds the name of a part, if it is bare and not `epsilon`.
-fn add_bare<'a>(names: &mut Vec<&'a [u8]>, part: &Part<'a>) -> Result<(), AllocError>
+pub fn add_bare<'a>(names: &mut Vec<&'a [u8]>, part: &Part<'a>) -> Result<(), AllocError>
     ensures { OnOk result (map (λ n. n.now) names.new.items
         ≡ map (λ n. n.now) names.old.items ++ bare_names (part.now ∷ [])) }
 {
@@ -35,17 +35,6 @@ fn add_bare<'a>(names: &mut Vec<&'a [u8]>, part: &Part<'a>) -> Result<(), AllocE
         names.push(part.name)?;
     }
     Ok(())
-}
-
-/// The bare names of a pattern but `epsilon`.
-pub fn bare_names<'a>(alloc: Global, parts: &[Part<'a>]) -> Result<Vec<&'a [u8]>, AllocError>
-    ensures { IfOk result (λ names. map (λ n. n.now) names.items ≡ bare_names parts.now) }
-{
-    let mut names = Vec::new(alloc);
-    'parts: for index in 0..parts.len() {
-        add_bare(&mut names, &parts[index])?;
-    }
-    Ok(names)
 }
 
 /// A number of 32 bits. One that is larger would be want of memory.

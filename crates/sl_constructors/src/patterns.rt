@@ -1,7 +1,6 @@
 //! Names of patterns: rules 17 to 19.
 
 ghost use Rattle.std.specs.Prelude.{◌≡◌, IfOk, map};
-ghost use Rattle.std.specs.List.{list_all};
 ghost use Rattle.sl_constructors.specs.ConstructorRules.{are_few, is_allowed_there, is_known};
 ghost use Rattle.sl_constructors.specs.ConstructorRules as spec;
 
@@ -12,21 +11,14 @@ use sl_spec::{Field, Named, Table};
 use std::alloc::{AllocError, Global};
 
 /// Rule 17, of one name: a constrained one is a field, a bare one a field, a table or `epsilon`.
-fn is_known<'a>(fields: &Named<'a, Field<'a>>, tables: &Named<'a, Table<'a>>, part: &Part) -> bool
+pub fn is_known<'a>(
+    fields: &Named<'a, Field<'a>>,
+    tables: &Named<'a, Table<'a>>,
+    part: &Part,
+) -> bool
     ensures { result ≡ is_known fields.now tables.now part.now }
 {
     fields.has(part.name) || (part.bare && (is_table(tables, part.name) || is_epsilon(part.name)))
-}
-
-/// Rule 17.
-pub fn all_known<'a>(
-    fields: &Named<'a, Field<'a>>,
-    tables: &Named<'a, Table<'a>>,
-    parts: &[Part],
-) -> bool
-    ensures { result ≡ list_all (is_known fields.now tables.now) parts.now }
-{
-    parts.iter().all(|part| is_known(fields, tables, part))
 }
 
 /// How many operands a constructor has at most.
@@ -41,15 +33,8 @@ pub fn are_few(alloc: Global, bare: &[&[u8]], names: &NameSet) -> Result<bool, A
 }
 
 /// Rule 19, of one name: inside `|` it isn't bare, unless it is `epsilon`.
-fn is_allowed_there(part: &Part) -> bool
+pub fn is_allowed_there(part: &Part) -> bool
     ensures { result ≡ is_allowed_there part.now }
 {
     !part.in_choice || (!part.bare || is_epsilon(part.name))
-}
-
-/// Rule 19.
-pub fn all_allowed_there(parts: &[Part]) -> bool
-    ensures { result ≡ list_all is_allowed_there parts.now }
-{
-    parts.iter().all(|part| is_allowed_there(part))
 }
