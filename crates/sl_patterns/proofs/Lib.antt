@@ -1,4 +1,5 @@
 pub mod CountLemmas
+pub mod HeadLemmas
 pub mod HullLemmas
 pub mod LawLemmas
 pub mod UnionLemmas

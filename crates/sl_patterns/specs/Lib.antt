@@ -1,4 +1,5 @@
 pub mod Counts
+pub mod Heads
 pub mod Hulls
 pub mod Laws
 pub mod Patterns

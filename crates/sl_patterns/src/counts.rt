@@ -1,16 +1,18 @@
 //! How many cubes patterns may need.
 
-ghost use Rattle.std.specs.Prelude.{◌≡◌, ◌≤◌, ℕ, IfOk};
-ghost use Rattle.sl_ast.specs.Views.{constructor_of, expression_of, pattern_of};
+ghost use Rattle.std.specs.Prelude.{◌≡◌, ◌≤◌, ◌∷◌, [], ℕ, IfOk, Some};
+ghost use Rattle.sl_ast.specs.Views.{constructor_of, expression_of, head_of, pattern_of};
 ghost use Rattle.sl_patterns.specs.Counts.{HasPatternCount, IfCount, IsTold, joined_count};
+ghost use Rattle.sl_patterns.specs.Heads.{IsHeadCount};
 ghost use Rattle.sl_patterns.specs.Patterns.{constraint_of, told};
+ghost use Rattle.sl_spec.specs.Numbers.{AreMadeFor, KeepsMade};
 ghost use Rattle.sl_spec.specs.Unfolded.{heads_of, placed, under};
 
 use crate::constraints::constraint_of;
 use sl_ast::constructors::Constructor;
 use sl_ast::expressions::Expr;
 use sl_ast::patterns::{Pattern, PatternOp, Relation};
-use sl_spec::{Around, Tables, Unfolded};
+use sl_spec::{Around, ByBlock, Tables, Unfolded};
 use std::alloc::{AllocError, Global};
 
 /// A count as it is told.
@@ -74,35 +76,70 @@ pub fn pattern_count(alloc: Global, t: &Tables, of: &Pattern) -> Result<u32, All
     }
 }
 
+/// The count of the pattern of a block, which is made where it isn't there yet.
+fn count_of_block(
+    alloc: Global,
+    t: &Tables,
+    block: &Around,
+    pattern: &Pattern,
+    counts: &mut ByBlock<u32>,
+) -> Result<u32, AllocError>
+    requires its { (head_of block.now.head.now).pattern ≡ Some (pattern_of pattern.now) }
+    requires made { AreMadeFor (IsHeadCount t.now) (block.now ∷ []) counts.old }
+    ensures count { IfOk result (IsTold (HasPatternCount t.now (pattern_of pattern.now))) }
+    ensures kept { IfOk result (λ _.
+        KeepsMade (IsHeadCount t.now) (block.now ∷ []) counts.old counts.new) }
+{
+    if let Some(count) = counts.get(block.number) {
+        return Ok(*count);
+    }
+    let count = pattern_count(alloc, t, pattern)?;
+    counts.put(block.number, count)?;
+    Ok(count)
+}
+
 /// The count of a constructor in its blocks.
 fn count_in_blocks(
     alloc: Global,
     t: &Tables,
     heads: &[Around],
     own: &Constructor,
+    counts: &mut ByBlock<u32>,
 ) -> Result<u32, AllocError>
-    ensures { IfOk result (IsTold (HasPatternCount t.now
+    requires { AreMadeFor (IsHeadCount t.now) heads.now counts.old }
+    ensures count { IfOk result (IsTold (HasPatternCount t.now
         (under (heads_of heads.now) (constructor_of own.now)).pattern)) }
+    ensures kept { IfOk result (λ _.
+        KeepsMade (IsHeadCount t.now) heads.now counts.old counts.new) }
 {
     let Some((first, rest)) = heads.split_first() else {
         let count = pattern_count(alloc, t, &own.pattern)?;
         return Ok(count);
     };
-    let inside = count_in_blocks(alloc, t, rest, own)?;
+    let inside = count_in_blocks(alloc, t, rest, own, counts)?;
     let head = first.head;
     let Some(pattern) = &head.pattern else {
         return Ok(inside);
     };
-    let around = pattern_count(alloc, t, pattern)?;
+    let around = count_of_block(alloc, t, first, pattern, counts)?;
     Ok(joined_count(PatternOp::And, around, inside))
 }
 
 /// How many cubes the pattern of a constructor may need, with the patterns of the blocks round it.
-/// The number stops at 4,294,967,295.
-pub fn constructor_count(alloc: Global, t: &Tables, of: &Unfolded) -> Result<u32, AllocError>
-    ensures { IfOk result (IsTold (HasPatternCount t.now (placed of.now).1.pattern)) }
+/// The number stops at 4,294,967,295. `counts` has those of the blocks' patterns that were made
+/// already, and then of all blocks round this constructor.
+pub fn constructor_count(
+    alloc: Global,
+    t: &Tables,
+    of: &Unfolded,
+    counts: &mut ByBlock<u32>,
+) -> Result<u32, AllocError>
+    requires { AreMadeFor (IsHeadCount t.now) of.now.heads.items counts.old }
+    ensures count { IfOk result (IsTold (HasPatternCount t.now (placed of.now).1.pattern)) }
+    ensures kept { IfOk result (λ _.
+        KeepsMade (IsHeadCount t.now) of.now.heads.items counts.old counts.new) }
 {
     let own = of.own;
-    let count = count_in_blocks(alloc, t, of.heads.as_slice(), own)?;
+    let count = count_in_blocks(alloc, t, of.heads.as_slice(), own, counts)?;
     Ok(count)
 }

@@ -1,12 +1,14 @@
 //! The bytes that patterns look at.
 
-ghost use Rattle.std.specs.Prelude.{◌≡◌, ℕ, Some, IfOk};
-ghost use Rattle.sl_ast.specs.Views.{constructor_of, expression_of, pattern_of};
+ghost use Rattle.std.specs.Prelude.{◌≡◌, ◌∷◌, [], ℕ, Some, IfOk};
+ghost use Rattle.sl_ast.specs.Views.{constructor_of, expression_of, head_of, pattern_of};
 ghost use Rattle.sl_constraints.specs.Windows.{IsEnd};
+ghost use Rattle.sl_patterns.specs.Heads.{IsHeadWindow};
 ghost use Rattle.sl_patterns.specs.Patterns.{constraint_of, told};
 ghost use Rattle.sl_patterns.specs.Views.{reading_of};
 ghost use Rattle.sl_patterns.specs.Windows.{FixesByte, IfConstrains, IsWindow, NameConstrains};
 ghost use Rattle.sl_patterns.specs.Windows.{PatternConstrains, end_from};
+ghost use Rattle.sl_spec.specs.Numbers.{AreMadeFor, KeepsMade};
 ghost use Rattle.sl_spec.specs.Unfolded.{heads_of, placed, under};
 
 use crate::constraints::constraint_of;
@@ -15,7 +17,7 @@ use sl_ast::constructors::Constructor;
 use sl_ast::expressions::Expr;
 use sl_ast::patterns::{Pattern, Relation};
 use sl_cube::Cube;
-use sl_spec::{Around, Tables, Unfolded};
+use sl_spec::{Around, ByBlock, Tables, Unfolded};
 use std::alloc::{AllocError, Global};
 
 /// The bytes up to the last one of which the cube fixes a bit.
@@ -92,37 +94,76 @@ impl<L: Lengths> Reader<'_, '_, L> {
         }
     }
 
+    /// The bytes up to the last one that the pattern of a block looks at, made where they aren't
+    /// there yet.
+    fn window_of_block(
+        &self,
+        alloc: Global,
+        block: &Around,
+        pattern: &Pattern,
+        windows: &mut ByBlock<u32>,
+    ) -> Result<u32, AllocError>
+        requires its { (head_of block.now.head.now).pattern ≡ Some (pattern_of pattern.now) }
+        requires made { AreMadeFor (IsHeadWindow (reading_of L.bytes self.now)) (block.now ∷ [])
+            windows.old }
+        ensures window { IfOk result (IsWindow (PatternConstrains (reading_of L.bytes self.now)
+            (pattern_of pattern.now) 0)) }
+        ensures kept { IfOk result (λ _. KeepsMade (IsHeadWindow (reading_of L.bytes self.now))
+            (block.now ∷ []) windows.old windows.new) }
+    {
+        if let Some(window) = windows.get(block.number) {
+            return Ok(*window);
+        }
+        let window = self.pattern_window(alloc, pattern, 0)?;
+        windows.put(block.number, window)?;
+        Ok(window)
+    }
+
     /// The bytes up to the last one that a constructor in its blocks looks at.
     fn window_in_blocks(
         &self,
         alloc: Global,
         heads: &[Around],
         own: &Constructor,
+        windows: &mut ByBlock<u32>,
     ) -> Result<u32, AllocError>
-        ensures { IfOk result (IsWindow (PatternConstrains (reading_of L.bytes self.now)
+        requires { AreMadeFor (IsHeadWindow (reading_of L.bytes self.now)) heads.now windows.old }
+        ensures window { IfOk result (IsWindow (PatternConstrains (reading_of L.bytes self.now)
             (under (heads_of heads.now) (constructor_of own.now)).pattern 0)) }
+        ensures kept { IfOk result (λ _. KeepsMade (IsHeadWindow (reading_of L.bytes self.now))
+            heads.now windows.old windows.new) }
     {
         let Some((first, rest)) = heads.split_first() else {
             let window = self.pattern_window(alloc, &own.pattern, 0)?;
             return Ok(window);
         };
-        let inside = self.window_in_blocks(alloc, rest, own)?;
+        let inside = self.window_in_blocks(alloc, rest, own, windows)?;
         let head = first.head;
         let Some(pattern) = &head.pattern else {
             return Ok(inside);
         };
-        let around = self.pattern_window(alloc, pattern, 0)?;
+        let around = self.window_of_block(alloc, first, pattern, windows)?;
         Ok(around.max(inside))
     }
 
     /// The bytes up to the last one that a constructor looks at, with the patterns of the blocks
-    /// round it. The number stops at 4,294,967,295.
-    pub fn constructor_window(&self, alloc: Global, of: &Unfolded) -> Result<u32, AllocError>
-        ensures { IfOk result (IsWindow (PatternConstrains (reading_of L.bytes self.now)
+    /// round it. The number stops at 4,294,967,295. `windows` has those of the blocks' patterns
+    /// that were made already, and then of all blocks round this constructor.
+    pub fn constructor_window(
+        &self,
+        alloc: Global,
+        of: &Unfolded,
+        windows: &mut ByBlock<u32>,
+    ) -> Result<u32, AllocError>
+        requires { AreMadeFor (IsHeadWindow (reading_of L.bytes self.now)) of.now.heads.items
+            windows.old }
+        ensures window { IfOk result (IsWindow (PatternConstrains (reading_of L.bytes self.now)
             (placed of.now).1.pattern 0)) }
+        ensures kept { IfOk result (λ _. KeepsMade (IsHeadWindow (reading_of L.bytes self.now))
+            of.now.heads.items windows.old windows.new) }
     {
         let own = of.own;
-        let window = self.window_in_blocks(alloc, of.heads.as_slice(), own)?;
+        let window = self.window_in_blocks(alloc, of.heads.as_slice(), own, windows)?;
         Ok(window)
     }
 }

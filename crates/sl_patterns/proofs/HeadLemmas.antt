@@ -1,0 +1,38 @@
+-- What is made of the patterns of blocks.
+use Rattle.std.proofs.Common.{◌≡◌, ℕ, ◌<◌, List, [], ◌∷◌, Option, Some, length, arith, sym, subst, ap, ◌∙◌}
+use Rattle.std.specs.Prelude.{unwrap_or}
+use Rattle.sl_ast.specs.Trees.{Head, Pattern}
+use Rattle.sl_spec.specs.Numbers.{AreMadeFor, AreTold, KeepsMade}
+use Rattle.sl_spec.specs.declared.unfolded.Around.{Around}
+
+-- what holds of the head's only pattern
+pub its_own : {V : Type 0} (P : Pattern → V → Type 0) (h : Head) (p : Pattern) (v : V) → h.pattern ≡ Some p → P p v
+    → (q : Pattern) → h.pattern ≡ Some q → P q v
+its_own P h p v its right q is =
+    subst (λ (x : Pattern). P x v) (ap (λ (o : Option Pattern). unwrap_or o p) (sym its ∙ is)) right
+
+module _ {V : Type 0} (IsRight : Head → V → Type 0) (blocks rest : List Around) (a : Around) (are : blocks ≡ a ∷ rest) where
+  pub made_rest : (made : List (ℕ × V)) → AreMadeFor IsRight blocks made → AreMadeFor IsRight rest made
+  made_rest made right =
+      let told = subst (λ (bs : List Around). AreTold right.0 bs) are right.1 in
+      (right.0, told.1, right.2)
+
+  pub made_first : (old new : List (ℕ × V)) → AreMadeFor IsRight blocks old → KeepsMade IsRight rest old new → AreMadeFor IsRight (a ∷ []) new
+  made_first old new right kept =
+      let told = subst (λ (bs : List Around). AreTold right.0 bs) are right.1 in
+      (right.0, (told.0, tt), kept right.0 told.1 right.2)
+
+  pub kept_rest : (old new : List (ℕ × V)) → KeepsMade IsRight rest old new → KeepsMade IsRight blocks old new
+  kept_rest old new kept head_at told right =
+      let parts = subst (λ (bs : List Around). AreTold head_at bs) are told in
+      kept head_at parts.1 right
+
+  pub kept_both : (old mid new : List (ℕ × V)) → KeepsMade IsRight rest old mid → KeepsMade IsRight (a ∷ []) mid new → KeepsMade IsRight blocks old new
+  kept_both old mid new inside first head_at told right =
+      let parts = subst (λ (bs : List Around). AreTold head_at bs) are told in
+      first head_at (parts.0, tt) (inside head_at parts.1 right)
+
+pub rest_shorter : (blocks rest : List Around) (a : Around) → blocks ≡ a ∷ rest → length rest < length blocks
+rest_shorter blocks rest a are =
+    let e = ap (λ (bs : List Around). length bs) are in
+    omega (arith, e)

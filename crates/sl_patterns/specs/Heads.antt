@@ -1,0 +1,23 @@
+-- meaning: what is made of the patterns of blocks, where they have one.
+use Rattle.std.specs.Global.{Vec}
+use Rattle.std.specs.Prelude.{◌≡◌, ℕ, Some}
+use Rattle.sl_ast.specs.Trees.{Head, Pattern}
+use Rattle.sl_constraints.specs.Sets.{IsUnionOf}
+use Rattle.sl_cube.specs.declared.Cube.{Cube}
+use Rattle.sl_patterns.specs.Counts.{HasPatternCount, IsTold}
+use Rattle.sl_patterns.specs.Patterns.{PatternHolds, Reading}
+use Rattle.sl_patterns.specs.Windows.{IsWindow, PatternConstrains}
+use Rattle.sl_spec.specs.declared.tables.Tables.{Tables}
+
+-- The number is told to be the count of the head's pattern.
+abbrev pub IsHeadCount : Tables → Head → ℕ → Type 0
+IsHeadCount t h n = (p : Pattern) → h.pattern ≡ Some p → IsTold (HasPatternCount t p) n
+
+-- The number is told to be the window of the head's pattern.
+abbrev pub IsHeadWindow : Reading → Head → ℕ → Type 0
+IsHeadWindow r h n = (p : Pattern) → h.pattern ≡ Some p → IsWindow (PatternConstrains r p 0) n
+
+-- The cubes have the points at which the head's pattern holds.
+abbrev pub AreHeadCubes : Reading → Head → Vec Cube → Type 0
+AreHeadCubes r h cubes = (p : Pattern) → h.pattern ≡ Some p
+    → IsUnionOf (PatternHolds r p 0) cubes.items
