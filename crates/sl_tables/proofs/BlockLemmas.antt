@@ -36,11 +36,6 @@ joined_other And m n = omega arith
 joined_other Then m n = omega arith
 joined_other Or m n = omega arith
 
-pub joined_alike : (op : PatternOp) (a b m n : ℕ) → min a 1025 ≡ min b 1025 → min m 1025 ≡ min n 1025 → min (joined_bytes op a m) 1025 ≡ min (joined_bytes op b n) 1025
-joined_alike And a b m n h e = omega arith
-joined_alike Then a b m n h e = omega arith
-joined_alike Or a b m n h e = omega arith
-
 -- ---- what holds of each
 
 pub all_at : {X : Type 0} (P : X → Type 0) (xs : List X) (i : ℕ) (x : X) → AllByRecursion P xs → i < length xs → x ≡ get_or xs i x → P x

@@ -1,5 +1,5 @@
 -- The first broken rule.
-use Rattle.std.proofs.Common.{◌≡◌, ℕ, ◌<◌, ◌≤◌, ◌==◌, ◌&&◌, inl, inr, min, Bool, true, false, cond, nat_lt, List, [], ◌∷◌, ◌++◌, length, get_or, Option, Some, None, refl, sym, ap, subst, ◌∙◌, arith}
+use Rattle.std.proofs.Common.{◌≡◌, ℕ, zero, suc, ◌<◌, ◌≤◌, ◌==◌, ◌&&◌, inl, inr, min, Bool, true, false, cond, nat_lt, List, [], ◌∷◌, ◌++◌, length, get_or, map, Option, Some, None, refl, sym, ap, subst, ◌∙◌, arith}
 use Rattle.std.specs.Prelude.{find, option_map}
 use Rattle.std.specs.List.{AllByRecursion, filter}
 use Rattle.std.proofs.lemmas.Bool.{cases_lt}
@@ -8,18 +8,20 @@ use Rattle.std.proofs.lemmas.List.{get_or_past, length-map}
 use Rattle.sl_ast.specs.Trees.{Constructor}
 use Rattle.sl_ast.specs.Unfolding.{Placed}
 use Rattle.sl_levels.proofs.Closure.{is_reached, some_successor}
-use Rattle.sl_levels.specs.Orders.{AreTold, NoneReaches}
+use Rattle.sl_levels.proofs.LevelLemmas.{meet_equations}
+use Rattle.sl_levels.specs.Levels.{level}
+use Rattle.sl_levels.specs.Orders.{AreTold, IsOrder, NoneReaches}
 use Rattle.sl_levels.specs.Reaching.{Graph, Reaches, reaches_itself, successors}
 use Rattle.sl_rules.specs.Gathered.{gathered}
 use Rattle.sl_spec.specs.declared.tables.Tables.{Tables}
-use Rattle.sl_tables.specs.Lengths.{row_bytes, table_amount}
+use Rattle.sl_tables.specs.Lengths.{least, put_together, row_bytes, step, table_amount}
 use Rattle.sl_tables.specs.Rows.{Row, graph, group, groups, is_of, rows, tables_in, tables_of}
 use Rattle.sl_tables.specs.TableRules.{amount_rules, broken_at, early_rules, late_fault, late_rules, empty_place, fault_or, first_fault, first_place, has_few_nodes, is_short, place_of, reaching_place}
 use Rattle.sl_tables.specs.declared.faults.LateFault.{LateFault}
 use Rattle.sl_tables.specs.declared.faults.Place.{Place}
 use Rattle.sl_tables.specs.declared.quantities.Quantity.TheVariants.{Least, Greatest, Nodes}
 use Rattle.sl_tables.proofs.RowLemmas.{group_at, groups_length}
-use Rattle.sl_tables.proofs.StepLemmas.{amount_alike, all_of}
+use Rattle.sl_tables.proofs.StepLemmas.{amount_alike, all_of, takes}
 use Rattle.sl_levels.proofs.Seen.{at_map}
 
 pub fault_some : (rule : ℕ) (place : Option Place) (p : Place) (other : Option LateFault) → place ≡ Some p → Some (record { rule = rule; place = p }) ≡ fault_or rule place other
@@ -159,3 +161,58 @@ empty_as t gs rs values right = λ i. first_place (λ r. is_of 0 r && tests r i)
     tests r = same_test (row_bytes t (λ u. get_or values u 0) r) (row_bytes t (table_amount Least t gs) r)
         (amount_alike 1025 t (λ u. get_or values u 0) (table_amount Least t gs) Least r
         (all_of (λ u. min (get_or values u 0) 1025 ≡ min (table_amount Least t gs u) 1025) (tables_of r.0) (λ u c. let e = right u in omega arith)))
+
+-- ---- where the least number of bytes isn't 0
+
+together_some : (m : ℕ) (ns : List ℕ) → 0 < put_together min m ns → (0 < m) × AllByRecursion (λ n. 0 < n) ns
+together_some m [] h = (h, tt)
+together_some m (n ∷ ns) h =
+    let rest = together_some (min m n) ns h in
+    let both : 0 < min m n = rest.0 in
+    (omega arith, (omega arith, rest.1))
+
+least_some : (ns : List ℕ) → 0 < least ns → AllByRecursion (λ n. 0 < n) ns
+least_some [] h = tt
+least_some (n ∷ ns) h = together_some n ns h
+
+none_here : (t : Tables) (f : ℕ → ℕ) (rs : List Row) → AllByRecursion (λ n. 0 < n) (map (row_bytes t f) (filter (is_of 0) rs))
+    → None ≡ first_place (λ r. is_of 0 r && (row_bytes t f r == 0)) rs
+none_here t f [] h = refl
+none_here t f (r ∷ rs) h = by (is_of 0 r) h (λ k. none_here t f rs k)
+  where
+    not_zero : (n : ℕ) → 0 < n → (n == 0) ≡ false
+    not_zero n h = grind (arith, nat_tests)
+
+    by : (b : Bool) → AllByRecursion (λ n. 0 < n) (map (row_bytes t f) (cond b (r ∷ filter (is_of 0) rs) (filter (is_of 0) rs)))
+        → (AllByRecursion (λ n. 0 < n) (map (row_bytes t f) (filter (is_of 0) rs)) → None ≡ first_place (λ r. is_of 0 r && (row_bytes t f r == 0)) rs)
+        → None ≡ option_map place_of (cond (b && (row_bytes t f r == 0)) (Some r) (find (λ r. is_of 0 r && (row_bytes t f r == 0)) rs))
+    by true h rest =
+        rest h.1
+        ∙ ap (λ (b : Bool). option_map place_of (cond b (Some r) (find (λ r. is_of 0 r && (row_bytes t f r == 0)) rs))) (sym (not_zero (row_bytes t f r) h.0))
+    by false h rest = rest h
+
+no_tables : (t : Tables) (gs : List (List Row)) → length (graph gs) ≡ 0 → table_amount Least t gs 0 ≡ 0
+unfolding level
+no_tables t gs is = ap (λ k. level (step Least t) (group gs) k 0) is
+
+pub none_empty : (t : Tables) (gs : List (List Row)) (rs : List Row) (order : List ℕ) (n : ℕ) → gs ≡ groups n rs → IsOrder (graph gs) order
+    → 0 < table_amount Least t gs 0 → None ≡ empty_place t gs rs
+unfolding empty_place
+none_empty t gs rs order n grouped is_order some =
+    none_here t least_of rs (subst (λ (l : List Row). AllByRecursion (λ k. 0 < k) (map (row_bytes t least_of) l)) of_group_0 (least_some (map (row_bytes t least_of) (group gs 0)) here))
+  where
+    least_of : ℕ → ℕ
+    least_of = table_amount Least t gs
+
+    inside : (k : ℕ) → length (graph gs) ≡ k → 0 < k
+    inside zero is = let e = no_tables t gs is in absurd (omega arith)
+    inside (suc k) is = omega arith
+
+    below : 0 < length (graph gs)
+    below = inside (length (graph gs)) refl
+
+    of_group_0 : group gs 0 ≡ filter (is_of 0) rs
+    of_group_0 = ap (λ x. group x 0) grouped ∙ group_at n 0 rs (omega (arith, below, length-map gs tables_in, ap length grouped, groups_length n rs))
+
+    here : 0 < least (map (row_bytes t least_of) (group gs 0))
+    here = subst (λ k. 0 < k) (meet_equations (graph gs) (step Least t) (group gs) (takes Least t gs) order is_order 0 below) some

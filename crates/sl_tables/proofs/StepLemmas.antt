@@ -101,7 +101,7 @@ module _ (cap : ℕ) (t : Tables) (f g : ℕ → ℕ) where
       by true rest = means_alike o.means (all_left _ (table_of o.means) (gathered (λ o. table_of o.means) os) h)
       by false rest = rest
 
-  joined_alike : (op : PatternOp) (a b m n : ℕ) → min a cap ≡ min b cap → min m cap ≡ min n cap → min (joined_bytes op a m) cap ≡ min (joined_bytes op b n) cap
+  pub joined_alike : (op : PatternOp) (a b m n : ℕ) → min a cap ≡ min b cap → min m cap ≡ min n cap → min (joined_bytes op a m) cap ≡ min (joined_bytes op b n) cap
   joined_alike And a b m n h e = max_keeps cap a b m n h e
   joined_alike Then a b m n h e = sum_keeps cap a b m n h e
   joined_alike Or a b m n h e = max_keeps cap a b m n h e

@@ -52,7 +52,8 @@ fn early_fault(t: &Tables, rows: &[Row]) -> Option<LateFault>
     }
 }
 
-/// Where rule 35 is broken, if it is.
+/// Where rule 35 is broken, if it is. Where the least number of bytes of `instruction` isn't 0, no
+/// constructor is walked again.
 fn empty_place(
     alloc: Global,
     t: &Tables,
@@ -64,10 +65,15 @@ fn empty_place(
     requires groups { AreMeasuredGroups t.now made.now groups.now }
     requires rows { AreMeasured t.now made.now rows.now }
     requires order { IsOrder (graph (groups_of groups.now)) order.now }
+    requires grouped { groups_of groups.now ≡ spec.groups (length t.now.tables)
+        (rows_of rows.now) }
     ensures { IfOk result (λ place. place
         ≡ empty_place t.now (groups_of groups.now) (rows_of rows.now)) }
 {
     let values = table_amounts(alloc, Quantity::Least, t, made, groups, order)?;
+    if known(values.as_slice(), 0) > 0 {
+        return Ok(None);
+    }
     let place = first_empty(t, made, values.as_slice(), rows);
     Ok(place)
 }
@@ -128,6 +134,8 @@ fn amount_fault(
     requires groups { AreMeasuredGroups t.now made.now groups.now }
     requires rows { AreMeasured t.now made.now rows.now }
     requires order { IsOrder (graph (groups_of groups.now)) order.now }
+    requires grouped { groups_of groups.now ≡ spec.groups (length t.now.tables)
+        (rows_of rows.now) }
     ensures { IfOk result (λ fault. fault
         ≡ first_fault (amount_rules t.now (groups_of groups.now) (rows_of rows.now))) }
 {

@@ -2,8 +2,9 @@ use Rattle.std.proofs.Common.{◌∙◌}
 use Rattle.sl_ast.specs.Views.{pattern_of}
 use Rattle.sl_tables.specs.BlockLengths.{IsJoined, IsLength, length_bytes}
 use Rattle.sl_tables.specs.Lengths.{pattern_bytes}
-use Rattle.sl_tables.proofs.BlockLemmas.{joined_alike, ok_weaker}
+use Rattle.sl_tables.proofs.BlockLemmas.{ok_weaker}
 use Rattle.sl_tables.proofs.LengthLemmas.{of_constraint, of_ellipsis, of_joined, of_name, of_paren}
+use Rattle.sl_tables.proofs.StepLemmas.{joined_alike}
 use Rattle.sl_tables.proofs.block_lengths.+length_of.Goals as goal
 
 pub returns-in-Name : goal.returns-in-Name
@@ -33,6 +34,6 @@ returns-in_ok-right-in-Joined t c =
     let right = c.in_ok-right-in-Joined.right in
     ok_weaker (IsJoined op left right) (IsLength here (pattern_of c.args.pattern.now))
     (λ l h f os. h here f os
-    ∙ joined_alike op (length_bytes here f os left) (pattern_bytes here f os (pattern_of c.deref-in-Joined.result.now)) (length_bytes here f os right)
+    ∙ joined_alike 1025 here f f op (length_bytes here f os left) (pattern_bytes here f os (pattern_of c.deref-in-Joined.result.now)) (length_bytes here f os right)
     (pattern_bytes here f os (pattern_of c.deref-in-Joined-2.result.now)) (c.in_ok-left-in-Joined.ensures f os) (c.in_ok-right-in-Joined.ensures f os)
     ∙ of_joined here f os c.args.pattern.now c.deref-in-Joined.result.now c.deref-in-Joined-2.result.now op c.in-Joined.left c.in-Joined.right c.in-Joined.is c.deref-in-Joined.ensures c.deref-in-Joined-2.ensures) c.joined.result c.joined.ensures
