@@ -18,6 +18,7 @@ ghost use Rattle.sl_rules.specs.Gathered.{gathered};
 ghost use Rattle.sl_section_rules.specs.WholeText.{whole_of};
 ghost use Rattle.sl_section_sizes.specs.SectionSizes.{AreSizes};
 ghost use Rattle.sl_sizing.specs.Sizings.{lists_of};
+ghost use Rattle.sl_spec.specs.Numbers.{AreNumbered};
 ghost use Rattle.sl_spec.specs.Unfolded.{all_placed};
 ghost use Rattle.sl_tables.specs.TableRules.{late_fault};
 
@@ -116,6 +117,7 @@ fn judged<'s, 'a>(
     tables: Tables<'a>,
     constructors: &[Unfolded<'s, 'a>],
 ) -> Result<Tables<'a>, Stop>
+    requires { AreNumbered constructors.now }
     ensures { GivesAt (λ t. t) result
         (unless_late (late_fault tables.entry (all_placed constructors.now)) tables.entry) }
 {
@@ -133,7 +135,8 @@ fn tables_of<'s, 'a>(
     items: &[Item<'a>],
     constructors: &[Unfolded<'s, 'a>],
 ) -> Result<Tables<'a>, Stop>
-    requires { all_placed constructors.now ≡ constructors_of (map item_of items.now) }
+    requires constructors { all_placed constructors.now ≡ constructors_of (map item_of items.now) }
+    requires numbered { AreNumbered constructors.now }
     ensures { GivesAt (λ t. t) result (taken (map item_of items.now)) }
 {
     match known_of(alloc, constructors, items) {
@@ -169,6 +172,7 @@ fn parts_by<'s, 'a>(
 ) -> Result<Parts<'a>, Refusal>
     requires scopes { scopes_view scopes.now ≡ scopes_of (map item_of items.now) }
     requires constructors { all_placed constructors.now ≡ constructors_of (map item_of items.now) }
+    requires numbered { AreNumbered constructors.now }
     ensures kept { IfOk result (λ parts.
         AreParts (map item_of items.now) parts.tables (lists_of parts.sizes.items)) }
     ensures refused { IfErr result (IsRefusal (map item_of items.now)) }

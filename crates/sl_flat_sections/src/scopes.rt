@@ -1,6 +1,6 @@
 //! What is defined before each constructor and each macro.
 
-ghost use Rattle.std.specs.Prelude.{◌≡◌, ◌+◌, ◌++◌, count_by, length, map, not, replicate};
+ghost use Rattle.std.specs.Prelude.{◌≡◌, ◌+◌, ◌++◌, [], count_by, length, map, not, replicate};
 ghost use Rattle.std.specs.Prelude.{IfOk, OnOk};
 ghost use Rattle.sl_ast.specs.Unfolding.{unfolded};
 ghost use Rattle.sl_ast.specs.Views.{bytes, definition_of, item_of, macro_of, names_of};
@@ -9,6 +9,7 @@ ghost use Rattle.sl_definitions.specs.RegisterRules.{is_skipped};
 ghost use Rattle.sl_flat_sections.specs.Scopes as spec;
 ghost use Rattle.sl_flat_sections.specs.Views.{scopes_view};
 ghost use Rattle.sl_resolve.specs.Macros.{bodies_of};
+ghost use Rattle.sl_spec.specs.Numbers.{AreNumbered, AreNumberedBelow};
 ghost use Rattle.sl_spec.specs.Unfolded.{all_placed, constructors_in, unfolded_one};
 ghost use Rattle.sl_spec.specs.Walks.{AddsItem};
 
@@ -166,6 +167,9 @@ fn take_item<'s, 'a>(
     ensures scopes { OnOk result (scopes_view text.new.scopes
         ≡ spec.behind_items (scopes_view text.old.scopes)
         (unfolded_one number (item_of item.now))) }
+    ensures numbered { IfOk result (λ next.
+        AreNumberedBelow number [] text.old.constructors.items
+        → AreNumberedBelow next [] text.new.constructors.items) }
 {
     let before = text.constructors.len();
     let next = add_unfolded(alloc, number, item, &mut text.constructors)?;
@@ -174,13 +178,15 @@ fn take_item<'s, 'a>(
     Ok(next)
 }
 
-/// The constructors of a text, and what is defined before each of them and before each macro. Time
-/// grows with the number of items and constructors. The only error is want of memory.
+/// The constructors of a text, and what is defined before each of them and before each macro. Blocks
+/// with different heads have different numbers. Time grows with the number of items and
+/// constructors. The only error is want of memory.
 pub fn text_of<'s, 'a>(alloc: Global, items: &'s [Item<'a>]) -> Result<Text<'s, 'a>, AllocError>
     ensures constructors { IfOk result (λ text. all_placed text.constructors.items
         ≡ constructors_in (unfolded (map item_of items.now))) }
     ensures scopes { IfOk result (λ text. scopes_view text.scopes
         ≡ spec.scopes_of (map item_of items.now)) }
+    ensures numbered { IfOk result (λ text. AreNumbered text.constructors.items) }
 {
     let reach = Reach {
         spaces: 0,

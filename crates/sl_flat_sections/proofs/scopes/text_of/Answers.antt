@@ -1,9 +1,10 @@
-use Rattle.std.proofs.Common.{map}
+use Rattle.std.proofs.Common.{[], map}
 use Rattle.sl_ast.specs.Views.{item_of}
 use Rattle.sl_flat_sections.specs.Views.{scopes_view}
 use Rattle.sl_flat_sections.proofs.ScopeLemmas.{all_behind, goes_behind}
 use Rattle.sl_rules.proofs.Seen.{below_map, past_map, seen_map}
 use Rattle.sl_spec.specs.Unfolded.{all_placed}
+use Rattle.sl_spec.proofs.NumberLemmas.{numbers_all}
 use Rattle.sl_spec.proofs.WalkLemmas.{all_gathered, gathers}
 use Rattle.sl_flat_sections.proofs.scopes.text_of.Goals as goal
 
@@ -20,6 +21,7 @@ items-preserved c =
       constructors = gathers (map item_of items) (all_placed old.constructors.items) (all_placed new.constructors.items) c.items.number c.in_ok-number.number i (item_of item) below at c.in_ok-number.ensures.constructors c.items.invariant.constructors;
       scopes = goes_behind (map item_of items) (scopes_view old.scopes) (scopes_view new.scopes) c.items.number c.in_ok-number.number i (item_of item) (all_placed old.constructors.items) (all_placed new.constructors.items) below at
           c.in_ok-number.ensures.constructors c.in_ok-number.ensures.scopes c.items.invariant.scopes;
+      numbered = c.in_ok-number.ensures.numbered c.items.invariant.numbered;
     }
 
 pub returns-clause-constructors : goal.returns-clause-constructors
@@ -31,3 +33,6 @@ pub returns-clause-scopes : goal.returns-clause-scopes
 returns-clause-scopes c =
     let items = c.args.items.now in
     all_behind (map item_of items) (scopes_view c.items.text.scopes) c.items.number c.items.index (past_map item_of items c.items.index c.items-test.false) c.items.invariant.scopes
+
+pub returns-clause-numbered : goal.returns-clause-numbered
+returns-clause-numbered c = numbers_all c.items.number [] c.items.text.constructors.items c.items.invariant.numbered

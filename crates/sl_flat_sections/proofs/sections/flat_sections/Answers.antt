@@ -46,4 +46,4 @@ returns c =
     c.rows.invariant
     ∙ ap (map f) (zip_all (rows_of rs) reaches c.rows.index (omega (arith, length-map rs row_of)))
     ∙ ap (λ (l : List Row). map f (zip (rows_of l) reaches)) c.as_slice-rows.ensures.value
-    ∙ ap (λ (l : List spec.Row). map f (zip l reaches)) (c.in_ok-rows.ensures ∙ ap (λ (l : List Ctor). zip l cs) c.as_slice.ensures)
+    ∙ ap (λ (l : List spec.Row). map f (zip l reaches)) (c.in_ok-rows.ensures.all ∙ ap (λ (l : List Ctor). zip l cs) c.as_slice.ensures)
