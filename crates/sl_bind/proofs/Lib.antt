@@ -5,6 +5,7 @@ pub mod CycleLemmas
 pub mod GrowLemmas
 pub mod KeptLemmas
 pub mod ListedLemmas
+pub mod MadeLemmas
 pub mod OutcomeLemmas
 pub mod RunLemmas
 pub mod SideLemmas

@@ -48,7 +48,7 @@ progress_in p (Ok next) = next
 progress_in p (Err rule) = p
 
 -- what is known is put
-put_known : (p next : Progress) (r : Result Known ℕ) → with_known p r ≡ Ok next → (k : Known) × (r ≡ Ok k) × (k ≡ next.known)
+pub put_known : (p next : Progress) (r : Result Known ℕ) → with_known p r ≡ Ok next → (k : Known) × (r ≡ Ok k) × (k ≡ next.known)
 put_known p next r is =
     let c = came_of r (λ k. Ok (record p { known = k })) next is in
     (c.0, c.1, ap (λ r. (progress_in next r).known) c.2)
@@ -57,7 +57,7 @@ abbrev rule_of : Result Progress Broken → Result Progress ℕ
 rule_of (Ok x) = Ok x
 rule_of (Err e) = Err e.0
 
-unplaced : (n : ℕ) (r : Result Progress ℕ) (p : Progress) → at n r ≡ Ok p → r ≡ Ok p
+pub unplaced : (n : ℕ) (r : Result Progress ℕ) (p : Progress) → at n r ≡ Ok p → r ≡ Ok p
 unplaced n (Ok x) p is = ap rule_of is
 unplaced n (Err e) p is = absurd (cc)
 

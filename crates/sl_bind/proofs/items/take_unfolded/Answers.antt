@@ -11,14 +11,14 @@ pub returns-in-Constructor : goal.returns-in-Constructor
 returns-in-Constructor c =
     let n = c.args.number in
     let one = ap (λ (k : ItemKind). unfolded_one n (kind_of k)) c.in-Constructor.is in
-    let are = of_constructor n (constructor_of c.in-Constructor.field-0) c.args.constructors.now (c.requires ∙ ap constructors_in one) in
+    let are = of_constructor n (constructor_of c.in-Constructor.field-0) c.args.constructors.now (c.requires.placed ∙ ap constructors_in one) in
     carried _ c.take_constructors.result _ _ (ap (run (placed_step c.args.whole.now) c.args.progress.now) (are ∙ sym one)) c.take_constructors.ensures
 
 pub returns-in-With : goal.returns-in-With
 returns-in-With c =
     let n = c.args.number in
     let one = ap (λ (k : ItemKind). unfolded_one n (kind_of k)) c.in-With.is in
-    let are = of_block n (head_of c.in-With.field-0) (inside_of c.in-With.field-1.items) c.args.constructors.now (c.requires ∙ ap constructors_in one) in
+    let are = of_block n (head_of c.in-With.field-0) (inside_of c.in-With.field-1.items) c.args.constructors.now (c.requires.placed ∙ ap constructors_in one) in
     carried _ c.take_constructors-in-With.result _ _ (ap (run (placed_step c.args.whole.now) c.args.progress.now) (are ∙ sym one)) c.take_constructors-in-With.ensures
 
 pub returns-in-Define : goal.returns-in-Define
