@@ -27,11 +27,11 @@ use Rattle.sl_spec.specs.Named.{named}
 
 -- ---- lists are added
 
-keeps_same : (a : List (List ℕ)) → Keeps a a
+pub keeps_same : (a : List (List ℕ)) → Keeps a a
 keeps_same a = record { more = []; is = sym (append-nil a) }
 
 -- a list that was there is there
-keeps_there : (old now : List (List ℕ)) → Keeps old now → (l : Option ℕ) → IsAmong old l → IsAmong now l
+pub keeps_there : (old now : List (List ℕ)) → Keeps old now → (l : Option ℕ) → IsAmong old l → IsAmong now l
 keeps_there old now keeps None among = tt
 keeps_there old now keeps (Some i) among =
     let e = ap (λ (l : List (List ℕ)). length l) keeps.is in

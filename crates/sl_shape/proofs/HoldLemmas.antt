@@ -5,17 +5,14 @@ use Rattle.sl_constraints.specs.Sets.{IsCubeOf, IsUnionOf}
 use Rattle.sl_cube.specs.Points.{Covers, InRange, IsLeastOutside}
 use Rattle.sl_cube.specs.declared.Cube.{Cube}
 use Rattle.sl_cube.specs.declared.Point.{Point}
-use Rattle.sl_patterns.specs.Patterns.{PatternHolds, Reading}
+use Rattle.sl_patterns.specs.Patterns.{PatternHolds}
 use Rattle.sl_shape.specs.Extents.{extent_bytes, extent_of}
 use Rattle.sl_shape.specs.Faults.{Holds}
+use Rattle.sl_shape.specs.HeadsMade.{by_extents}
 use Rattle.sl_shape.specs.PatternShapes.{Shapes, pattern_bytes, shape_of}
 use Rattle.sl_shape.proofs.AlikeLemmas.{alike_shaped, holds_alike}
 use Rattle.sl_shapes.specs.Shapes.{Shape}
 use Rattle.sl_spec.specs.declared.tables.Tables.{Tables}
-
--- what is read by extents
-abbrev pub by_extents : Tables → Shapes → List (Option Cube) → Reading
-by_extents t shapes hulls = record { tables = t; bytes = λ p. extent_bytes (extent_of t shapes p); hulls = hulls }
 
 module _ (t : Tables) (shapes : Shapes) (hulls : List (Option Cube)) (p : Pattern) (s : Shape) (shape : shape_of t shapes p ≡ Some s)
     (found : Shapes) (are : found ≡ shapes) (cubes : List Cube) where

@@ -3,6 +3,7 @@ pub mod BelowLemmas
 pub mod CarryLemmas
 pub mod ExtentLemmas
 pub mod ExtentOfShapeLemmas
+pub mod HeadLemmas
 pub mod HoldLemmas
 pub mod JoinLemmas
 pub mod MadeLemmas

@@ -11,11 +11,12 @@ use Rattle.sl_patterns.specs.Patterns.{PatternHolds}
 use Rattle.sl_patterns.specs.Windows.{IsWindow, PatternConstrains}
 use Rattle.sl_shape.specs.Extents.{extent_bytes, extent_of}
 use Rattle.sl_shape.specs.Faults.{PointTells, WindowTells}
+use Rattle.sl_shape.specs.HeadsMade.{by_extents}
 use Rattle.sl_shape.specs.PatternShapes.{Shapes, pattern_bytes, shape_of}
 use Rattle.sl_shape.specs.declared.faults.Fault.TheVariants as fault
 use Rattle.sl_shape.proofs.AlikeLemmas.{alike_shaped, constrains_alike}
 use Rattle.sl_shape.proofs.ExtentOfShapeLemmas.{inside_some}
-use Rattle.sl_shape.proofs.HoldLemmas.{by_extents, union_shaped}
+use Rattle.sl_shape.proofs.HoldLemmas.{union_shaped}
 use Rattle.sl_shapes.specs.Shapes.{Shape}
 use Rattle.sl_spec.specs.declared.tables.Tables.{Tables}
 

@@ -2,6 +2,7 @@ pub mod Adding
 pub mod Below
 pub mod Extents
 pub mod Faults
+pub mod HeadsMade
 pub mod Made
 pub mod Next
 pub mod Ordered

@@ -1,8 +1,17 @@
-//! What is known of the tables below.
+//! What is known of the tables below, and what was made of blocks by it.
+
+ghost use Rattle.std.specs.Prelude.{ℕ};
+ghost use Rattle.std.specs.List.{AllByRecursion};
+ghost use Rattle.sl_ast.specs.Trees.{Head};
+ghost use Rattle.sl_shape.specs.HeadsMade.{AreRight};
+ghost use Rattle.sl_shape.specs.declared.below.Below.{Below};
+ghost use Rattle.sl_shape.specs.declared.below.TokenLists.{TokenLists};
+ghost use Rattle.sl_shapes.specs.Lists.{IsThere};
 
 use sl_cube::Cube;
 use sl_shapes::{ListBytes, Lists, Shape};
-use sl_spec::Tables;
+use sl_spec::{ByBlock, Tables};
+use std::alloc::Global;
 
 /// The shapes and the hulls of the tables by their numbers, where they are known.
 #[derive(Clone, Copy)]
@@ -17,4 +26,27 @@ pub struct Below<'r, 'a> {
 pub struct TokenLists {
     pub all: Lists,
     pub bytes: ListBytes,
+}
+
+/// What was made of the patterns of blocks, for all constructors inside them: how many cubes they
+/// may need, their shapes, the bytes that they look at, and the points at which they hold.
+#[derive(Drop)]
+pub struct HeadsMade {
+    pub counts: ByBlock<u32>,
+    pub shapes: ByBlock<Shape>,
+    pub windows: ByBlock<u32>,
+    pub sets: ByBlock<Vec<Cube>>,
+}
+
+/// Nothing was made yet.
+pub fn none_made(alloc: Global) -> HeadsMade
+    ensures { (b : Below) (lists : TokenLists) (head_at : ℕ → Head)
+        → AllByRecursion (IsThere lists.all) b.shapes.now → AreRight b lists head_at result }
+{
+    HeadsMade {
+        counts: ByBlock::new(alloc),
+        shapes: ByBlock::new(alloc),
+        windows: ByBlock::new(alloc),
+        sets: ByBlock::new(alloc),
+    }
 }

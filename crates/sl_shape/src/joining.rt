@@ -43,6 +43,7 @@ impl Below<'_, '_> {
         lists: &mut TokenLists,
     ) -> Result<Shape, Stop>
         requires { AreSized self.now lists.old }
+        ensures lists { lists.new.all ≡ lists.old.all }
         ensures sized { IfOk result (λ _. AreSized self.now lists.new) }
         ensures shape { IfOk result (λ s. (shapes : Shapes) (p q : trees.Pattern)
             → Shows self.now lists.old shapes → IsSide self.now lists.old shapes p first

@@ -8,6 +8,7 @@ ghost use Rattle.sl_shape.specs.Ordered.{AreKnown, FaultsIn, IsOrdered};
 ghost use Rattle.sl_shape.specs.PatternShapes as spec;
 ghost use Rattle.sl_shape.specs.Tables.{AreShaped, IsError, IsFirstFault, table_graph};
 ghost use Rattle.sl_shapes.specs.Lists.{IsThere};
+ghost use Rattle.sl_spec.specs.Numbers.{AreNumbered};
 ghost use Rattle.sl_spec.specs.Unfolded.{all_placed};
 
 use crate::below::{Below, TokenLists};
@@ -39,7 +40,8 @@ impl Known {
         constructors: &[Unfolded],
         table: usize,
     ) -> Result<(), ShapeError>
-        requires { IsRight t.now (length constructors.now) self.old }
+        requires right { IsRight t.now (length constructors.now) self.old }
+        requires numbered { AreNumbered constructors.now }
         ensures right { IfOk result (λ _. IsRight t.now (length constructors.now) self.new) }
         ensures next { IfOk result (λ _.
             IsNext t.now (all_placed constructors.now) self.old self.new table) }
@@ -79,7 +81,8 @@ fn shape_tables(
     order: &[usize],
     known: &mut Known,
 ) -> Result<(), ShapeError>
-    requires { IsRight t.now (length constructors.now) known.old }
+    requires right { IsRight t.now (length constructors.now) known.old }
+    requires numbered { AreNumbered constructors.now }
     ensures right { IfOk result (λ _. IsRight t.now (length constructors.now) known.new) }
     ensures known { IfOk result (λ _. AreKnown t.now (all_placed constructors.now) order.now
         known.new order.now) }
@@ -172,8 +175,10 @@ fn order_of(alloc: Global, t: &Tables, constructors: &[Unfolded]) -> Result<Vec<
 
 /// The sets of all constructors and the hulls of all tables, or the first constructor with a fault.
 /// Tables are taken by their heights, and those of one height in the order of the text.
-/// `constructors` are those of `t` as they are written, in the same order.
+/// `constructors` are those of `t` as they are written, in the same order, with numbers that tell
+/// the blocks round them apart.
 pub fn shape(alloc: Global, t: &Tables, constructors: &[Unfolded]) -> Result<Shapes, ShapeError>
+    requires { AreNumbered constructors.now }
     ensures shaped { IfOk result (λ shapes.
         NoneReaches (table_graph t.now (all_placed constructors.now))
         → AreShaped t.now (all_placed constructors.now) shapes.sets.items shapes.hulls.items) }

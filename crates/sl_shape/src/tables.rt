@@ -2,14 +2,18 @@
 
 ghost use Rattle.std.specs.Prelude.{◌≡◌, ◌∷◌, [], ◌++◌, IfErr, IfOk, OnOk, Some, length};
 ghost use Rattle.std.specs.Prelude as lists;
+ghost use Rattle.std.specs.List.{AllByRecursion};
 ghost use Rattle.sl_shape.specs.Adding.{AreAdded, IsAdded, IsFirstIn, IsStop};
 ghost use Rattle.sl_shape.specs.Below.{AreSized, Shows};
+ghost use Rattle.sl_shape.specs.HeadsMade.{AreRightOf};
 ghost use Rattle.sl_shape.specs.PatternShapes.{Shapes};
 ghost use Rattle.sl_shape.specs.Stops.{Stops};
 ghost use Rattle.sl_shape.specs.Tables.{CtorTells, IsError};
+ghost use Rattle.sl_shapes.specs.Lists.{IsThere};
+ghost use Rattle.sl_spec.specs.Numbers.{AreNumbered};
 ghost use Rattle.sl_spec.specs.Unfolded.{all_placed};
 
-use crate::below::{Below, TokenLists};
+use crate::below::{Below, HeadsMade, TokenLists, none_made};
 use crate::errors::ShapeError;
 use crate::faults::Fault;
 use crate::stop::Stop;
@@ -60,10 +64,14 @@ impl Below<'_, '_> {
         index: usize,
         sets: &mut Vec<CubeSet>,
         lists: &mut TokenLists,
+        made: &mut HeadsMade,
     ) -> Result<Shape, Stop>
         requires sized { AreSized self.now lists.old }
         requires counted { length sets.old.items ≡ length constructors.now }
+        requires right { AreRightOf self.now lists.old constructors.now made.old }
         ensures sized { IfOk result (λ _. AreSized self.now lists.new) }
+        ensures right { IfOk result (λ _.
+            AreRightOf self.now lists.new constructors.now made.new) }
         ensures counted { IfOk result (λ _. length sets.new.items ≡ length constructors.now) }
         ensures added { IfOk result (λ s. (shapes : Shapes) → Shows self.now lists.old shapes
             → IsAdded self.now (all_placed constructors.now) shapes lists.old lists.new
@@ -75,7 +83,7 @@ impl Below<'_, '_> {
         let Some(of) = constructors.get(index) else {
             return Ok(of_nothing());
         };
-        let (shape, set) = self.constructor(alloc, of, lists)?;
+        let (shape, set) = self.constructor(alloc, of, lists, made)?;
         put(sets, index, set);
         Ok(shape)
     }
@@ -88,10 +96,14 @@ impl Below<'_, '_> {
         ctor: CtorId,
         sets: &mut Vec<CubeSet>,
         lists: &mut TokenLists,
+        made: &mut HeadsMade,
     ) -> Result<Shape, ShapeError>
         requires sized { AreSized self.now lists.old }
         requires counted { length sets.old.items ≡ length constructors.now }
+        requires right { AreRightOf self.now lists.old constructors.now made.old }
         ensures sized { IfOk result (λ _. AreSized self.now lists.new) }
+        ensures right { IfOk result (λ _.
+            AreRightOf self.now lists.new constructors.now made.new) }
         ensures counted { IfOk result (λ _. length sets.new.items ≡ length constructors.now) }
         ensures added { IfOk result (λ s. (shapes : Shapes) → Shows self.now lists.old shapes
             → IsAdded self.now (all_placed constructors.now) shapes lists.old lists.new
@@ -100,7 +112,7 @@ impl Below<'_, '_> {
             → IsError (λ i f. (i ≡ ctor) × CtorTells self.now.tables.now
             (all_placed constructors.now) shapes self.now.hulls.now ctor (Some f)) error) }
     {
-        match self.add_set(alloc, constructors, ctor.0 as usize, sets, lists) {
+        match self.add_set(alloc, constructors, ctor.0 as usize, sets, lists, made) {
             Ok(shape) => Ok(shape),
             Err(stop) => Err(stopped(ctor, stop)),
         }
@@ -117,6 +129,8 @@ impl Below<'_, '_> {
     ) -> Result<Vec<Shape>, ShapeError>
         requires sized { AreSized self.now lists.old }
         requires counted { length sets.old.items ≡ length constructors.now }
+        requires there { AllByRecursion (IsThere lists.old.all) self.now.shapes.now }
+        requires numbered { AreNumbered constructors.now }
         ensures sized { IfOk result (λ _. AreSized self.now lists.new) }
         ensures counted { IfOk result (λ _. length sets.new.items ≡ length constructors.now) }
         ensures added { IfOk result (λ found. (shapes : Shapes) → Shows self.now lists.old shapes
@@ -127,9 +141,10 @@ impl Below<'_, '_> {
             error) }
     {
         let mut found = Vec::new(alloc);
+        let mut made = none_made(alloc);
         'ctors: for index in 0..ctors.len() {
             let ctor = ctors[index];
-            let shape = self.add_constructor(alloc, constructors, ctor, sets, lists)?;
+            let shape = self.add_constructor(alloc, constructors, ctor, sets, lists, &mut made)?;
             push(&mut found, shape)?;
         }
         Ok(found)

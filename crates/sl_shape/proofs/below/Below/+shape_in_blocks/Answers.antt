@@ -1,12 +1,16 @@
-use Rattle.std.proofs.Common.{option_map, refl, sym, ap, subst}
+use Rattle.std.proofs.Common.{option_map, arith, refl, sym, ap, subst}
 use Rattle.std.proofs.lemmas.Result.{err_from_is_err_and}
 use Rattle.sl_ast.specs.Trees.{Pattern, group}
 use Rattle.sl_ast.specs.Views.{constructor_of, head_of, pattern_of}
 use Rattle.sl_ast.specs.declared.patterns.PatternOp.TheVariants.{And}
+use Rattle.sl_patterns.proofs.HeadLemmas.{made_rest, rest_shorter}
 use Rattle.sl_patterns.proofs.ViewLemmas.{in_none, in_one_more}
+use Rattle.sl_shape.specs.Below.{shapes_in}
 use Rattle.sl_shape.specs.Faults.{ShapeTells}
+use Rattle.sl_shape.specs.HeadsMade.{IsHeadShape}
 use Rattle.sl_shape.specs.Stops.{Stops}
 use Rattle.sl_shape.proofs.BelowLemmas.{shaped_group, told_group, told_left, told_right}
+use Rattle.sl_shape.proofs.HeadLemmas.{both_kept, first_made, own_kept, rest_kept, rest_made, shown}
 use Rattle.sl_shape.proofs.JoinLemmas.{for_right, for_right_stops, in_open, joined_goes, joined_stops, same_goes}
 use Rattle.sl_spec.specs.Unfolded.{heads_of, under}
 use Rattle.sl_shape.proofs.below.Below.+shape_in_blocks.Goals as goal
@@ -49,7 +53,7 @@ returns-in_err-inside-clause-fault t c =
     let q = (under inner own).pattern in
     let is = in_one_more (heads_of c.args.heads.now) inner (head_of c.in-Some.first.now.head.now) own p (ap heads_of c.in-Some.ensures.cases.0) (ap (option_map pattern_of) c.in-Some-pattern.is) in
     let stop = c.in_err-inside.field-0.0 in
-    let mid = c.pattern_shape-2.new.lists in
+    let mid = c.shape_of_block.new.lists in
     rw (e.1, e.2) (λ shapes shows.
     let i = shaped_group self shapes c.args.lists.now mid c.in_ok-around.around p (c.in_ok-around.ensures.shape shapes shows) in
     subst (λ (x : Pattern). Stops (ShapeTells self.tables.now shapes self.hulls.now x) stop) (sym is)
@@ -63,7 +67,7 @@ returns-clause-shape t c =
     let p = pattern_of c.in-Some-pattern.pattern in
     let q = (under inner own).pattern in
     let is = in_one_more (heads_of c.args.heads.now) inner (head_of c.in-Some.first.now.head.now) own p (ap heads_of c.in-Some.ensures.cases.0) (ap (option_map pattern_of) c.in-Some-pattern.is) in
-    let mid = c.pattern_shape-2.new.lists in
+    let mid = c.shape_of_block.new.lists in
     let late = c.shape_in_blocks-2.new.lists in
     let first = c.in_ok-around.around in
     let second = c.in_ok-inside.inside in
@@ -80,7 +84,7 @@ returns-clause-fault t c =
     let p = pattern_of c.in-Some-pattern.pattern in
     let q = (under inner own).pattern in
     let is = in_one_more (heads_of c.args.heads.now) inner (head_of c.in-Some.first.now.head.now) own p (ap heads_of c.in-Some.ensures.cases.0) (ap (option_map pattern_of) c.in-Some-pattern.is) in
-    let mid = c.pattern_shape-2.new.lists in
+    let mid = c.shape_of_block.new.lists in
     let late = c.shape_in_blocks-2.new.lists in
     let first = c.in_ok-around.around in
     let second = c.in_ok-inside.inside in
@@ -88,3 +92,50 @@ returns-clause-fault t c =
     (λ shapes shows. shaped_group self shapes c.args.lists.now mid first p (c.in_ok-around.ensures.shape shapes shows))
     (λ shapes shows. shaped_group self shapes mid late second q (c.in_ok-inside.ensures.shape shapes shows))
     c.both_shape.result (for_right_stops self late first second And (group q) c.both_shape.result c.both_shape.ensures.fault)
+
+pub returns-in_default-clause-kept : goal.returns-in_default-clause-kept
+returns-in_default-clause-kept t c =
+    own_kept c.args.self.now c.args.lists.now c.pattern_shape.new.lists c.requires.there (constructor_of c.args.own.now).pattern c.args.heads.now c.args.made.now
+    c.pattern_shape.result c.pattern_shape.ensures.shape
+
+pub shape_in_blocks-requires : goal.shape_in_blocks-requires
+shape_in_blocks-requires t c =
+    let blocks = c.args.heads.now in
+    let rest = c.in-Some.rest.now in
+    let first = c.in-Some.first.now in
+    let shorter = rest_shorter blocks rest first c.in-Some.ensures.cases.0 in (
+      omega arith,
+      (c.requires.sized, (c.requires.there, made_rest (IsHeadShape c.args.self.now c.args.lists.now) blocks rest first c.in-Some.ensures.cases.0 c.args.made.now c.requires.made)),
+    )
+
+pub returns-in_default-pattern-clause-kept : goal.returns-in_default-pattern-clause-kept
+returns-in_default-pattern-clause-kept t c =
+    rest_kept c.args.self.now c.args.heads.now c.in-Some.rest.now c.in-Some.first.now c.in-Some.ensures.cases.0 c.args.lists.now c.shape_in_blocks.new.lists
+    c.args.made.now c.shape_in_blocks.new.made c.shape_in_blocks.result c.shape_in_blocks.ensures.kept
+
+pub shape_of_block-requires-clause-made : goal.shape_of_block-requires-clause-made
+shape_of_block-requires-clause-made t c =
+    first_made c.args.self.now c.args.heads.now c.in-Some.rest.now c.in-Some.first.now c.in-Some.ensures.cases.0 c.args.lists.now c.args.made.now c.requires.made
+
+pub shape_in_blocks-requires-2 : goal.shape_in_blocks-requires-2
+shape_in_blocks-requires-2 t c =
+    let self = c.args.self.now in
+    let old = c.args.lists.now in
+    let blocks = c.args.heads.now in
+    let rest = c.in-Some.rest.now in
+    let first = c.in-Some.first.now in
+    let i = c.in_ok-around.ensures.shape (shapes_in self old) (shown self old c.requires.there) in
+    let made = rest_made self blocks rest first c.in-Some.ensures.cases.0 old c.shape_of_block.new.lists c.args.made.now c.shape_of_block.new.made c.requires.made c.in_ok-around.ensures.kept in
+    let shorter = rest_shorter blocks rest first c.in-Some.ensures.cases.0 in (
+      omega arith,
+      (c.in_ok-around.ensures.sized, (i.gets.shows.there, made)),
+    )
+
+pub returns-clause-kept : goal.returns-clause-kept
+returns-clause-kept t c =
+    let self = c.args.self.now in
+    let old = c.args.lists.now in
+    let i = c.in_ok-around.ensures.shape (shapes_in self old) (shown self old c.requires.there) in
+    let j = c.in_ok-inside.ensures.shape (shapes_in self old) i.gets.shows in
+    both_kept self c.args.heads.now c.in-Some.rest.now c.in-Some.first.now c.in-Some.ensures.cases.0 old c.shape_of_block.new.lists c.shape_in_blocks-2.new.lists c.both_shape.new.lists
+    c.args.made.now c.shape_of_block.new.made c.shape_in_blocks-2.new.made c.in_ok-around.ensures.kept c.in_ok-inside.ensures.kept j.gets.shows.there c.both_shape.ensures.lists c.both_shape.result

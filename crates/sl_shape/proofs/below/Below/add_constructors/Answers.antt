@@ -1,7 +1,8 @@
-use Rattle.std.proofs.Common.{◌+◌, List, take, sym, subst}
+use Rattle.std.proofs.Common.{◌+◌, List, [], take, refl, sym, subst}
 use Rattle.std.proofs.lemmas.Result.{err_from_is_err_and}
 use Rattle.sl_shape.specs.Adding.{AreAdded}
 use Rattle.sl_shape.proofs.AddLoopLemmas.{added_more, all_added, first_found}
+use Rattle.sl_shape.proofs.BelowLemmas.{keeps_same}
 use Rattle.sl_shapes.specs.declared.shapes.Shape as code
 use Rattle.sl_spec.specs.Unfolded.{all_placed}
 use Rattle.sl_shape.proofs.below.Below.add_constructors.Goals as goal
@@ -16,12 +17,30 @@ returns-in_err-shape-clause-fault c =
     first_found b cs shapes c.args.lists.now c.ctors.lists c.args.sets.now.items c.ctors.sets.items c.args.ctors.now c.ctors.index c.index-ctors-index.result c.ctors.found.items
     c.ctors-test.true c.index-ctors-index.is added c.in_err-shape.field-0.0 (c.in_err-shape.ensures.fault shapes added.shows))
 
+pub ctors-init : goal.ctors-init
+ctors-init c =
+    let b = c.args.self.now in
+    let cs = all_placed c.args.constructors.now in
+    let l = c.args.lists.now in
+    let sets = c.args.sets.now.items in
+    let numbered = c.requires.numbered in
+    record {
+      sized = c.requires.sized;
+      right = (numbered.0, numbered.1, c.none_made-made.ensures b l numbered.0 c.requires.there);
+      counted = c.requires.counted;
+      added = λ shapes shows.
+          let none : AreAdded b cs shapes l l sets sets [] [] =
+          record { shows = shows; lists = keeps_same l.all; there = tt; found_are = refl; sound = tt; have_sets = tt; keeps = λ i is. is } in
+          subst (λ (found : List code.Shape). AreAdded b cs shapes l l sets sets [] found) (sym c.new-found.ensures.items) none;
+    }
+
 pub ctors-preserved : goal.ctors-preserved
 ctors-preserved c =
     let b = c.args.self.now in
     let cs = all_placed c.args.constructors.now in
     record {
       sized = c.in_ok-shape.ensures.sized;
+      right = c.in_ok-shape.ensures.right;
       counted = c.in_ok-shape.ensures.counted;
       added = λ shapes shows.
           let added = c.ctors.invariant.added shapes shows in

@@ -4,7 +4,9 @@ use Rattle.std.proofs.lemmas.Option.{slice_get-get_or}
 use Rattle.std.proofs.lemmas.Result.{err_from_is_err_and}
 use Rattle.std.specs.Prelude.{slice_get}
 use Rattle.sl_shape.proofs.AddedLemmas.{made_added, none_added, told_at}
+use Rattle.sl_shape.proofs.HeadLemmas.{all_at}
 use Rattle.sl_shape.proofs.NamedLemmas.{pattern_here, pattern_past}
+use Rattle.sl_spec.specs.Numbers.{AreTold}
 use Rattle.sl_spec.specs.Unfolded.{all_placed, placed}
 use Rattle.sl_shape.proofs.below.Below.add_set.Goals as goal
 
@@ -33,3 +35,14 @@ returns-clause-added c = λ shapes shows.
     made_added c.args.self.now (all_placed us) shapes c.args.index (placed u).1.pattern (pattern_here us c.args.index u at)
     c.args.lists.now c.constructor.new.lists c.args.sets.now.items c.put.new.sets.items c.in_ok-shape.shape c.in_ok-shape.set
     (c.in_ok-shape.ensures.made shapes shows) (omega (arith, c.requires.counted, c.in-Some.ensures.lookup.3.0)) c.put.ensures
+
+pub constructor-requires-clause-right : goal.constructor-requires-clause-right
+constructor-requires-clause-right c =
+    let right = c.requires.right in
+    (right.0, all_at (λ u. AreTold right.0 u.heads.items) c.args.constructors.now right.1 c.args.index c.in-Some.of.now c.in-Some.ensures.lookup.3.0 (c.in-Some.ensures.lookup.3.1 c.in-Some.of.now), right.2)
+
+pub returns-clause-right : goal.returns-clause-right
+returns-clause-right c =
+    let right = c.requires.right in
+    let told = all_at (λ u. AreTold right.0 u.heads.items) c.args.constructors.now right.1 c.args.index c.in-Some.of.now c.in-Some.ensures.lookup.3.0 (c.in-Some.ensures.lookup.3.1 c.in-Some.of.now) in
+    (right.0, right.1, c.in_ok-shape.ensures.right right.0 told right.2)

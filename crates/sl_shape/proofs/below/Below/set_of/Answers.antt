@@ -7,7 +7,7 @@ use Rattle.sl_shape.proofs.below.Below.set_of.Goals as goal
 pub returns-then-window-gt-MOST_WINDOW-clause-fault : goal.returns-then-window-gt-MOST_WINDOW-clause-fault
 returns-then-window-gt-MOST_WINDOW-clause-fault c = λ shapes s shows shape.
     let self = c.args.self.now in
-    inl (window_long self.tables.now shapes self.hulls.now (placed c.args.of.now).1.pattern s shape _ shows.are c.in_ok-window.window c.in_ok-window.ensures c.if-window-gt-MOST_WINDOW.true)
+    inl (window_long self.tables.now shapes self.hulls.now (placed c.args.of.now).1.pattern s shape _ shows.are c.in_ok-window.window c.in_ok-window.ensures.window c.if-window-gt-MOST_WINDOW.true)
 
 pub returns-in-Some-clause-set : goal.returns-in-Some-clause-set
 returns-in-Some-clause-set c = λ shapes s shows shape.
@@ -16,10 +16,10 @@ returns-in-Some-clause-set c = λ shapes s shows shape.
     let cubes = c.in_ok-cubes.cubes.items in
     let found = rw c.deref.ensures.value at c.in-Some.ensures in
     record {
-      union = union_shaped self.tables.now shapes self.hulls.now p s shape _ shows.are cubes c.in_ok-cubes.ensures;
+      union = union_shaped self.tables.now shapes self.hulls.now p s shape _ shows.are cubes c.in_ok-cubes.ensures.cubes;
       sound = (
-        window_fine self.tables.now shapes self.hulls.now p s shape _ shows.are c.in_ok-window.window c.in_ok-window.ensures c.if-window-gt-MOST_WINDOW.false,
-        point_found self.tables.now shapes self.hulls.now p s shape _ shows.are cubes c.in_ok-cubes.ensures c.in-Some.field-0 found.0 found.1,
+        window_fine self.tables.now shapes self.hulls.now p s shape _ shows.are c.in_ok-window.window c.in_ok-window.ensures.window c.if-window-gt-MOST_WINDOW.false,
+        point_found self.tables.now shapes self.hulls.now p s shape _ shows.are cubes c.in_ok-cubes.ensures.cubes c.in-Some.field-0 found.0 found.1,
       );
     }
 
@@ -28,6 +28,6 @@ returns-in-None-clause-fault c = λ shapes s shows shape.
     let self = c.args.self.now in
     let p = (placed c.args.of.now).1.pattern in
     inr (
-      window_fine self.tables.now shapes self.hulls.now p s shape _ shows.are c.in_ok-window.window c.in_ok-window.ensures c.if-window-gt-MOST_WINDOW.false,
-      no_point self.tables.now shapes self.hulls.now p s shape _ shows.are c.in_ok-cubes.cubes.items c.in_ok-cubes.ensures (rw c.deref.ensures.value at c.in-None.ensures),
+      window_fine self.tables.now shapes self.hulls.now p s shape _ shows.are c.in_ok-window.window c.in_ok-window.ensures.window c.if-window-gt-MOST_WINDOW.false,
+      no_point self.tables.now shapes self.hulls.now p s shape _ shows.are c.in_ok-cubes.cubes.items c.in_ok-cubes.ensures.cubes (rw c.deref.ensures.value at c.in-None.ensures),
     )

@@ -1,0 +1,112 @@
+-- What was made of the patterns of blocks stays right while lists are added.
+use Rattle.std.proofs.Common.{◌≡◌, ℕ, zero, suc, ◌<◌, List, [], ◌∷◌, Result, Ok, Err, length, get_or, arith, refl, sym, ◌∙◌, subst}
+use Rattle.std.specs.Global.{Vec}
+use Rattle.std.specs.List.{AllByRecursion}
+use Rattle.std.specs.Prelude.{IfOk}
+use Rattle.sl_ast.specs.Trees.{Head, Pattern}
+use Rattle.sl_cube.specs.declared.Cube.{Cube}
+use Rattle.sl_patterns.specs.Heads.{AreHeadCubes, IsHeadWindow}
+use Rattle.sl_shape.specs.Below.{IsShaped, Shows, shapes_in}
+use Rattle.sl_shape.specs.HeadsMade.{IsHeadShape, KeepsShapes, by_extents}
+use Rattle.sl_shape.specs.PatternShapes.{Shapes}
+use Rattle.sl_shape.specs.declared.below.Below.{Below}
+use Rattle.sl_shape.specs.declared.below.TokenLists.{TokenLists}
+use Rattle.sl_shape.specs.declared.stop.Stop.{Stop}
+use Rattle.sl_shape.proofs.BelowLemmas.{all_seen, all_there, gets_same, keeps_same, keeps_there, seen_more, shows_more}
+use Rattle.sl_shapes.specs.Lists.{IsThere, Keeps}
+use Rattle.sl_shapes.specs.declared.shapes.Shape as code
+use Rattle.sl_spec.specs.Numbers.{AreMade, AreMadeFor, AreTold}
+use Rattle.sl_spec.specs.declared.unfolded.Around.{Around}
+
+-- what holds of all holds of one
+pub all_at : {X : Type 0} (P : X → Type 0) (xs : List X) → AllByRecursion P xs → (i : ℕ) (x : X) → i < length xs → x ≡ get_or xs i x → P x
+all_at P [] all i x below e = absurd (omega arith)
+all_at P (y ∷ ys) all zero x below e = subst P (sym e) all.0
+all_at P (y ∷ ys) all (suc i) x below e = all_at P ys all.1 i x (omega arith) e
+
+module _ (b : Below) where
+  pub shown : (l : TokenLists) → AllByRecursion (IsThere l.all) b.shapes.now → Shows b l (shapes_in b l)
+  shown l there = record { there = there; are = refl }
+
+  -- ---- lists are added
+
+  module _ (old new : TokenLists) (there : AllByRecursion (IsThere old.all) b.shapes.now) (keeps : Keeps old.all new.all) where
+    pub there_more : AllByRecursion (IsThere new.all) b.shapes.now
+    there_more = all_there old.all new.all keeps b.shapes.now there
+
+    pub shapes_same : shapes_in b old ≡ shapes_in b new
+    shapes_same = sym (all_seen old.all new.all keeps b.shapes.now there)
+
+    module _ (head_at : ℕ → Head) where
+      pub shapes_more : (made : List (ℕ × code.Shape)) → AreMade (IsHeadShape b old) head_at made → AreMade (IsHeadShape b new) head_at made
+      shapes_more made right n s found p is =
+          let i = right n s found p is in
+          let more : IsShaped b (shapes_in b old) new new p s = record {
+            want = i.want;
+            gets = gets_same b new (shapes_in b old) i.want s (keeps_there old.all new.all keeps s.tokens.0 i.gets.there)
+                (seen_more old.all new.all keeps s i.gets.there ∙ i.gets.is) (shows_more b old new (shapes_in b old) keeps (shown old there));
+            shape = i.shape;
+            sound = i.sound;
+          } in
+          subst (λ (ss : Shapes). IsShaped b ss new new p s) shapes_same more
+
+  module _ (old new : TokenLists) (there : AllByRecursion (IsThere old.all) b.shapes.now) (p : Pattern) (s : code.Shape)
+      (shaped : (shapes : Shapes) → Shows b old shapes → IsShaped b shapes old new p s) where
+    pub lists_kept : Keeps old.all new.all
+    lists_kept = (shaped (shapes_in b old) (shown old there)).gets.keeps
+
+    pub shaped_now : IsShaped b (shapes_in b new) new new p s
+    shaped_now =
+        let i = shaped (shapes_in b old) (shown old there) in
+        let here : IsShaped b (shapes_in b old) new new p s = record {
+          want = i.want;
+          gets = gets_same b new (shapes_in b old) i.want s i.gets.there i.gets.is i.gets.shows;
+          shape = i.shape;
+          sound = i.sound;
+        } in
+        subst (λ (ss : Shapes). IsShaped b ss new new p s) (sym i.gets.shows.are) here
+
+  -- ---- block by block
+
+  pub own_kept : (old new : TokenLists) → AllByRecursion (IsThere old.all) b.shapes.now → (p : Pattern) (blocks : List Around) (made : List (ℕ × code.Shape))
+      (r : Result code.Shape Stop) → IfOk r (λ s. (shapes : Shapes) → Shows b old shapes → IsShaped b shapes old new p s) → IfOk r (λ _. KeepsShapes b old new blocks made made)
+  own_kept old new there p blocks made (Ok s) shaped = λ head_at told right. shapes_more old new there (lists_kept old new there p s shaped) head_at made right
+  own_kept old new there p blocks made (Err e) shaped = shaped
+
+  module _ (blocks rest : List Around) (a : Around) (are : blocks ≡ a ∷ rest) where
+    pub rest_kept : (old new : TokenLists) (before after : List (ℕ × code.Shape)) (r : Result code.Shape Stop)
+        → IfOk r (λ _. KeepsShapes b old new rest before after) → IfOk r (λ _. KeepsShapes b old new blocks before after)
+    rest_kept old new before after (Ok s) kept = λ head_at told right.
+        let parts = subst (λ (bs : List Around). AreTold head_at bs) are told in
+        kept head_at parts.1 right
+    rest_kept old new before after (Err e) kept = kept
+
+    pub first_made : (old : TokenLists) (made : List (ℕ × code.Shape)) → AreMadeFor (IsHeadShape b old) blocks made → AreMadeFor (IsHeadShape b old) (a ∷ []) made
+    first_made old made right =
+        let parts = subst (λ (bs : List Around). AreTold right.0 bs) are right.1 in
+        (right.0, (parts.0, tt), right.2)
+
+    pub rest_made : (old mid : TokenLists) (before made : List (ℕ × code.Shape)) → AreMadeFor (IsHeadShape b old) blocks before → KeepsShapes b old mid (a ∷ []) before made
+        → AreMadeFor (IsHeadShape b mid) rest made
+    rest_made old mid before made right kept =
+        let parts = subst (λ (bs : List Around). AreTold right.0 bs) are right.1 in
+        (right.0, parts.1, kept right.0 (parts.0, tt) right.2)
+
+    pub both_kept : (old mid late new : TokenLists) (before made after : List (ℕ × code.Shape)) → KeepsShapes b old mid (a ∷ []) before made → KeepsShapes b mid late rest made after
+        → AllByRecursion (IsThere late.all) b.shapes.now → new.all ≡ late.all → (r : Result code.Shape Stop) → IfOk r (λ _. KeepsShapes b old new blocks before after)
+    both_kept old mid late new before made after first inside there same (Ok s) = λ head_at told right.
+        let parts = subst (λ (bs : List Around). AreTold head_at bs) are told in
+        shapes_more late new there (subst (λ (l : List (List ℕ)). Keeps late.all l) (sym same) (keeps_same late.all)) head_at after
+        (inside head_at parts.1 (first head_at (parts.0, tt) right))
+    both_kept old mid late new before made after first inside there same (Err e) = tt
+
+-- ---- what is read by extents
+
+module _ (b : Below) (found shapes : Shapes) (same : found ≡ shapes) (head_at : ℕ → Head) where
+  pub windows_more : (made : List (ℕ × ℕ)) → AreMade (IsHeadWindow (by_extents b.tables.now found b.hulls.now)) head_at made
+      → AreMade (IsHeadWindow (by_extents b.tables.now shapes b.hulls.now)) head_at made
+  windows_more made right = subst (λ (ss : Shapes). AreMade (IsHeadWindow (by_extents b.tables.now ss b.hulls.now)) head_at made) same right
+
+  pub sets_more : (made : List (ℕ × Vec Cube)) → AreMade (AreHeadCubes (by_extents b.tables.now found b.hulls.now)) head_at made
+      → AreMade (AreHeadCubes (by_extents b.tables.now shapes b.hulls.now)) head_at made
+  sets_more made right = subst (λ (ss : Shapes). AreMade (AreHeadCubes (by_extents b.tables.now ss b.hulls.now)) head_at made) same right

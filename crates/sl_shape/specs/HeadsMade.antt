@@ -1,0 +1,60 @@
+-- step: what was made of the patterns of blocks.
+use Rattle.std.specs.Prelude.{◌≡◌, ℕ, List, Option, Some}
+use Rattle.std.specs.List.{AllByRecursion}
+use Rattle.sl_ast.specs.Trees.{Head, Pattern}
+use Rattle.sl_cube.specs.declared.Cube.{Cube}
+use Rattle.sl_patterns.specs.Heads.{AreHeadCubes, IsHeadCount, IsHeadWindow}
+use Rattle.sl_patterns.specs.Patterns.{Reading}
+use Rattle.sl_shape.specs.Below.{IsShaped, shapes_in}
+use Rattle.sl_shape.specs.Extents.{extent_bytes, extent_of}
+use Rattle.sl_shape.specs.PatternShapes.{Shapes}
+use Rattle.sl_shape.specs.declared.below.Below.{Below}
+use Rattle.sl_shape.specs.declared.below.HeadsMade.{HeadsMade}
+use Rattle.sl_shape.specs.declared.below.TokenLists.{TokenLists}
+use Rattle.sl_shapes.specs.Lists.{IsThere}
+use Rattle.sl_shapes.specs.declared.shapes.Shape as code
+use Rattle.sl_spec.specs.Numbers.{AreMade, AreMadeFor, AreTold, AreToldOf}
+use Rattle.sl_spec.specs.declared.tables.Tables.{Tables}
+use Rattle.sl_spec.specs.declared.unfolded.Around.{Around}
+use Rattle.sl_spec.specs.declared.unfolded.Unfolded.{Unfolded}
+
+-- what is read by extents
+abbrev pub by_extents : Tables → Shapes → List (Option Cube) → Reading
+by_extents t shapes hulls =
+    record { tables = t; bytes = λ p. extent_bytes (extent_of t shapes p); hulls = hulls }
+
+module _ (b : Below) where
+  -- what is read with these lists
+  abbrev pub read_with : TokenLists → Reading
+  read_with l = by_extents b.tables.now (shapes_in b l) b.hulls.now
+
+  -- There is the shape of the head's pattern, which has no fault.
+  abbrev pub IsHeadShape : TokenLists → Head → code.Shape → Type 0
+  IsHeadShape l h s = (p : Pattern) → h.pattern ≡ Some p → IsShaped b (shapes_in b l) l l p s
+
+  -- Shapes stay right while lists are added, however numbers tell the heads of these blocks.
+  abbrev pub KeepsShapes : TokenLists → TokenLists → List Around → List (ℕ × code.Shape)
+      → List (ℕ × code.Shape) → Type 0
+  KeepsShapes old new blocks before after = (head_at : ℕ → Head) → AreTold head_at blocks
+      → AreMade (IsHeadShape old) head_at before → AreMade (IsHeadShape new) head_at after
+
+  -- The lists of the tables' shapes are there, and what was made of each block is right.
+  pub record AreRight (l : TokenLists) (head_at : ℕ → Head) (made : HeadsMade) : Type 0 where
+    pub there : AllByRecursion (IsThere l.all) b.shapes.now
+    pub counts : AreMade (IsHeadCount b.tables.now) head_at made.counts
+    pub shapes : AreMade (IsHeadShape l) head_at made.shapes
+    pub windows : AreMade (IsHeadWindow (read_with l)) head_at made.windows
+    pub sets : AreMade (AreHeadCubes (read_with l)) head_at made.sets
+
+  -- It is right where numbers tell the heads of these blocks.
+  abbrev pub AreRightFor : TokenLists → List Around → HeadsMade → Type 0
+  AreRightFor l blocks made = (head_at : ℕ → Head) × AreTold head_at blocks × AreRight l head_at made
+
+  -- It stays right while lists are added, however numbers tell the heads of these blocks.
+  abbrev pub KeepsRight : TokenLists → TokenLists → List Around → HeadsMade → HeadsMade → Type 0
+  KeepsRight old new blocks before after = (head_at : ℕ → Head) → AreTold head_at blocks
+      → AreRight old head_at before → AreRight new head_at after
+
+  -- It is right where numbers tell the heads of all blocks round these constructors.
+  abbrev pub AreRightOf : TokenLists → List Unfolded → HeadsMade → Type 0
+  AreRightOf l us made = (head_at : ℕ → Head) × AreToldOf head_at us × AreRight l head_at made
