@@ -2,6 +2,7 @@
 
 ghost use Rattle.std.specs.Prelude.{IfErr, IfOk};
 ghost use Rattle.sl_sound.specs.Soundness.{AreSetsOf, IsSound, Refuses, Stand};
+ghost use Rattle.sl_spec.specs.Numbers.{AreNumbered};
 ghost use Rattle.sl_spec.specs.Unfolded.{all_placed};
 
 use sl_conflict::{Checked, ConflictError, check};
@@ -41,9 +42,10 @@ impl From<ConflictError> for Unsound {
 }
 
 /// The sets of all tables, where no pattern has a fault and each table is settled. `constructors` are
-/// those of `t` as they are written, in the same order; the clauses speak of tables as `bind` gives
-/// them.
+/// those of `t` as they are written, in the same order, with numbers that tell the blocks round them
+/// apart; the clauses speak of tables as `bind` gives them.
 pub fn judge(alloc: Global, t: &Tables, constructors: &[Unfolded]) -> Result<Checked, Unsound>
+    requires { AreNumbered constructors.now }
     ensures sound { IfOk result (λ checked. Stand t.now (all_placed constructors.now)
         → IsSound t.now (all_placed constructors.now)) }
     ensures sets { IfOk result (λ checked. Stand t.now (all_placed constructors.now)
