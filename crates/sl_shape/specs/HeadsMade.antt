@@ -13,7 +13,7 @@ use Rattle.sl_shape.specs.declared.below.HeadsMade.{HeadsMade}
 use Rattle.sl_shape.specs.declared.below.TokenLists.{TokenLists}
 use Rattle.sl_shapes.specs.Lists.{IsThere}
 use Rattle.sl_shapes.specs.declared.shapes.Shape as code
-use Rattle.sl_spec.specs.Numbers.{AreMade, AreMadeFor, AreTold, AreToldOf}
+use Rattle.sl_spec.specs.Numbers.{AreMade, AreTold, AreToldOf}
 use Rattle.sl_spec.specs.declared.tables.Tables.{Tables}
 use Rattle.sl_spec.specs.declared.unfolded.Around.{Around}
 use Rattle.sl_spec.specs.declared.unfolded.Unfolded.{Unfolded}

@@ -50,3 +50,18 @@ pub fn none_made(alloc: Global) -> HeadsMade
         sets: ByBlock::new(alloc),
     }
 }
+
+/// For how many constructors what was made of blocks is kept: longer, the sets of blocks that lie
+/// behind would take as much memory as those of all constructors.
+const KEPT_FOR: usize = 1024;
+
+/// What was made, and nothing at every 1,024th constructor.
+pub fn kept_at(alloc: Global, index: usize, made: HeadsMade) -> HeadsMade
+    ensures { (b : Below) (lists : TokenLists) (head_at : ℕ → Head)
+        → AreRight b lists head_at made → AreRight b lists head_at result }
+{
+    if index % KEPT_FOR == 0 {
+        return none_made(alloc);
+    }
+    made
+}

@@ -13,7 +13,7 @@ ghost use Rattle.sl_shapes.specs.Lists.{IsThere};
 ghost use Rattle.sl_spec.specs.Numbers.{AreNumbered};
 ghost use Rattle.sl_spec.specs.Unfolded.{all_placed};
 
-use crate::below::{Below, HeadsMade, TokenLists, none_made};
+use crate::below::{Below, HeadsMade, TokenLists, kept_at, none_made};
 use crate::errors::ShapeError;
 use crate::faults::Fault;
 use crate::stop::Stop;
@@ -144,6 +144,7 @@ impl Below<'_, '_> {
         let mut made = none_made(alloc);
         'ctors: for index in 0..ctors.len() {
             let ctor = ctors[index];
+            made = kept_at(alloc, index, made);
             let shape = self.add_constructor(alloc, constructors, ctor, sets, lists, &mut made)?;
             push(&mut found, shape)?;
         }

@@ -34,6 +34,11 @@ ctors-init c =
           subst (λ (found : List code.Shape). AreAdded b cs shapes l l sets sets [] found) (sym c.new-found.ensures.items) none;
     }
 
+pub add_constructor-requires-clause-right : goal.add_constructor-requires-clause-right
+add_constructor-requires-clause-right c =
+    let right = c.ctors.invariant.right in
+    (right.0, right.1, c.kept_at-made.ensures c.args.self.now c.ctors.lists right.0 right.2)
+
 pub ctors-preserved : goal.ctors-preserved
 ctors-preserved c =
     let b = c.args.self.now in
