@@ -240,6 +240,29 @@ def heads(size):
     return {"s": front + head * 16 + "".join(":o%d is code=%d {}\n" % (n, n) for n in range(size)) + "}\n" * 16}
 
 
+def named_heads(size):
+    """So many constructors in sixteen blocks, each with a pattern of 127 constraints and an operand."""
+    head = "with : %s & " + " & ".join(["b>=0"] * 127) + " {\n"
+    fields = " ".join("n%d=(0,%d)" % (n, n % 4) for n in range(16))
+    front = SPACE % 4 + "define token c (32) code=(8,31) b=(0,3) %s;\n" % fields
+    heads = "".join(head % ("n%d" % n) for n in range(16))
+    return {"s": front + heads + "".join(":o%d is code=%d {}\n" % (n, n) for n in range(size)) + "}\n" * 16}
+
+
+def acting_heads(size):
+    """So many constructors in sixteen blocks, each with a pattern of 128 constraints, the outermost with an action."""
+    text = heads(size)["s"].replace(" {\n", " [ m = 1; ] {\n", 1)
+    front = "define space register type=register_space size=4;\ndefine register offset=0 size=4 k;\ndefine context k m=(0,7);\n"
+    return {"s": text.replace("define token", front + "define token", 1)}
+
+
+def head_tables(size):
+    """So many tables, each with a constructor, in sixteen blocks, each with a pattern of 128 constraints."""
+    head = "with : " + " & ".join(["b>=0"] * 128) + " {\n"
+    front = SPACE % 4 + "define token c (32) code=(8,31) b=(0,3);\n:i is code=0 {}\n"
+    return {"s": front + head * 16 + "".join('t%d: "o" is code=%d {}\n' % (n, n) for n in range(size)) + "}\n" * 16}
+
+
 def wide_heads(size):
     """So many constructors in a block of 1,024 cubes and fifteen others of 128 constraints."""
     wide = "with : p!=0 & q!=0 & r!=0 {\n"
@@ -400,6 +423,9 @@ KINDS = (
             lambda n: (DONE, "00000000: 10 x ab ab ab ab"), LIST),
     Hostile("constructors that call one macro of 65,528 tokens", "constructors", powers(16, 65535), "65,535", heavy_macro, lambda n: ok(1, n)),
     Hostile("constructors in 16 blocks of 128 constraints", "constructors", powers(256, 65535), "65,535", heads, lambda n: ok(1, n)),
+    Hostile("constructors in 16 blocks of 127 constraints and an operand", "constructors", powers(256, 65535), "65,535", named_heads, lambda n: ok(1, n)),
+    Hostile("constructors in 16 blocks of 128 constraints and one action", "constructors", powers(256, 65535), "65,535", acting_heads, lambda n: ok(1, n)),
+    Hostile("tables of one constructor in 16 blocks of 128 constraints", "tables", powers(256, 65534), "65,534", head_tables, lambda n: ok(n + 1, n + 1)),
     Hostile("constructors in a block of 1,024 cubes and 15 others", "constructors", powers(16, 65535), "65,535", wide_heads, lambda n: ok(1, n)),
     Hostile("actions in the head of a block round constructors", "of each", powers(2000, 65535), "65,535, and 2,000,000 actions",
             head_actions, lambda n: ok(1, n)),
