@@ -24,7 +24,7 @@ returns c =
     let is : rs ≡ rows c.args.t.now cs ss =
     ap rows_of c.as_slice-rows.ensures.value ∙ c.in_ok-rows.ensures
     ∙ ap (λ l. zip (all.rows_of l) ss) c.as_slice-2.ensures.value
-    ∙ ap (λ l. zip l ss) (c.in_ok-all.ensures ∙ ap (λ (l : List Ctor). zip l cs) c.as_slice.ensures) in
+    ∙ ap (λ l. zip l ss) (c.in_ok-all.ensures.all ∙ ap (λ (l : List Ctor). zip l cs) c.as_slice.ensures) in
     c.in_ok-at.ensures
     ∙ ap (λ (l : List Bool). first_place (breaks_by l c.as_slice-4.result.now c.as_slice-5.result.now) rs) c.as_slice-3.ensures.value
     ∙ ap (λ (l : List Bool). first_place (breaks_by assigned l c.as_slice-5.result.now) rs) c.as_slice-4.ensures.value

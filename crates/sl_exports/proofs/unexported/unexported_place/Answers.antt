@@ -19,7 +19,7 @@ returns c =
     let ss = sections_of c.args.sections.now in
     let rs = all.rows_of c.as_slice-all.result.now in
     let is : rs ≡ tables.rows c.args.t.now cs =
-    ap all.rows_of c.as_slice-all.ensures.value ∙ c.in_ok-all.ensures ∙ ap (λ (l : List Ctor). zip l cs) c.as_slice.ensures in
+    ap all.rows_of c.as_slice-all.ensures.value ∙ c.in_ok-all.ensures.all ∙ ap (λ (l : List Ctor). zip l cs) c.as_slice.ensures in
     let exports : (v : ℕ) → mark_of c.in_ok-exporting.exporting.items v ≡ is_one_of (exporting rs) v =
     λ v. c.in_ok-exporting.ensures v ∙ ap (λ l. is_one_of l v) (c.as_slice-2.ensures.value ∙ c.in_ok-tables.ensures) in
     let is_silent : (v : ℕ) → mark_of c.in_ok-silent.silent.items v ≡ is_one_of (silent rs) v =
