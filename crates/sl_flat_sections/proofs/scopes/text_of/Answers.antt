@@ -1,12 +1,30 @@
-use Rattle.std.proofs.Common.{[], map}
+use Rattle.std.proofs.Common.{◌++◌, List, [], map, ap, sym, subst, ◌∙◌}
+use Rattle.sl_ast.specs.Unfolding.{unfolded_from}
 use Rattle.sl_ast.specs.Views.{item_of}
+use Rattle.sl_flat_sections.specs.Scopes.{behind_items, nothing_defined}
 use Rattle.sl_flat_sections.specs.Views.{scopes_view}
 use Rattle.sl_flat_sections.proofs.ScopeLemmas.{all_behind, goes_behind}
 use Rattle.sl_rules.proofs.Seen.{below_map, past_map, seen_map}
-use Rattle.sl_spec.specs.Unfolded.{all_placed}
-use Rattle.sl_spec.proofs.NumberLemmas.{numbers_all}
+use Rattle.sl_resolve.specs.Macros.{Body, bodies_of}
+use Rattle.sl_resolve.specs.declared.reach.Reach.{Reach}
+use Rattle.sl_spec.specs.Numbers.{AreNumberedBelow}
+use Rattle.sl_spec.specs.Unfolded.{all_placed, constructors_in}
+use Rattle.sl_spec.specs.declared.unfolded.Unfolded.{Unfolded}
+use Rattle.sl_spec.proofs.NumberLemmas.{none_numbered, numbers_all}
 use Rattle.sl_spec.proofs.WalkLemmas.{all_gathered, gathers}
 use Rattle.sl_flat_sections.proofs.scopes.text_of.Goals as goal
+
+pub items-init : goal.items-init
+items-init c =
+    let all = unfolded_from 0 (map item_of c.args.items.now) in
+    let none = c.new.ensures.items in
+    let reach = nothing_defined.reach in
+    record {
+      constructors = ap (λ (us : List Unfolded). all_placed us ++ constructors_in all) none;
+      scopes = ap (λ (ms : List Body). behind_items (record { reach = reach; macros = ms; reaches = c.new-3.result.items }) all) (ap bodies_of c.new-2.ensures)
+          ∙ ap (λ (rs : List Reach). behind_items (record { reach = reach; macros = []; reaches = rs }) all) c.new-3.ensures.items;
+      numbered = subst (λ (us : List Unfolded). AreNumberedBelow 0 [] us) (sym none) none_numbered;
+    }
 
 pub items-preserved : goal.items-preserved
 items-preserved c =
