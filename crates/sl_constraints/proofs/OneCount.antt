@@ -1,5 +1,5 @@
 -- A count and an end are one.
-use Rattle.std.proofs.Common.{◌≡◌, ℕ, ◌-◌, ◌<◌, ◌≤◌, inl, inr, arith}
+use Rattle.std.proofs.Common.{◌≡◌, ℕ, ◌-◌, ◌≤◌, inl, inr, arith}
 use Rattle.std.proofs.lemmas.Bool.{cases_lt}
 use Rattle.sl_constraints.specs.Counts.{HasCount}
 use Rattle.sl_constraints.specs.Values.{Constraint}

@@ -3,7 +3,7 @@ use Rattle.std.proofs.Common.{◌≡◌, ℕ, ◌+◌, ◌-◌, ◌*◌, ◌/◌
 use Rattle.std.proofs.lemmas.Bool.{cases_lt}
 use Rattle.sl_spec.specs.FieldValues.{token_of}
 use Rattle.sl_spec.specs.Tables as spec
-use Rattle.sl_word.specs.declared.word.Endian.TheVariants.{Little, Big}
+use Rattle.sl_word.specs.declared.word.Endian.TheVariants.{Little}
 use Rattle.sl_constraints.specs.Codes.{AreBitsOf, HasBitOf, HasBitInByte}
 use Rattle.sl_constraints.specs.Homes.{home_of}
 use Rattle.sl_constraints.specs.Windows.{Constrains, HasBitOfField, HoldsOfAll, IsEnd}

@@ -1,9 +1,10 @@
 //! Constraints as unions of cubes.
 
-ghost use Rattle.std.specs.Prelude.{◌≡◌, ◌≤◌, IfOk};
+ghost use Rattle.std.specs.Prelude.{◌≡◌, ◌≤◌, ◌+◌, ℕ, IfOk, OnOk, length};
 ghost use Rattle.std.specs.List.{Any};
 ghost use Rattle.sl_spec.specs.FieldValues.{token_of};
 ghost use Rattle.sl_constraints.specs.Codes.{AreBitsOf};
+ghost use Rattle.sl_constraints.specs.Counts.{HasCount};
 ghost use Rattle.sl_constraints.specs.Homes.{HasCodeIn, home_of};
 ghost use Rattle.sl_constraints.specs.Rooms.{room};
 ghost use Rattle.sl_constraints.specs.Places.{seen};
@@ -35,10 +36,12 @@ fn home_of<'a>(tokens: &Named<'a, Token<'a>>, field: &Field<'a>) -> Home
     Home::Token(token.endian, u32::from(token.bits / 8))
 }
 
-/// Adds the points that, as they are seen from the place, have the bits in the block.
+/// Adds the points that, as they are seen from the place, have the bits in the block, as at most one
+/// cube.
 fn put_block(bits: &Bits, block: Block, place: u32, cubes: &mut Vec<Cube>) -> Result<(), AllocError>
-    ensures { IfOk result (λ _. Adds cubes.old.items
+    ensures points { IfOk result (λ _. Adds cubes.old.items
         (λ p. HasCodeIn bits.now block (seen place p)) cubes.new.items) }
+    ensures few { OnOk result (length cubes.new.items ≤ length cubes.old.items + 1) }
 {
     if let Some(cube) = block_cube(bits, block) {
         put_moved(cubes, &cube, place)?;
@@ -46,16 +49,19 @@ fn put_block(bits: &Bits, block: Block, place: u32, cubes: &mut Vec<Cube>) -> Re
     Ok(())
 }
 
-/// Adds the points that, as they are seen from the place, have the bits in one of the blocks.
+/// Adds the points that, as they are seen from the place, have the bits in one of the blocks, as at
+/// most one cube for each.
 fn put_blocks(
     bits: &Bits,
     blocks: &[Block],
     place: u32,
     cubes: &mut Vec<Cube>,
 ) -> Result<(), AllocError>
-    ensures { IfOk result (λ _. Adds cubes.old.items
+    ensures points { IfOk result (λ _. Adds cubes.old.items
         (λ p. Any (λ block. HasCodeIn bits.now block (seen place p)) blocks.now)
         cubes.new.items) }
+    ensures few { OnOk result
+        (length cubes.new.items ≤ length cubes.old.items + length blocks.now) }
 {
     for block in blocks {
         put_block(bits, *block, place, cubes)?;
@@ -76,16 +82,19 @@ impl Constraint<'_, '_> {
         }
     }
 
-    /// Adds the points at which the constraint holds, as they are seen from the place. Places from
-    /// 16 on are one, since bytes past the sixteen of a point are zeros.
+    /// Adds the points at which the constraint holds, as they are seen from the place, as at most as
+    /// many cubes as its count. Places from 16 on are one, since bytes past the sixteen of a point
+    /// are zeros.
     pub fn put_cubes(
         &self,
         alloc: Global,
         place: u32,
         cubes: &mut Vec<Cube>,
     ) -> Result<(), AllocError>
-        ensures { IfOk result (λ _. Adds cubes.old.items
+        ensures points { IfOk result (λ _. Adds cubes.old.items
             (λ p. Holds (constraint_of self.now) (seen place p)) cubes.new.items) }
+        ensures few { OnOk result ((count : ℕ) → HasCount (constraint_of self.now) count
+            → length cubes.new.items ≤ length cubes.old.items + count) }
     {
         let blocks = self.blocks(alloc)?;
         put_blocks(&self.bits(), &blocks, place, cubes)?;

@@ -1,6 +1,6 @@
 //! Cubes at a place.
 
-ghost use Rattle.std.specs.Prelude.{MatchOption, IfOk};
+ghost use Rattle.std.specs.Prelude.{◌≤◌, ◌+◌, MatchOption, IfOk, OnOk, length};
 ghost use Rattle.sl_constraints.specs.Sets.{Adds, IsCubeOf, IsNowhere};
 ghost use Rattle.sl_constraints.specs.Places.{IsSeenIn};
 
@@ -28,9 +28,11 @@ pub fn moved(cube: &Cube, place: u32) -> Option<Cube>
     })
 }
 
-/// Adds the points that are in the cube as they are seen from the place.
+/// Adds the points that are in the cube as they are seen from the place, as at most one cube.
 pub fn put_moved(cubes: &mut Vec<Cube>, cube: &Cube, place: u32) -> Result<(), AllocError>
-    ensures { IfOk result (λ _. Adds cubes.old.items (IsSeenIn place cube.now) cubes.new.items) }
+    ensures points { IfOk result
+        (λ _. Adds cubes.old.items (IsSeenIn place cube.now) cubes.new.items) }
+    ensures few { OnOk result (length cubes.new.items ≤ length cubes.old.items + 1) }
 {
     if let Some(at_place) = moved(cube, place) {
         cubes.push(at_place)?;
