@@ -1,8 +1,16 @@
 -- What is made of the patterns of blocks.
 use Rattle.std.proofs.Common.{◌≡◌, ℕ, ◌<◌, List, [], ◌∷◌, Option, Some, length, arith, sym, subst, ap, ◌∙◌}
+use Rattle.std.specs.Global.{Vec}
 use Rattle.std.specs.Prelude.{unwrap_or}
 use Rattle.sl_ast.specs.Trees.{Head, Pattern}
-use Rattle.sl_spec.specs.Numbers.{AreMadeFor, AreTold, KeepsMade}
+use Rattle.sl_ast.specs.Views.{head_of}
+use Rattle.sl_constraints.specs.Sets.{IsUnionOf}
+use Rattle.sl_cube.specs.declared.Cube.{Cube}
+use Rattle.sl_patterns.specs.Counts.{FitCount}
+use Rattle.sl_patterns.specs.Heads.{AreHeadCubes}
+use Rattle.sl_patterns.specs.Patterns.{PatternHolds, Reading}
+use Rattle.sl_spec.proofs.MadeLemmas.{found_right}
+use Rattle.sl_spec.specs.Numbers.{AreMadeFor, AreTold, KeepsMade, made_of}
 use Rattle.sl_spec.specs.declared.unfolded.Around.{Around}
 
 -- what holds of the head's only pattern
@@ -36,3 +44,9 @@ pub rest_shorter : (blocks rest : List Around) (a : Around) → blocks ≡ a ∷
 rest_shorter blocks rest a are =
     let e = ap (λ (bs : List Around). length bs) are in
     omega (arith, e)
+
+-- what was made of a block's pattern
+pub found_cubes : (r : Reading) (a : Around) (sets : List (ℕ × Vec Cube)) (p : Pattern) (cubes : Vec Cube) → (head_of a.head.now).pattern ≡ Some p
+    → AreMadeFor (AreHeadCubes r) (a ∷ []) sets → made_of sets a.number ≡ Some cubes
+    → IsUnionOf (PatternHolds r p 0) cubes.items × FitCount r.tables p cubes.items
+found_cubes r a sets p cubes its made is = found_right (AreHeadCubes r) made.0 a made.1.0 sets cubes made.2 is p its

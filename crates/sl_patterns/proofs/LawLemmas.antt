@@ -1,5 +1,5 @@
 -- A pattern is read alike where its tables and its left sides are.
-use Rattle.std.proofs.Common.{◌≡◌, ◌↔◌, ℕ, List, Option, sym, subst}
+use Rattle.std.proofs.Common.{◌↔◌, ℕ, List, Option, sym, subst}
 use Rattle.sl_ast.specs.Trees as t
 use Rattle.sl_ast.specs.declared.patterns.PatternOp.TheVariants.{Or}
 use Rattle.sl_constraints.specs.Places.{seen}

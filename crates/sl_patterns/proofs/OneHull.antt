@@ -1,7 +1,6 @@
 -- Hulls of the same points are alike: they have the same points, and fix a bit of the same bytes.
 use Rattle.std.proofs.Common.{◌≡◌, ◌↔◌, ℕ, ◌<◌, ◌^◌, Option, Some, None, refl, subst, arith}
 use Rattle.std.specs.Int.{bit_at}
-use Rattle.sl_cube.specs.Bits.{Agrees}
 use Rattle.sl_cube.specs.Points.{InRange, IsIn}
 use Rattle.sl_cube.specs.declared.Cube.{Cube}
 use Rattle.sl_cube.specs.declared.Point.{Point}

@@ -1,10 +1,11 @@
 -- meaning: how many cubes a pattern may need.
-use Rattle.std.specs.Prelude.{◌≡◌, ℕ, ◌+◌, ◌*◌, ◌≤◌, Option, Some, None}
+use Rattle.std.specs.Prelude.{◌≡◌, ℕ, ◌+◌, ◌*◌, ◌≤◌, List, Option, Some, None, length}
 use Rattle.sl_ast.specs.Trees.{Pattern, bare, constraint, group, ellipsis, joined}
 use Rattle.sl_ast.specs.declared.patterns.PatternOp.{PatternOp}
 use Rattle.sl_ast.specs.declared.patterns.PatternOp.TheVariants.{And, Then, Or}
 use Rattle.sl_constraints.specs.Counts.{HasCount}
 use Rattle.sl_constraints.specs.Values.{Constraint}
+use Rattle.sl_cube.specs.declared.Cube.{Cube}
 use Rattle.sl_patterns.specs.Patterns.{constraint_of, told}
 use Rattle.sl_spec.specs.declared.tables.Tables.{Tables}
 
@@ -27,6 +28,10 @@ module _ (t : Tables) where
   HasPatternCount (ellipsis q) n = HasPatternCount q n
   HasPatternCount (joined op left right) n = (a : ℕ) × (b : ℕ)
       × HasPatternCount left a × HasPatternCount right b × (n ≡ joined_count op a b)
+
+  -- The cubes are no more than the pattern's count.
+  abbrev pub FitCount : Pattern → List Cube → Type 0
+  FitCount p cubes = (count : ℕ) → HasPatternCount p count → length cubes ≤ count
 
 -- Such a number is at least 1, and it is told up to 4,294,967,295.
 abbrev pub IsTold : (ℕ → Type 0) → ℕ → Type 0

@@ -4,7 +4,7 @@ use Rattle.std.specs.Prelude.{◌≡◌, ℕ, Some}
 use Rattle.sl_ast.specs.Trees.{Head, Pattern}
 use Rattle.sl_constraints.specs.Sets.{IsUnionOf}
 use Rattle.sl_cube.specs.declared.Cube.{Cube}
-use Rattle.sl_patterns.specs.Counts.{HasPatternCount, IsTold}
+use Rattle.sl_patterns.specs.Counts.{FitCount, HasPatternCount, IsTold}
 use Rattle.sl_patterns.specs.Patterns.{PatternHolds, Reading}
 use Rattle.sl_patterns.specs.Windows.{IsWindow, PatternConstrains}
 use Rattle.sl_spec.specs.declared.tables.Tables.{Tables}
@@ -17,7 +17,7 @@ IsHeadCount t h n = (p : Pattern) → h.pattern ≡ Some p → IsTold (HasPatter
 abbrev pub IsHeadWindow : Reading → Head → ℕ → Type 0
 IsHeadWindow r h n = (p : Pattern) → h.pattern ≡ Some p → IsWindow (PatternConstrains r p 0) n
 
--- The cubes have the points at which the head's pattern holds.
+-- The cubes have the points at which the head's pattern holds, and are no more than its count.
 abbrev pub AreHeadCubes : Reading → Head → Vec Cube → Type 0
 AreHeadCubes r h cubes = (p : Pattern) → h.pattern ≡ Some p
-    → IsUnionOf (PatternHolds r p 0) cubes.items
+    → IsUnionOf (PatternHolds r p 0) cubes.items × FitCount r.tables p cubes.items

@@ -3,6 +3,7 @@
 ghost use Rattle.std.specs.Prelude.{◌≡◌, ◌∷◌, [], IfOk, Some};
 ghost use Rattle.sl_ast.specs.Views.{constructor_of, head_of, pattern_of};
 ghost use Rattle.sl_constraints.specs.Sets.{IsUnionOf};
+ghost use Rattle.sl_patterns.specs.Counts.{FitCount};
 ghost use Rattle.sl_patterns.specs.Heads.{AreHeadCubes};
 ghost use Rattle.sl_patterns.specs.Patterns.{PatternHolds};
 ghost use Rattle.sl_patterns.specs.Views.{reading_of};
@@ -18,7 +19,8 @@ use sl_spec::{Around, ByBlock, Unfolded};
 use std::alloc::{AllocError, Global};
 
 impl<L: Lengths> Reader<'_, '_, L> {
-    /// The points at which the pattern of a block holds, made where they aren't there yet.
+    /// The points at which the pattern of a block holds, made where they aren't there yet, as at most
+    /// as many cubes as its count.
     fn cubes_of_block(
         &self,
         alloc: Global,
@@ -31,6 +33,8 @@ impl<L: Lengths> Reader<'_, '_, L> {
             sets.old }
         ensures cubes { IfOk result (λ cubes. IsUnionOf
             (PatternHolds (reading_of L.bytes self.now) (pattern_of pattern.now) 0) cubes.items) }
+        ensures few { IfOk result (λ cubes.
+            FitCount self.now.tables.now (pattern_of pattern.now) cubes.items) }
         ensures kept { IfOk result (λ _. KeepsMade (AreHeadCubes (reading_of L.bytes self.now))
             (block.now ∷ []) sets.old sets.new) }
     {
@@ -44,7 +48,8 @@ impl<L: Lengths> Reader<'_, '_, L> {
         Ok(again)
     }
 
-    /// The points at which the patterns of the blocks and of the constructor in them hold.
+    /// The points at which the patterns of the blocks and of the constructor in them hold, as at most
+    /// as many cubes as their count.
     fn cubes_in_blocks(
         &self,
         alloc: Global,
@@ -55,6 +60,8 @@ impl<L: Lengths> Reader<'_, '_, L> {
         requires { AreMadeFor (AreHeadCubes (reading_of L.bytes self.now)) heads.now sets.old }
         ensures cubes { IfOk result (λ cubes. IsUnionOf (PatternHolds (reading_of L.bytes self.now)
             (under (heads_of heads.now) (constructor_of own.now)).pattern 0) cubes.items) }
+        ensures few { IfOk result (λ cubes. FitCount self.now.tables.now
+            (under (heads_of heads.now) (constructor_of own.now)).pattern cubes.items) }
         ensures kept { IfOk result (λ _. KeepsMade (AreHeadCubes (reading_of L.bytes self.now))
             heads.now sets.old sets.new) }
     {
@@ -73,7 +80,7 @@ impl<L: Lengths> Reader<'_, '_, L> {
     }
 
     /// The set of a constructor: the points at which its pattern holds, with the patterns of the
-    /// blocks round it. `sets` has those of the blocks' patterns that were made already, and then
+    /// blocks round it, as at most as many cubes as its count. `sets` has those of the blocks' patterns that were made already, and then
     /// of all blocks round this constructor.
     pub fn constructor_cubes(
         &self,
@@ -85,6 +92,8 @@ impl<L: Lengths> Reader<'_, '_, L> {
             sets.old }
         ensures cubes { IfOk result (λ cubes. IsUnionOf (PatternHolds (reading_of L.bytes self.now)
             (placed of.now).1.pattern 0) cubes.items) }
+        ensures few { IfOk result (λ cubes.
+            FitCount self.now.tables.now (placed of.now).1.pattern cubes.items) }
         ensures kept { IfOk result (λ _. KeepsMade (AreHeadCubes (reading_of L.bytes self.now))
             of.now.heads.items sets.old sets.new) }
     {

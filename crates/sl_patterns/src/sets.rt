@@ -1,10 +1,11 @@
 //! The sets of patterns as unions of cubes.
 
-ghost use Rattle.std.specs.Prelude.{◌≡◌, ◌↔◌, ℕ, IfOk, IsTrue};
+ghost use Rattle.std.specs.Prelude.{◌≡◌, ◌↔◌, ◌≤◌, ℕ, IfOk, IsTrue, length};
 ghost use Rattle.sl_ast.specs.Views.{expression_of, pattern_of};
 ghost use Rattle.sl_constraints.specs.Places.{seen};
 ghost use Rattle.sl_constraints.specs.Sets.{IsUnionOf};
 ghost use Rattle.sl_cube.specs.Points.{IsInSome};
+ghost use Rattle.sl_patterns.specs.Counts.{FitCount, IfCount, joined_count};
 ghost use Rattle.sl_patterns.specs.Patterns.{HoldsEverywhere, IfHolds, JoinedHolds};
 ghost use Rattle.sl_patterns.specs.Patterns.{NameHolds, PatternHolds};
 ghost use Rattle.sl_patterns.specs.Patterns.{constraint_of, right_place, told};
@@ -20,7 +21,8 @@ use sl_cube::{Cube, is_covered};
 use sl_spec::Tables;
 use std::alloc::{AllocError, Global};
 
-/// The points at which the constraint holds, as they are seen from the place.
+/// The points at which the constraint holds, as they are seen from the place, as at most as many
+/// cubes as its count.
 fn constraint_cubes(
     alloc: Global,
     t: &Tables,
@@ -29,9 +31,12 @@ fn constraint_cubes(
     value: &Expr,
     place: u32,
 ) -> Result<Vec<Cube>, AllocError>
-    ensures { IfOk result (λ cubes. IsUnionOf (λ p.
+    ensures points { IfOk result (λ cubes. IsUnionOf (λ p.
         IfHolds (constraint_of t.now name.now relation (expression_of value.now)) (seen place p))
         cubes.items) }
+    ensures few { IfOk result (λ cubes. (count : ℕ)
+        → IfCount (constraint_of t.now name.now relation (expression_of value.now)) count
+        → length cubes.items ≤ count) }
 {
     let mut cubes = Vec::new(alloc);
     let Some(constraint) = constraint_of(t, name, relation, value) else {
@@ -41,15 +46,18 @@ fn constraint_cubes(
     Ok(cubes)
 }
 
-/// The points of two joined patterns, from those of the sides.
+/// The points of two joined patterns, from those of the sides, as at most as many cubes as the count
+/// of both.
 fn joined_cubes(
     alloc: Global,
     op: PatternOp,
     left: Vec<Cube>,
     right: &[Cube],
 ) -> Result<Vec<Cube>, AllocError>
-    ensures { IfOk result (λ cubes. IsUnionOf
+    ensures points { IfOk result (λ cubes. IsUnionOf
         (λ p. JoinedHolds op (IsInSome left.items p) (IsInSome right.now p)) cubes.items) }
+    ensures few { IfOk result (λ cubes. (a b : ℕ) → length left.items ≤ a → length right.now ≤ b
+        → length cubes.items ≤ joined_count op a b) }
 {
     match op {
         PatternOp::And => {
@@ -69,10 +77,12 @@ fn joined_cubes(
 }
 
 impl<L: Lengths> Reader<'_, '_, L> {
-    /// The points at which the name holds by itself, as they are seen from the place.
+    /// The points at which the name holds by itself, as they are seen from the place, as at most one
+    /// cube.
     fn name_cubes(&self, alloc: Global, name: &[u8], place: u32) -> Result<Vec<Cube>, AllocError>
-        ensures { IfOk result (λ cubes. IsUnionOf
+        ensures points { IfOk result (λ cubes. IsUnionOf
             (λ p. NameHolds (reading_of L.bytes self.now) name.now (seen place p)) cubes.items) }
+        ensures few { IfOk result (λ cubes. length cubes.items ≤ 1) }
     {
         let mut cubes = Vec::new(alloc);
         let Some(cube) = self.name_cube(name) else {
@@ -103,16 +113,18 @@ impl<L: Lengths> Reader<'_, '_, L> {
         }
     }
 
-    /// The points at which the pattern holds, read from the place on. A place from 4,294,967,295 on
-    /// is told as that.
+    /// The points at which the pattern holds, read from the place on, as at most as many cubes as
+    /// its count. A place from 4,294,967,295 on is told as that.
     pub fn pattern_cubes(
         &self,
         alloc: Global,
         of: &Pattern,
         place: u32,
     ) -> Result<Vec<Cube>, AllocError>
-        ensures { IfOk result (λ cubes. (at : ℕ) → place ≡ told at → IsUnionOf
+        ensures points { IfOk result (λ cubes. (at : ℕ) → place ≡ told at → IsUnionOf
             (PatternHolds (reading_of L.bytes self.now) (pattern_of of.now) at) cubes.items) }
+        ensures few { IfOk result (λ cubes.
+            FitCount self.now.tables.now (pattern_of of.now) cubes.items) }
     {
         match of {
             Pattern::Name(name) => {

@@ -3,9 +3,11 @@ use Rattle.sl_ast.specs.Trees.{Pattern}
 use Rattle.sl_ast.specs.Views.{pattern_of, head_of, constructor_of}
 use Rattle.sl_constraints.specs.Sets.{IsUnionOf}
 use Rattle.sl_spec.specs.Unfolded.{heads_of, under}
+use Rattle.sl_patterns.specs.Counts.{FitCount}
 use Rattle.sl_patterns.specs.Heads.{AreHeadCubes}
 use Rattle.sl_patterns.specs.Patterns.{PatternHolds}
 use Rattle.sl_patterns.specs.Views.{reading_of}
+use Rattle.sl_patterns.proofs.CountLemmas.{few_in_block}
 use Rattle.sl_patterns.proofs.HeadLemmas.{kept_both, kept_rest, made_first, made_rest, rest_shorter}
 use Rattle.sl_patterns.proofs.ViewLemmas.{in_one_more}
 use Rattle.sl_patterns.proofs.UnionLemmas.{union_in_block}
@@ -22,7 +24,20 @@ returns-clause-cubes g t c =
     (sym (in_one_more (heads_of c.args.heads.now) inner (head_of c.in-Some.first.now.head.now) own around
     (ap heads_of c.in-Some.ensures.cases.0) (ap (option_map pattern_of) c.in-Some-pattern.is)))
     (union_in_block r around (under inner own).pattern cubes c.in_ok-around.around.items c.in_ok-inside.inside.items
-    c.in_ok-around.ensures.cubes c.in_ok-inside.ensures.cubes (rw (c.deref.ensures.value, c.deref-2.ensures.value) at c.in_ok-cubes-2.ensures))
+    c.in_ok-around.ensures.cubes c.in_ok-inside.ensures.cubes (rw (c.deref.ensures.value, c.deref-2.ensures.value) at c.in_ok-cubes-2.ensures.points))
+
+pub returns-clause-few : goal.returns-clause-few
+returns-clause-few g t c =
+    let tables = c.args.self.now.tables.now in
+    let own = constructor_of c.args.own.now in
+    let around = pattern_of c.in-Some-pattern.pattern in
+    let inner = heads_of c.in-Some.rest.now in
+    let cubes = c.in_ok-cubes-2.cubes.items in
+    subst (λ (x : Pattern). FitCount tables x cubes)
+    (sym (in_one_more (heads_of c.args.heads.now) inner (head_of c.in-Some.first.now.head.now) own around
+    (ap heads_of c.in-Some.ensures.cases.0) (ap (option_map pattern_of) c.in-Some-pattern.is)))
+    (few_in_block tables around (under inner own).pattern cubes c.in_ok-around.around.items c.in_ok-inside.inside.items
+    c.in_ok-around.ensures.few c.in_ok-inside.ensures.few (rw (c.deref.ensures.value, c.deref-2.ensures.value) at c.in_ok-cubes-2.ensures.few))
 
 pub cubes_in_blocks-requires : goal.cubes_in_blocks-requires
 cubes_in_blocks-requires g t c = λ lifetimes live.
