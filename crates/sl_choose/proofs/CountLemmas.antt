@@ -1,6 +1,8 @@
 -- How many entries each side of bits has, and when a split helps and fits.
 use Rattle.std.proofs.Common.{◌≡◌, ◌↔◌, ℕ, zero, suc, ◌+◌, ◌-◌, ◌<◌, ◌≤◌, List, [], ◌∷◌, length, get_or, take, Option, Some, None, Bool, true, false, cond, not, ◌&&◌, IsPermutation, arith, sym, ◌∙◌, ap, refl, subst, eq-eqb, eqb-true}
-use Rattle.std.specs.Prelude.{Contains, MatchOption, count_by}
+use Rattle.std.specs.Int.Bits.{and_zero_r}
+use Rattle.std.specs.Prelude.{Contains, MatchOption, bit_and, count_by}
+use Rattle.std.proofs.lemmas.Nat.{and_xor_apart}
 use Rattle.std.proofs.lemmas.Bool.{and_from, and_left, and_parts, and_right, false_from_ne_true, false≢true, not-false, not_from_false, not_from_true}
 use Rattle.std.proofs.lemmas.List.Sums.{count_by-le-length, sum_by-cons, sum_by_more}
 use Rattle.std.proofs.lemmas.List.Sorted.{length_permutation, sum_by-IsPermutation}
@@ -11,7 +13,7 @@ use Rattle.sl_choose.specs.declared.Entry.{Entry}
 use Rattle.sl_choose.specs.declared.shared.Shared.{Shared}
 use Rattle.sl_choose.specs.declared.splits.Best.{Best}
 use Rattle.sl_choose.specs.Best.{IsBest}
-use Rattle.sl_choose.specs.Shared.{HasNone, IsShared}
+use Rattle.sl_choose.specs.Shared.{HasNone, IsShared, cleared}
 use Rattle.sl_choose.specs.Sides.{Covers, HasNoForced, IsForced, SetsNone, byte_bit, context_bit, fixes, has_count, lacks_count, may_have, may_lack}
 use Rattle.sl_choose.specs.Splits.{IsSplit, IsUnsplit}
 
@@ -147,6 +149,25 @@ pub none_set_splits : (entries : List Entry) (s : Shared) (bits : Point) (room :
 none_set_splits entries s bits room shared none split =
     let set = some_fails (λ (e : Entry). may_lack bits e.cube) entries split.low_fewer in
     shared.some bits (set.0, set.1, set_from bits set.0.cube set.2) none
+
+-- bits of which a cube fixes all to 0 and none to 0 are none
+nothing_cleared : (c : Cube) (bits : Point) → SetsNone c bits → Covers c bits → HasNone (cleared c) bits → (bits.bytes ≡ 0) × (bits.context ≡ 0)
+nothing_cleared c bits none covers clear = (
+  sym covers.0 ∙ sym (and_xor_apart bits.bytes c.mask c.value none.0) ∙ clear.0,
+  sym covers.1 ∙ sym (and_xor_apart bits.context c.ctx_mask c.ctx_value none.1) ∙ clear.1,
+)
+
+-- bits that no cube fixes to 0 split no entries
+pub none_clear_splits : (entries : List Entry) (s : Shared) (bits : Point) (room : ℕ) → IsShared entries s → HasNone s.clear bits → IsSplit entries bits room → ⊥
+none_clear_splits entries s bits room shared none split =
+    let clear = some_fails (λ (e : Entry). may_have bits e.cube) entries split.high_fewer in
+    let set = some_fails (λ (e : Entry). may_lack bits e.cube) entries split.low_fewer in
+    let both = clear_from bits clear.0.cube clear.2 in
+    let no_bits = nothing_cleared clear.0.cube bits both.0 both.1 (shared.clear bits none clear.0 clear.1) in
+    set_from bits set.0.cube set.2 (
+      ap (bit_and set.0.cube.value) no_bits.0 ∙ and_zero_r set.0.cube.value,
+      ap (bit_and set.0.cube.ctx_value) no_bits.1 ∙ and_zero_r set.0.cube.ctx_value,
+    )
 
 split_moved : (entries out : List Entry) (bits : Point) (room : ℕ) → IsPermutation entries out → IsSplit out bits room → IsSplit entries bits room
 split_moved entries out bits room moved split =

@@ -4,6 +4,7 @@ use mir.Val.{bits as width_of}
 use Rattle.std.specs.Int.{Width, bit_at, trailing_zeros}
 use Rattle.std.specs.Int.Bits.{and_zero_l, and_zero_r}
 use Rattle.std.specs.List.{HoldsAt}
+use Rattle.std.specs.Prelude.{Contains}
 use Rattle.std.proofs.Math.Pow.{pow-lt}
 use Rattle.std.proofs.lemmas.Nat.{and-not, and_assoc, and_comm, and_le_l}
 use Rattle.std.proofs.lemmas.Nat.Bits.{bit_at_and, bit_at_or, bit_at-lt, bit_at-pow_other, bit_at-pow_same, bit_at-trailing_zeros, bit_at-zero, same_from_bits}
@@ -14,7 +15,7 @@ use Rattle.sl_cube.specs.declared.Cube.{Cube}
 use Rattle.sl_cube.specs.declared.Point.{Point}
 use Rattle.sl_choose.specs.declared.Entry.{Entry}
 use Rattle.sl_choose.specs.declared.shared.Shared.{Shared}
-use Rattle.sl_choose.specs.Shared.{HasAll, HasNone, HasNoneBefore, IsShared, Joins}
+use Rattle.sl_choose.specs.Shared.{HasAll, HasNone, HasNoneBefore, IsShared, Joins, cleared}
 use Rattle.sl_choose.specs.Sides.{AllCover, IsForced, SetsNone, SomeClear, byte_bit, context_bit}
 use Rattle.sl_choose.proofs.SideLemmas.{none_set}
 
@@ -55,12 +56,14 @@ all_in w n within =
 pub record SharedFirst (entries : List Entry) (s : Shared) (n : ℕ) : Type 0 where
   pub fixed : (bits : Point) → InRange bits → AllCover entries bits → HasAll s.fixed bits
   pub some : (bits : Point) → HasNone s.some bits → (k : ℕ) → k < n → HoldsAt (λ (e : Entry). SetsNone e.cube bits) entries k
+  pub clear : (bits : Point) → HasNone s.clear bits → (k : ℕ) → k < n → HoldsAt (λ (e : Entry). HasNone (cleared e.cube) bits) entries k
   pub all : (bits : Point) (k : ℕ) → k < n → HoldsAt (λ (e : Entry). SetsNone e.cube bits → HasNone s.all bits) entries k
 
 abbrev pub nothing : Shared
 nothing = record {
   fixed = record { bytes = 2 ^ 128 - 1; context = 2 ^ 64 - 1 };
   some = record { bytes = 0; context = 0 };
+  clear = record { bytes = 0; context = 0 };
   all = record { bytes = 2 ^ 128 - 1; context = 2 ^ 64 - 1 };
 }
 
@@ -68,6 +71,7 @@ pub shared_none : (entries : List Entry) (s : Shared) → s ≡ nothing → Shar
 shared_none entries s is = record {
   fixed = λ bits range cover. subst (λ (x : Shared). HasAll x.fixed bits) (sym is) (all_in 128 bits.bytes range.0, all_in 64 bits.context range.1);
   some = λ bits none k below. absurd (omega arith);
+  clear = λ bits none k below. absurd (omega arith);
   all = λ bits k below. absurd (omega arith);
 }
 
@@ -82,6 +86,12 @@ some_less : (s t : Shared) (c : Cube) (bits : Point) → Joins s c t → HasNone
 some_less s t c bits joins none =
     let bytes = or_none s.some.bytes c.value bits.bytes (ap (λ x. bit_and x bits.bytes) (sym joins.some.0) ∙ none.0) in
     let context = or_none s.some.context c.ctx_value bits.context (ap (λ x. bit_and x bits.context) (sym joins.some.1) ∙ none.1) in
+    ((bytes.0, context.0), (bytes.1, context.1))
+
+clear_less : (s t : Shared) (c : Cube) (bits : Point) → Joins s c t → HasNone t.clear bits → HasNone s.clear bits × HasNone (cleared c) bits
+clear_less s t c bits joins none =
+    let bytes = or_none s.clear.bytes (cleared c).bytes bits.bytes (ap (λ x. bit_and x bits.bytes) (sym joins.clear.0) ∙ none.0) in
+    let context = or_none s.clear.context (cleared c).context bits.context (ap (λ x. bit_and x bits.context) (sym joins.clear.1) ∙ none.1) in
     ((bytes.0, context.0), (bytes.1, context.1))
 
 none_kept : (s t : Shared) (c : Cube) (bits : Point) → Joins s c t → HasNone s.all bits → HasNone t.all bits
@@ -103,6 +113,9 @@ shared_more entries s t e n below is joins first = record {
   some = λ bits none.
       let less = some_less s t e.cube bits joins none in
       below_more _ _ (first.some bits less.0) (at_read entries (λ (x : Entry). SetsNone x.cube bits) n e below is less.1);
+  clear = λ bits none.
+      let less = clear_less s t e.cube bits joins none in
+      below_more _ _ (first.clear bits less.0) (at_read entries (λ (x : Entry). HasNone (cleared x.cube) bits) n e below is less.1);
   all = λ bits.
       below_more _ _ (λ k h d clear. none_kept s t e.cube bits joins (first.all bits k h d clear))
       (at_read entries (λ (x : Entry). SetsNone x.cube bits → HasNone t.all bits) n e below is (none_come s t e.cube bits joins));
@@ -115,10 +128,16 @@ none_in_all entries s bits n whole first clear =
     let lt : clear.1.0 < n = omega (arith, clear.1.1) in
     (subst (λ (x : Entry). SetsNone x.cube bits → HasNone s.all bits) clear.1.2 (first.all bits clear.1.0 lt clear.0)) clear.2
 
+none_cleared : (entries : List Entry) (s : Shared) (bits : Point) (n : ℕ) → length entries ≤ n → SharedFirst entries s n → HasNone s.clear bits → (e : Entry) → Contains entries e
+    → HasNone (cleared e.cube) bits
+none_cleared entries s bits n whole first none e there =
+    subst (λ (x : Entry). HasNone (cleared x.cube) bits) there.2 (first.clear bits none there.0 (omega (arith, there.1)) e)
+
 pub shared_whole : (entries : List Entry) (s : Shared) (n : ℕ) → length entries ≤ n → SharedFirst entries s n → IsShared entries s
 shared_whole entries s n whole first = record {
   fixed = first.fixed;
   some = λ bits set none. none_set entries bits n whole (first.some bits none) set;
+  clear = λ bits none e there. none_cleared entries s bits n whole first none e there;
   all = λ bits clear. none_in_all entries s bits n whole first clear;
 }
 

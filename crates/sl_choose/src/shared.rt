@@ -7,11 +7,13 @@ ghost use Rattle.sl_choose.specs.Sides.{byte_bit, context_bit};
 use super::Entry;
 use sl_cube::{Cube, Point};
 
-/// The bits that all cubes fix, those that some cube fixes to 1, and those that all cubes fix to 1.
+/// The bits that all cubes fix, those that some cube fixes to 1, those that some cube fixes to 0, and
+/// those that all cubes fix to 1.
 #[derive(Clone, Copy, Debug)]
 pub struct Shared {
     pub fixed: Point,
     pub some: Point,
+    pub clear: Point,
     pub all: Point,
 }
 
@@ -20,6 +22,7 @@ fn shared_by_none() -> Shared
     ensures { result ≡ record {
       fixed = record { bytes = 2 ^ 128 - 1; context = 2 ^ 64 - 1 };
       some = record { bytes = 0; context = 0 };
+      clear = record { bytes = 0; context = 0 };
       all = record { bytes = 2 ^ 128 - 1; context = 2 ^ 64 - 1 };
     } }
 {
@@ -34,6 +37,7 @@ fn shared_by_none() -> Shared
     Shared {
         fixed: whole,
         some: none,
+        clear: none,
         all: whole,
     }
 }
@@ -50,6 +54,10 @@ fn joined(shared: &Shared, cube: &Cube) -> Shared
         some: Point {
             bytes: shared.some.bytes | cube.value,
             context: shared.some.context | cube.ctx_value,
+        },
+        clear: Point {
+            bytes: shared.clear.bytes | (cube.mask ^ cube.value),
+            context: shared.clear.context | (cube.ctx_mask ^ cube.ctx_value),
         },
         all: Point {
             bytes: shared.all.bytes & cube.value,

@@ -79,6 +79,9 @@ fn better(shared: &Shared, entries: &[Entry], room: usize, best: Best, bits: Poi
     if has_none(&shared.some, &bits) {
         return best;
     }
+    if has_none(&shared.clear, &bits) {
+        return best;
+    }
     let sides = lengths(entries, &bits);
     let larger = sides.low.max(sides.high);
     if larger >= best.larger {

@@ -2,11 +2,14 @@ use Rattle.std.proofs.Common.{◌<◌, ◌≤◌, ◌-◌, arith}
 use Rattle.std.proofs.lemmas.List.Sums.{count_by-le-length}
 use Rattle.sl_choose.specs.declared.Entry.{Entry}
 use Rattle.sl_choose.specs.Sides.{may_lack}
-use Rattle.sl_choose.proofs.CountLemmas.{best_of, none_set_splits}
+use Rattle.sl_choose.proofs.CountLemmas.{best_of, none_clear_splits, none_set_splits}
 use Rattle.sl_choose.proofs.splits.better.Goals as goal
 
 pub returns-then-has_none-clause-unsplit : goal.returns-then-has_none-clause-unsplit
 returns-then-has_none-clause-unsplit c = λ none. none_set_splits c.args.entries.now c.args.shared.now c.args.bits c.args.room c.requires.shared (c.has_none.ensures.0 c.if-has_none.true)
+
+pub returns-then-has_none-2-clause-unsplit : goal.returns-then-has_none-2-clause-unsplit
+returns-then-has_none-2-clause-unsplit c = λ none. none_clear_splits c.args.entries.now c.args.shared.now c.args.bits c.args.room c.requires.shared (c.has_none-2.ensures.0 c.if-has_none-2.true)
 
 pub returns-clause-best : goal.returns-clause-best
 returns-clause-best c =
