@@ -1,5 +1,5 @@
 -- Readings that answer alike what a pattern asks of them.
-use Rattle.std.proofs.Common.{◌≡◌, ℕ, ◌⊎◌, inl, inr, Bool, true, false, List, Option, Some, sym, ap, ◌∙◌, subst}
+use Rattle.std.proofs.Common.{◌≡◌, ℕ, ◌-◌, ◌⊎◌, inl, inr, Bool, true, false, List, Option, Some, sym, ap, ◌∙◌, subst}
 use Rattle.std.specs.Prelude.{◌↔◌, option_and_then}
 use Rattle.sl_ast.specs.Trees.{Pattern, bare, constraint, group, ellipsis, joined}
 use Rattle.sl_ast.specs.declared.patterns.PatternOp.{PatternOp}
@@ -8,6 +8,7 @@ use Rattle.sl_cube.specs.Points.{InRange}
 use Rattle.sl_cube.specs.declared.Cube.{Cube}
 use Rattle.sl_cube.specs.declared.Point.{Point}
 use Rattle.sl_constraints.specs.Places.{seen}
+use Rattle.sl_constraints.specs.Windows.{IsEnd}
 use Rattle.sl_constraints.proofs.ShiftLemmas.{seen_range}
 use Rattle.sl_patterns.specs.Patterns.{JoinedHolds, OpenOrIn, PatternHolds, Reading, hull_named, is_open, right_place}
 use Rattle.sl_patterns.specs.Windows.{IfFixesByte, PatternConstrains}
@@ -17,6 +18,9 @@ use Rattle.sl_shape.specs.PatternShapes.{fixed_bytes, pattern_bytes, shape_of}
 use Rattle.sl_shape.proofs.ExtentOfShapeLemmas.{extent_shaped, inner_of, sides_of}
 use Rattle.sl_shapes.specs.Shapes.{Shape}
 use Rattle.sl_spec.specs.declared.tables.Tables.{Tables}
+
+pub end_same : (P Q : ℕ → Type 0) → ((i : ℕ) → P i ↔ Q i) → (n : ℕ) → IsEnd P n → IsEnd Q n
+end_same P Q same n e = record { all = λ i h. e.all i ((same i).1 h); last = λ some. (same (n - 1)).0 (e.last some) }
 
 either_same : (A B C D : Type 0) → (A ↔ C) → (B ↔ D) → (A ⊎ B) ↔ (C ⊎ D)
 either_same A B C D f g = (

@@ -1,8 +1,8 @@
 -- What is told by the shapes and hulls of the tables below is told by others that agree on them.
-use Rattle.std.proofs.Common.{◌≡◌, ℕ, zero, suc, ◌<◌, ◌-◌, length, arith, cond, List, [], ◌∷◌, ◌++◌, get_or, map, Option, Some, None, refl, sym, ap, ◌∙◌, subst}
+use Rattle.std.proofs.Common.{◌≡◌, ℕ, zero, suc, ◌<◌, length, arith, cond, List, [], ◌∷◌, ◌++◌, get_or, map, Option, Some, None, refl, sym, ap, ◌∙◌, subst}
 use Rattle.std.specs.List.{AllByRecursion, Any}
 use Rattle.std.specs.Prelude.{option_and_then, option_map, unwrap_or, ◌↔◌}
-use Rattle.sl_ast.specs.Trees.{Constructor, Pattern, bare, constraint, group, ellipsis, joined}
+use Rattle.sl_ast.specs.Trees.{Constructor, Name, Pattern, bare, constraint, group, ellipsis, joined}
 use Rattle.sl_ast.specs.Unfolding.{Placed}
 use Rattle.sl_ast.specs.declared.patterns.PatternOp.{PatternOp}
 use Rattle.sl_ast.specs.declared.patterns.PatternOp.TheVariants.{And, Then, Or}
@@ -12,13 +12,15 @@ use Rattle.sl_cube.specs.declared.Cube.{Cube}
 use Rattle.sl_cube.specs.declared.Point.{Point}
 use Rattle.sl_patterns.specs.Hulls.{IsHullOrNone}
 use Rattle.sl_patterns.specs.Patterns.{hull_at}
+use Rattle.sl_patterns.specs.Windows.{PatternConstrains}
 use Rattle.sl_patterns.proofs.HullLemmas.{found_same}
 use Rattle.sl_patterns.proofs.OneHull.{AreHullsAlike, alike_itself}
 use Rattle.sl_settle.specs.declared.CubeSet.{CubeSet}
+use Rattle.sl_shape.specs.Extents.{extended_extent, extent, extent_bytes, extent_of, joined_extents}
 use Rattle.sl_shape.specs.Faults.{BehindTells, DifferTells, Holds, JoinTells, ShapeTells, Tells}
-use Rattle.sl_shape.specs.PatternShapes.{Shapes, fixed_bytes, joined_shape, pattern_bytes, shape_by, shape_of, table_shape}
+use Rattle.sl_shape.specs.PatternShapes.{Shapes, fixed_bytes, joined_shape, name_shape, pattern_bytes, reading, shape_by, shape_of, table_shape}
 use Rattle.sl_shape.specs.Tables.{CtorHolds, CtorTells, IfHolds, IfSetAt, IfTells, IsSetAt, IsTable, constructors_of, ctor_shape, named_by, one_or_none, pattern_at, tables_named}
-use Rattle.sl_shape.proofs.AlikeLemmas.{AreAlike, constrains_alike, holds_alike}
+use Rattle.sl_shape.proofs.AlikeLemmas.{AreAlike, constrains_alike, end_same, holds_alike}
 use Rattle.sl_shapes.specs.Shapes.{Shape, extended, of_nothing, of_table}
 use Rattle.sl_spec.specs.Named.{index_named, named}
 use Rattle.sl_spec.specs.Tables.{Field}
@@ -62,12 +64,15 @@ module _ (t : Tables) (s r : Shapes) (h k : List (Option Cube)) where
   same_by None o e = e
   same_by (Some f) o e = refl
 
-  pub shape_same : (p : Pattern) → AllByRecursion Agree (tables_named t p) → shape_of t s p ≡ shape_of t r p
-  unfolding shape_of tables_named
-  shape_same (bare name) all =
+  same_name : (name : Name) → AllByRecursion Agree (one_or_none (index_named (λ b. b.name) name t.tables)) → name_shape t s name ≡ name_shape t r name
+  same_name name all =
       let o = index_named (λ b. b.name) name t.tables in
       let f = named (λ f. f.name) name t.fields in
-      ap (λ x. Some (cond (is_epsilon name) of_nothing x)) (same_by f o (same_table o all))
+      ap (λ x. cond (is_epsilon name) of_nothing x) (same_by f o (same_table o all))
+
+  pub shape_same : (p : Pattern) → AllByRecursion Agree (tables_named t p) → shape_of t s p ≡ shape_of t r p
+  unfolding shape_of tables_named
+  shape_same (bare name) all = ap (λ x. Some x) (same_name name all)
   shape_same (constraint name relation e) all = ap (λ x. Some x) (same_by (named (λ f. f.name) name t.fields) None refl)
   shape_same (group p) all = shape_same p all
   shape_same (ellipsis p) all = ap (option_map extended) (shape_same p all)
@@ -78,16 +83,34 @@ module _ (t : Tables) (s r : Shapes) (h k : List (Option Cube)) where
   pub bytes_same : (p : Pattern) → AllByRecursion Agree (tables_named t p) → pattern_bytes t s p ≡ pattern_bytes t r p
   bytes_same p all = ap (option_and_then (fixed_bytes t)) (shape_same p all)
 
+  extent_same : (p : Pattern) → AllByRecursion Agree (tables_named t p) → extent_of t s p ≡ extent_of t r p
+  unfolding extent_of tables_named
+  extent_same (bare name) all = ap (extent t) (same_name name all)
+  extent_same (constraint name relation e) all = ap (extent t) (same_by (named (λ f. f.name) name t.fields) None refl)
+  extent_same (group p) all = extent_same p all
+  extent_same (ellipsis p) all = ap extended_extent (extent_same p all)
+  extent_same (joined op p q) all = λ i. joined_extents op
+      (extent_same p (all_left Agree (tables_named t p) (tables_named t q) all) i)
+      (extent_same q (all_right Agree (tables_named t p) (tables_named t q) all) i)
+
+  -- by any numbers of bytes that are the same where they agree
+  module _ (b c : Pattern → Option ℕ) (same : (p : Pattern) → AllByRecursion Agree (tables_named t p) → b p ≡ c p) where
+    alike_by : (p : Pattern) → AllByRecursion Agree (tables_named t p) → AreAlike t b c h k p
+    unfolding AreAlike tables_named
+    alike_by (bare name) all = same_hull (index_named (λ b. b.name) name t.tables) all
+    alike_by (constraint name relation e) all = tt
+    alike_by (group p) all = alike_by p all
+    alike_by (ellipsis p) all = alike_by p all
+    alike_by (joined op p q) all =
+        let left = all_left Agree (tables_named t p) (tables_named t q) all in
+        let right = all_right Agree (tables_named t p) (tables_named t q) all in
+        (same p left, alike_by p left, alike_by q right)
+
   pub alike_same : (p : Pattern) → AllByRecursion Agree (tables_named t p) → AreAlike t (pattern_bytes t s) (pattern_bytes t r) h k p
-  unfolding AreAlike tables_named
-  alike_same (bare name) all = same_hull (index_named (λ b. b.name) name t.tables) all
-  alike_same (constraint name relation e) all = tt
-  alike_same (group p) all = alike_same p all
-  alike_same (ellipsis p) all = alike_same p all
-  alike_same (joined op p q) all =
-      let left = all_left Agree (tables_named t p) (tables_named t q) all in
-      let right = all_right Agree (tables_named t p) (tables_named t q) all in
-      (bytes_same p left, alike_same p left, alike_same q right)
+  alike_same p all = alike_by (pattern_bytes t s) (pattern_bytes t r) bytes_same p all
+
+  pub alike_extents : (p : Pattern) → AllByRecursion Agree (tables_named t p) → AreAlike t (λ q. extent_bytes (extent_of t s q)) (λ q. extent_bytes (extent_of t r q)) h k p
+  alike_extents p all = alike_by (λ q. extent_bytes (extent_of t s q)) (λ q. extent_bytes (extent_of t r q)) (λ q named. ap extent_bytes (extent_same q named)) p all
 
   pub holds_same : (p : Pattern) → AllByRecursion Agree (tables_named t p) → (x : Point) → InRange x → Holds t s h p x ↔ Holds t r k p x
   holds_same p all x range = holds_alike t (pattern_bytes t s) (pattern_bytes t r) h k p (alike_same p all) 0 x range
@@ -96,7 +119,7 @@ module _ (t : Tables) (s r : Shapes) (h k : List (Option Cube)) where
   behind_same (Some n) q all b = b
   behind_same None q all b = λ x range. (holds_same q all x range).0 (b x range)
 
-  sound_same : (p : Pattern) → AllByRecursion Agree (tables_named t p) → ShapeTells t s h p None → ShapeTells t r k p None
+  pub sound_same : (p : Pattern) → AllByRecursion Agree (tables_named t p) → ShapeTells t s h p None → ShapeTells t r k p None
   unfolding ShapeTells tables_named
   sound_same (bare name) all e = e
   sound_same (constraint name relation x) all e = e
@@ -122,7 +145,7 @@ module _ (t : Tables) (s r : Shapes) (h k : List (Option Cube)) where
         (
           sound_same p all e.1.0,
           (
-            (w.0, record { all = λ i c. w.1.all i ((same i).1 c); last = λ some. (same (w.0 - 1)).0 (w.1.last some) }, w.2),
+            (w.0, end_same (PatternConstrains (reading t s h) p 0) (PatternConstrains (reading t r k) p 0) same w.0 w.1, w.2),
             (x.0, x.1, (holds_same p all x.0 x.1).0 x.2),
           ),
         ),

@@ -5,11 +5,13 @@ use Rattle.std.specs.List.{AllByRecursion}
 use Rattle.std.specs.Prelude.{IfOk}
 use Rattle.sl_ast.specs.Trees.{Head, Pattern}
 use Rattle.sl_cube.specs.declared.Cube.{Cube}
-use Rattle.sl_patterns.specs.Heads.{AreHeadCubes, IsHeadWindow}
+use Rattle.sl_patterns.specs.Heads.{AreHeadCubes, IsHeadWindow, KeepsOthers}
+use Rattle.sl_patterns.proofs.HeadLemmas.{others_both, others_first, others_rest}
 use Rattle.sl_shape.specs.Below.{IsShaped, Shows, shapes_in}
-use Rattle.sl_shape.specs.HeadsMade.{IsHeadShape, KeepsShapes, by_extents}
+use Rattle.sl_shape.specs.HeadsMade.{AreRight, IsHeadShape, KeepsShapes, by_extents}
 use Rattle.sl_shape.specs.PatternShapes.{Shapes}
 use Rattle.sl_shape.specs.declared.below.Below.{Below}
+use Rattle.sl_shape.specs.declared.below.HeadsMade.{HeadsMade}
 use Rattle.sl_shape.specs.declared.below.TokenLists.{TokenLists}
 use Rattle.sl_shape.specs.declared.stop.Stop.{Stop}
 use Rattle.sl_shape.proofs.BelowLemmas.{all_seen, all_there, gets_same, keeps_same, keeps_there, seen_more, shows_more}
@@ -100,6 +102,19 @@ module _ (b : Below) where
         (inside head_at parts.1 (first head_at (parts.0, tt) right))
     both_kept old mid late new before made after first inside there same (Err e) = tt
 
+-- ---- what was made of other blocks
+
+module _ (blocks rest : List Around) (a : Around) (are : blocks ≡ a ∷ rest) where
+  pub other_rest : (before after : List (ℕ × code.Shape)) (r : Result code.Shape Stop) → IfOk r (λ _. KeepsOthers rest before after) → IfOk r (λ _. KeepsOthers blocks before after)
+  other_rest before after (Ok s) kept = others_rest blocks rest a are before after kept
+  other_rest before after (Err e) kept = kept
+
+  pub other_both : (before made after : List (ℕ × code.Shape)) → KeepsOthers (a ∷ []) before made → KeepsOthers rest made after
+      → (r : Result code.Shape Stop) → IfOk r (λ _. KeepsOthers blocks before after)
+  other_both before made after first inside (Ok s) =
+      others_both blocks before made after (others_first blocks rest a are before made first) (others_rest blocks rest a are made after inside)
+  other_both before made after first inside (Err e) = tt
+
 -- ---- what is read by extents
 
 module _ (b : Below) (found shapes : Shapes) (same : found ≡ shapes) (head_at : ℕ → Head) where
@@ -110,3 +125,19 @@ module _ (b : Below) (found shapes : Shapes) (same : found ≡ shapes) (head_at 
   pub sets_more : (made : List (ℕ × Vec Cube)) → AreMade (AreHeadCubes (by_extents b.tables.now found b.hulls.now)) head_at made
       → AreMade (AreHeadCubes (by_extents b.tables.now shapes b.hulls.now)) head_at made
   sets_more made right = subst (λ (ss : Shapes). AreMade (AreHeadCubes (by_extents b.tables.now ss b.hulls.now)) head_at made) same right
+
+-- ---- all that was made
+
+pub right_more : (b : Below) (old new : TokenLists) → Keeps old.all new.all → (head_at : ℕ → Head) (made : HeadsMade) → AreRight b old head_at made → AreRight b new head_at made
+right_more b old new keeps head_at made right =
+    let same = shapes_same b old new right.there keeps in
+    record {
+      there = there_more b old new right.there keeps;
+      counts = right.counts;
+      shapes = shapes_more b old new right.there keeps head_at made.shapes right.shapes;
+      windows = windows_more b (shapes_in b old) (shapes_in b new) same head_at made.windows right.windows;
+      sets = sets_more b (shapes_in b old) (shapes_in b new) same head_at made.sets right.sets;
+      shapes_marked = right.shapes_marked;
+      windows_marked = right.windows_marked;
+      sets_marked = right.sets_marked;
+    }

@@ -24,3 +24,4 @@ pub mod ReadingLemmas
 pub mod SomeFault
 pub mod SomeReading
 pub mod EdgeLemmas
+pub mod KeptLemmas

@@ -5,6 +5,7 @@ use Rattle.std.specs.Prelude.{slice_get}
 use Rattle.sl_ast.specs.Trees.{Constructor}
 use Rattle.sl_ast.specs.Unfolding.{Placed}
 use Rattle.sl_heights.specs.Heights.{AreHeights, above, by_height}
+use Rattle.sl_levels.specs.Reaching.{Graph, successors}
 use Rattle.sl_rules.specs.Gathered.{gathered}
 use Rattle.sl_shape.specs.Tables.{constructors_of, named_by, numbers, pattern_at, table_graph}
 use Rattle.sl_shape.proofs.CarryLemmas.{all_each, all_left, all_right}
@@ -104,3 +105,11 @@ pub set_here : {X : Type 0} (xs : List X) (v : ℕ) (x : X) → v < length xs �
 set_here [] v x below = absurd (omega arith)
 set_here (y ∷ xs) zero x below = refl
 set_here (y ∷ xs) (suc v) x below = set_here xs v x (omega arith)
+
+-- What holds of all tables that a table names holds of those that each of its constructors names.
+pub named_each : (t : Tables) (cs : List (Placed Constructor)) (graph : Graph) → graph ≡ table_graph t cs → (P : ℕ → Type 0) (u : ℕ) (b : Table) → slice_get t.tables u ≡ Some b
+    → AllByRecursion P (successors graph u) → AllByRecursion (λ i. AllByRecursion P (named_by t (pattern_at cs i))) b.constructors
+named_each t cs graph are P u b is all =
+    let g : ℕ → List ℕ = λ i. named_by t (pattern_at cs i) in
+    let named = ap (λ (graph : Graph). successors graph u) are ∙ (successors_are (λ b. gathered g b.constructors) t.tables u b is).0 in
+    gathered_each (λ v. v) P g b.constructors (subst (λ (l : List ℕ). AllByRecursion P l) named all)

@@ -14,7 +14,7 @@ use Rattle.sl_shape.specs.PatternShapes.{Shapes}
 use Rattle.sl_shape.specs.Tables.{CtorHolds, CtorTells, IsTable, constructors_of, ctor_shape, named_by, pattern_at, table_graph}
 use Rattle.sl_shape.proofs.CarryLemmas.{Agree, AgreeAt, all_each, all_tell, hull_same, shapes_same, table_carried}
 use Rattle.sl_shape.proofs.OrderLemmas.{named_below, set_here, set_other}
-use Rattle.sl_shapes.specs.Shapes.{of_nothing, of_table}
+use Rattle.sl_shapes.specs.Shapes.{Shape, of_nothing, of_table}
 use Rattle.sl_spec.proofs.KeyedLemmas.{all_push}
 use Rattle.sl_spec.specs.declared.tables.Tables.{Tables}
 
@@ -30,16 +30,12 @@ read_here [] v x d below = absurd (omega arith)
 read_here (y ∷ xs) zero x d below = refl
 read_here (y ∷ xs) (suc v) x d below = read_here xs v x d (omega arith)
 
-module _ (t : Tables) (cs : List (Placed Constructor)) (heights : List ℕ) (are : AreHeights (table_graph t cs) heights)
-    (s r : Shapes) (h k : List (Option Cube)) (table : ℕ) (hull : Option Cube)
-    (shapes_are : r ≡ set s table (of_table (map (ctor_shape t cs s) (constructors_of t table)))) (hulls_are : k ≡ set h table hull) where
-  abbrev level : ℕ → ℕ
-  level v = get_or heights v 0
+module _ (t : Tables) (s r : Shapes) (h k : List (Option Cube)) (table : ℕ) (shape : Shape) (hull : Option Cube)
+    (shapes_are : r ≡ set s table shape) (hulls_are : k ≡ set h table hull) where
+  pub shape_other : (w : ℕ) → w ≢ table → get_or s w of_nothing ≡ get_or r w of_nothing
+  shape_other w apart = sym (ap (λ (l : Shapes). get_or l w of_nothing) shapes_are ∙ read_other s table w shape of_nothing apart)
 
-  shape_other : (w : ℕ) → w ≢ table → get_or s w of_nothing ≡ get_or r w of_nothing
-  shape_other w apart = sym (ap (λ (l : Shapes). get_or l w of_nothing) shapes_are ∙ read_other s table w _ of_nothing apart)
-
-  hull_other : (w : ℕ) → w ≢ table → hull_at h w ≡ hull_at k w
+  pub hull_other : (w : ℕ) → w ≢ table → hull_at h w ≡ hull_at k w
   hull_other w apart = sym (ap (λ (l : List (Option Cube)). hull_at l w) hulls_are ∙ ap (λ (o : Option (Option Cube)). option_and_then (λ h. h) o) (set_other h table w hull apart))
 
   agree_other : (w : ℕ) → w ≢ table → Agree t s r h k w
@@ -48,10 +44,19 @@ module _ (t : Tables) (cs : List (Placed Constructor)) (heights : List ℕ) (are
     hull = alike_same (hull_at h w) (hull_at k w) (hull_other w apart);
   }
 
+module _ (t : Tables) (cs : List (Placed Constructor)) (heights : List ℕ) (are : AreHeights (table_graph t cs) heights)
+    (s r : Shapes) (h k : List (Option Cube)) (table : ℕ) (hull : Option Cube)
+    (shapes_are : r ≡ set s table (of_table (map (ctor_shape t cs s) (constructors_of t table)))) (hulls_are : k ≡ set h table hull) where
+  abbrev level : ℕ → ℕ
+  level v = get_or heights v 0
+
+  abbrev own_shape : Shape
+  own_shape = of_table (map (ctor_shape t cs s) (constructors_of t table))
+
   pub agree_named : (u : ℕ) → level u ≤ level table → AllByRecursion (AgreeAt t s r h k cs) (constructors_of t u)
   agree_named u low = all_each (λ i. AllByRecursion (λ w. level w < level u) (named_by t (pattern_at cs i))) (AgreeAt t s r h k cs)
       (λ i all. all_each (λ w. level w < level u) (Agree t s r h k)
-      (λ w below. agree_other w (λ e. let f = ap (level) e in omega (arith, below, low, f))) (named_by t (pattern_at cs i)) all)
+      (λ w below. agree_other t s r h k table own_shape hull shapes_are hulls_are w (λ e. let f = ap (level) e in omega (arith, below, low, f))) (named_by t (pattern_at cs i)) all)
       (constructors_of t u) (named_below t cs heights are u)
 
   pub own : AllByRecursion (AgreeAt t s r h k cs) (constructors_of t table)
@@ -63,7 +68,8 @@ module _ (t : Tables) (cs : List (Placed Constructor)) (heights : List ℕ) (are
   tables_still here (u ∷ done) low all = (
     elim (cases_eq u table) [
       | inl same ↦ subst (λ (n : ℕ). IsTable t cs r k n) (sym same) here
-      | inr apart ↦ table_carried t s r h k cs u (agree_named u low.0) (shape_other u apart) (hull_other u apart) all.0
+      | inr apart ↦ table_carried t s r h k cs u (agree_named u low.0)
+          (shape_other t s r h k table own_shape hull shapes_are hulls_are u apart) (hull_other t s r h k table own_shape hull shapes_are hulls_are u apart) all.0
     ],
     tables_still here done low.1 all.1,
   )

@@ -16,6 +16,7 @@ use Rattle.sl_settle.specs.Unions.{has_set}
 use Rattle.sl_settle.specs.declared.CubeSet.{CubeSet}
 use Rattle.sl_shape.specs.Adding.{AreAdded, IsFirstIn}
 use Rattle.sl_shape.specs.Below.{AreSized, Shows}
+use Rattle.sl_shape.specs.HeadsMade.{AreSameBut}
 use Rattle.sl_shape.specs.Next.{IsFirstOf, IsNext, IsRight, shapes_known}
 use Rattle.sl_shape.specs.PatternShapes.{Shapes}
 use Rattle.sl_shape.specs.Tables.{CtorHolds, CtorTells, IfHolds, IfSetAt, IsError, IsSetAt, constructors_of, ctor_shape, numbers}
@@ -26,6 +27,7 @@ use Rattle.sl_shape.specs.declared.shaping.Known.{Known}
 use Rattle.sl_shape.proofs.AddLoopLemmas.{error_map}
 use Rattle.sl_shape.proofs.BelowLemmas.{all_seen}
 use Rattle.sl_shape.proofs.CarryLemmas.{any_each}
+use Rattle.sl_shape.proofs.PutLemmas.{hull_other, shape_other}
 use Rattle.sl_shapes.proofs.ListLemmas.{keeps_more}
 use Rattle.sl_shapes.specs.Lists.{IsThere, Keeps, seen}
 use Rattle.sl_shapes.specs.Shapes.{of_table}
@@ -133,6 +135,22 @@ module _ (b : Below) (cs : List (Placed Constructor)) (old : Known) (count : ℕ
           have_sets = subst (λ (l : List ℕ). AllByRecursion (IfSetAt t cs s old.hulls.items new.sets.items) l) is_are have;
           keeps = λ i. subst (λ (h : List (Option Cube)). IsSetAt t cs s h old.sets.items i → IsSetAt t cs s h new.sets.items i) hulls_are (added.keeps i);
         }
+
+-- ---- what was made of blocks
+
+-- One table's shape and hull are put.
+pub same_but : (b next : Below) (l : TokenLists) (table : ℕ) (shape : code.Shape) (hull : Option Cube) → b.tables.now ≡ next.tables.now
+    → AllByRecursion (IsThere l.all) next.shapes.now → next.shapes.now ≡ set b.shapes.now table shape → next.hulls.now ≡ set b.hulls.now table hull → AreSameBut table b next l
+same_but b next l table shape hull tables there shapes_put hulls_put =
+    let s = map (seen l.all) b.shapes.now in
+    let r = map (seen l.all) next.shapes.now in
+    let are : r ≡ set s table (seen l.all shape) = ap (map (seen l.all)) shapes_put ∙ map_set (seen l.all) b.shapes.now table shape in
+    record {
+      tables = tables;
+      there = there;
+      shapes = shape_other b.tables.now s r b.hulls.now next.hulls.now table (seen l.all shape) hull are hulls_put;
+      hulls = hull_other b.tables.now s r b.hulls.now next.hulls.now table (seen l.all shape) hull are hulls_put;
+    }
 
 -- ---- no such table
 

@@ -5,14 +5,17 @@ use Rattle.sl_ast.specs.Trees.{Constructor}
 use Rattle.sl_ast.specs.Unfolding.{Placed}
 use Rattle.sl_cube.specs.declared.Cube.{Cube}
 use Rattle.sl_patterns.specs.Hulls.{IsHullOrNone}
+use Rattle.sl_shape.specs.HeadsMade.{AreRightOf}
 use Rattle.sl_shape.specs.PatternShapes.{Shapes, token_sizes}
 use Rattle.sl_shape.specs.Tables.{CtorHolds, CtorTells, IfSetAt, IsSetAt, constructors_of, ctor_shape}
+use Rattle.sl_shape.specs.declared.below.Below.{Below}
 use Rattle.sl_shape.specs.declared.faults.Fault.{Fault}
 use Rattle.sl_shape.specs.declared.shaping.Known.{Known}
 use Rattle.sl_shapes.specs.Bytes.{Knows}
 use Rattle.sl_shapes.specs.Lists.{IsThere, Keeps, seen}
 use Rattle.sl_shapes.specs.Shapes.{of_table}
 use Rattle.sl_spec.specs.declared.tables.Tables.{Tables}
+use Rattle.sl_spec.specs.declared.unfolded.Unfolded.{Unfolded}
 
 -- the shapes of the tables
 abbrev pub shapes_known : Known → Shapes
@@ -49,3 +52,15 @@ module _ (t : Tables) (cs : List (Placed Constructor)) (old : Known) where
     pub numbers_are : constructors_of t table ≡ earlier ++ ctor ∷ later
     pub sound : AllByRecursion (λ i. CtorTells t cs (shapes_known old) old.hulls.items i None) earlier
     pub tells : CtorTells t cs (shapes_known old) old.hulls.items ctor (Some f)
+
+-- ---- what was made of blocks
+
+-- These are the tables, with the shapes and the hulls that are known.
+pub record IsBelow (t : Tables) (k : Known) (b : Below) : Type 0 where
+  pub tables : b.tables.now ≡ t
+  pub shapes : b.shapes.now ≡ k.shapes.items
+  pub hulls : b.hulls.now ≡ k.hulls.items
+
+-- What was made of the blocks round these constructors is right by what is known.
+abbrev pub IsKept : Tables → List Unfolded → Known → Type 0
+IsKept t us k = (b : Below) → IsBelow t k b → AreRightOf b k.lists us k.made

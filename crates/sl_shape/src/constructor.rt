@@ -5,12 +5,12 @@ ghost use Rattle.std.specs.List.{AllByRecursion};
 ghost use Rattle.sl_ast.specs.Views.{constructor_of, head_of, pattern_of};
 ghost use Rattle.sl_cube.specs.Points.{InRange, IsInSome};
 ghost use Rattle.sl_cube.specs.declared.Point as point;
-ghost use Rattle.sl_patterns.specs.Heads.{AreHeadCubes, IsHeadCount, IsHeadWindow};
+ghost use Rattle.sl_patterns.specs.Heads.{AreHeadCubes, IsHeadCount, IsHeadWindow, KeepsOthers};
 ghost use Rattle.sl_shape.specs.Below.{AreSized, IsShaped, Shows};
 ghost use Rattle.sl_shape.specs.Faults.{CountTells, OrElse, PointTells, ShapeTells, Tells};
 ghost use Rattle.sl_shape.specs.Faults.{WindowTells, most_cubes, most_window};
-ghost use Rattle.sl_shape.specs.HeadsMade.{AreRightFor, IsHeadShape, KeepsRight, KeepsShapes};
-ghost use Rattle.sl_shape.specs.HeadsMade.{read_with};
+ghost use Rattle.sl_shape.specs.HeadsMade.{AreMarked, AreRightFor, IsHeadShape, KeepsRight};
+ghost use Rattle.sl_shape.specs.HeadsMade.{KeepsShapes, read_with};
 ghost use Rattle.sl_shape.specs.Made.{IsMade, IsSetOf};
 ghost use Rattle.sl_shape.specs.PatternShapes.{Shapes, shape_of, token_sizes};
 ghost use Rattle.sl_shape.specs.Stops.{Stops};
@@ -92,6 +92,7 @@ impl Below<'_, '_> {
             (pattern_of pattern.now)) stop) }
         ensures kept { IfOk result (λ _.
             KeepsShapes self.now lists.old lists.new (block.now ∷ []) made.old made.new) }
+        ensures others { IfOk result (λ _. KeepsOthers (block.now ∷ []) made.old made.new) }
     {
         if let Some(shape) = made.get(block.number) {
             return Ok(*shape);
@@ -122,6 +123,7 @@ impl Below<'_, '_> {
             (under (heads_of heads.now) (constructor_of own.now)).pattern) stop) }
         ensures kept { IfOk result (λ _.
             KeepsShapes self.now lists.old lists.new heads.now made.old made.new) }
+        ensures others { IfOk result (λ _. KeepsOthers heads.now made.old made.new) }
     {
         let Some((first, rest)) = heads.split_first() else {
             return self.pattern_shape(alloc, &own.pattern, lists);
@@ -159,6 +161,10 @@ impl Below<'_, '_> {
             of.now.heads.items windows.old windows.new) }
         ensures sets { IfOk result (λ _. KeepsMade (AreHeadCubes (read_with self.now lists.now))
             of.now.heads.items sets.old sets.new) }
+        ensures other_windows { IfOk result (λ _.
+            KeepsOthers of.now.heads.items windows.old windows.new) }
+        ensures other_sets { IfOk result (λ _.
+            KeepsOthers of.now.heads.items sets.old sets.new) }
         ensures fault { IfErr result (λ stop. (shapes : Shapes) (s : spec.Shape)
             → Shows self.now lists.now shapes
             → shape_of self.now.tables.now shapes (placed of.now).1.pattern ≡ Some s
@@ -199,9 +205,12 @@ impl Below<'_, '_> {
     ) -> Result<(Shape, CubeSet), Stop>
         requires sized { AreSized self.now lists.old }
         requires right { AreRightFor self.now lists.old of.now.heads.items made.old }
+        requires marked { AreMarked self.now.tables.now made.old.marks.items
+            (Some (placed of.now).1.pattern) }
         ensures sized { IfOk result (λ _. AreSized self.now lists.new) }
         ensures right { IfOk result (λ _.
             KeepsRight self.now lists.old lists.new of.now.heads.items made.old made.new) }
+        ensures marks { IfOk result (λ _. made.new.marks.items ≡ made.old.marks.items) }
         ensures made { IfOk result (λ found. (shapes : Shapes) → Shows self.now lists.old shapes
             → IsMade self.now shapes lists.old lists.new (placed of.now).1.pattern
             found.0 found.1) }

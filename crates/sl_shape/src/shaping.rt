@@ -2,16 +2,20 @@
 
 ghost use Rattle.std.specs.Prelude.{◌≡◌, ℕ, List, IfErr, IfOk, length};
 ghost use Rattle.std.specs.List.{AllByRecursion};
+ghost use Rattle.sl_ast.specs.Trees.{Constructor};
+ghost use Rattle.sl_ast.specs.Unfolding.{Placed};
 ghost use Rattle.sl_levels.specs.Orders.{NoneReaches};
-ghost use Rattle.sl_shape.specs.Next.{IsFirstOf, IsNext, IsRight};
+ghost use Rattle.sl_levels.specs.Views.{graph_of};
+ghost use Rattle.sl_shape.specs.Next.{IsFirstOf, IsKept, IsNext, IsRight};
 ghost use Rattle.sl_shape.specs.Ordered.{AreKnown, FaultsIn, IsOrdered};
 ghost use Rattle.sl_shape.specs.PatternShapes as spec;
 ghost use Rattle.sl_shape.specs.Tables.{AreShaped, IsError, IsFirstFault, table_graph};
 ghost use Rattle.sl_shapes.specs.Lists.{IsThere};
 ghost use Rattle.sl_spec.specs.Numbers.{AreNumbered};
 ghost use Rattle.sl_spec.specs.Unfolded.{all_placed};
+ghost use Rattle.sl_spec.specs.declared.unfolded.Unfolded as unfolded;
 
-use crate::below::{Below, TokenLists};
+use crate::below::{Below, HeadsMade, TokenLists, none_made};
 use crate::errors::ShapeError;
 use crate::order::{appearing, table_graph};
 use sl_cube::Cube;
@@ -22,13 +26,15 @@ use sl_shapes::{ListBytes, Lists, Shape, of_nothing};
 use sl_spec::{Tables, Unfolded};
 use std::alloc::{AllocError, Global};
 
-/// What is known of the tables, and the sets of the constructors, by their numbers.
+/// What is known of the tables, and the sets of the constructors, by their numbers; and what was
+/// made of blocks by it.
 #[derive(Drop)]
 struct Known {
     lists: TokenLists,
     shapes: Vec<Shape>,
     hulls: Vec<Option<Cube>>,
     sets: Vec<CubeSet>,
+    made: HeadsMade,
 }
 
 impl Known {
@@ -38,11 +44,14 @@ impl Known {
         alloc: Global,
         t: &Tables,
         constructors: &[Unfolded],
+        graph: &[Vec<usize>],
         table: usize,
     ) -> Result<(), ShapeError>
         requires right { IsRight t.now (length constructors.now) self.old }
-        requires numbered { AreNumbered constructors.now }
+        requires kept { IsKept t.now constructors.now self.old }
+        requires graph { graph_of graph.now ≡ table_graph t.now (all_placed constructors.now) }
         ensures right { IfOk result (λ _. IsRight t.now (length constructors.now) self.new) }
+        ensures kept { IfOk result (λ _. IsKept t.now constructors.now self.new) }
         ensures next { IfOk result (λ _.
             IsNext t.now (all_placed constructors.now) self.old self.new table) }
         ensures fault { IfErr result
@@ -51,6 +60,7 @@ impl Known {
         let Some(of) = t.tables.at(table) else {
             return Ok(());
         };
+        self.made.mark_named(graph, table);
         let below = Below {
             tables: t,
             shapes: self.shapes.as_slice(),
@@ -63,11 +73,13 @@ impl Known {
             ctors,
             &mut self.sets,
             &mut self.lists,
+            &mut self.made,
         )?;
         let shape = self.lists.all.of_table(alloc, found.as_slice())?;
         let hull = table_hull(self.sets.as_slice(), ctors);
         self.shapes[table] = shape;
         self.hulls[table] = hull;
+        self.made.table_put(alloc, table);
         Ok(())
     }
 }
@@ -78,18 +90,20 @@ fn shape_tables(
     alloc: Global,
     t: &Tables,
     constructors: &[Unfolded],
+    graph: &[Vec<usize>],
     order: &[usize],
     known: &mut Known,
 ) -> Result<(), ShapeError>
     requires right { IsRight t.now (length constructors.now) known.old }
-    requires numbered { AreNumbered constructors.now }
+    requires kept { IsKept t.now constructors.now known.old }
+    requires graph { graph_of graph.now ≡ table_graph t.now (all_placed constructors.now) }
     ensures right { IfOk result (λ _. IsRight t.now (length constructors.now) known.new) }
     ensures known { IfOk result (λ _. AreKnown t.now (all_placed constructors.now) order.now
         known.new order.now) }
     ensures fault { IfErr result (FaultsIn t.now (all_placed constructors.now) order.now) }
 {
     'order: for index in 0..order.len() {
-        known.shape_table(alloc, t, constructors, order[index])?;
+        known.shape_table(alloc, t, constructors, graph, order[index])?;
     }
     Ok(())
 }
@@ -134,7 +148,9 @@ fn no_shapes(alloc: Global, count: usize) -> Result<Vec<Shape>, AllocError>
 
 /// Nothing is known of any table.
 fn nothing_known(alloc: Global, t: &Tables, count: usize) -> Result<Known, AllocError>
-    ensures { IfOk result (IsRight t.now count) }
+    ensures right { IfOk result (IsRight t.now count) }
+    ensures kept { IfOk result (λ known. (us : List unfolded.Unfolded) → AreNumbered us
+        → IsKept t.now us known) }
 {
     let sizes = token_sizes(alloc, t)?;
     let lists = TokenLists {
@@ -144,11 +160,13 @@ fn nothing_known(alloc: Global, t: &Tables, count: usize) -> Result<Known, Alloc
     let shapes = no_shapes(alloc, t.tables.len())?;
     let hulls = vec![in alloc; None; t.tables.len()]?;
     let sets = empty_sets(alloc, count)?;
+    let made = none_made(alloc, t.tables.len())?;
     Ok(Known {
         lists,
         shapes,
         hulls,
         sets,
+        made,
     })
 }
 
@@ -162,12 +180,12 @@ pub struct Shapes {
 
 /// The order in which tables are shaped: by their heights, and those of one height in the order of
 /// the text.
-fn order_of(alloc: Global, t: &Tables, constructors: &[Unfolded]) -> Result<Vec<usize>, AllocError>
-    ensures { IfOk result (λ order. NoneReaches (table_graph t.now (all_placed constructors.now))
-        → IsOrdered t.now (all_placed constructors.now) order.items) }
+fn order_of(alloc: Global, t: &Tables, graph: &[Vec<usize>]) -> Result<Vec<usize>, AllocError>
+    ensures { IfOk result (λ order. (cs : List (Placed Constructor))
+        → graph_of graph.now ≡ table_graph t.now cs
+        → NoneReaches (table_graph t.now cs) → IsOrdered t.now cs order.items) }
 {
-    let graph = table_graph(alloc, t, constructors)?;
-    let heights = heights_of(alloc, graph.as_slice())?;
+    let heights = heights_of(alloc, graph)?;
     let tables = appearing(alloc, t)?;
     let order = sorted_by_height(alloc, heights.as_slice(), tables.as_slice())?;
     Ok(order)
@@ -190,9 +208,11 @@ pub fn shape(alloc: Global, t: &Tables, constructors: &[Unfolded]) -> Result<Sha
         NoneReaches (table_graph t.now (all_placed constructors.now))
         → IsError (IsFirstFault t.now (all_placed constructors.now)) error) }
 {
-    let order = order_of(alloc, t, constructors)?;
+    let graph = table_graph(alloc, t, constructors)?;
+    let graph = graph.as_slice();
+    let order = order_of(alloc, t, graph)?;
     let mut known = nothing_known(alloc, t, constructors.len())?;
-    shape_tables(alloc, t, constructors, order.as_slice(), &mut known)?;
+    shape_tables(alloc, t, constructors, graph, order.as_slice(), &mut known)?;
     Ok(Shapes {
         sets: known.sets,
         hulls: known.hulls,

@@ -5,15 +5,13 @@ ghost use Rattle.std.specs.Prelude as lists;
 ghost use Rattle.std.specs.List.{AllByRecursion};
 ghost use Rattle.sl_shape.specs.Adding.{AreAdded, IsAdded, IsFirstIn, IsStop};
 ghost use Rattle.sl_shape.specs.Below.{AreSized, Shows};
-ghost use Rattle.sl_shape.specs.HeadsMade.{AreRightOf};
+ghost use Rattle.sl_shape.specs.HeadsMade.{AreMarked, AreRightOf};
 ghost use Rattle.sl_shape.specs.PatternShapes.{Shapes};
 ghost use Rattle.sl_shape.specs.Stops.{Stops};
-ghost use Rattle.sl_shape.specs.Tables.{CtorTells, IsError};
-ghost use Rattle.sl_shapes.specs.Lists.{IsThere};
-ghost use Rattle.sl_spec.specs.Numbers.{AreNumbered};
+ghost use Rattle.sl_shape.specs.Tables.{CtorTells, IsError, pattern_at};
 ghost use Rattle.sl_spec.specs.Unfolded.{all_placed};
 
-use crate::below::{Below, HeadsMade, TokenLists, kept_at, none_made};
+use crate::below::{Below, HeadsMade, TokenLists};
 use crate::errors::ShapeError;
 use crate::faults::Fault;
 use crate::stop::Stop;
@@ -69,9 +67,12 @@ impl Below<'_, '_> {
         requires sized { AreSized self.now lists.old }
         requires counted { length sets.old.items ≡ length constructors.now }
         requires right { AreRightOf self.now lists.old constructors.now made.old }
+        requires marked { AreMarked self.now.tables.now made.old.marks.items
+            (pattern_at (all_placed constructors.now) index) }
         ensures sized { IfOk result (λ _. AreSized self.now lists.new) }
         ensures right { IfOk result (λ _.
             AreRightOf self.now lists.new constructors.now made.new) }
+        ensures marks { IfOk result (λ _. made.new.marks.items ≡ made.old.marks.items) }
         ensures counted { IfOk result (λ _. length sets.new.items ≡ length constructors.now) }
         ensures added { IfOk result (λ s. (shapes : Shapes) → Shows self.now lists.old shapes
             → IsAdded self.now (all_placed constructors.now) shapes lists.old lists.new
@@ -101,9 +102,12 @@ impl Below<'_, '_> {
         requires sized { AreSized self.now lists.old }
         requires counted { length sets.old.items ≡ length constructors.now }
         requires right { AreRightOf self.now lists.old constructors.now made.old }
+        requires marked { AreMarked self.now.tables.now made.old.marks.items
+            (pattern_at (all_placed constructors.now) ctor) }
         ensures sized { IfOk result (λ _. AreSized self.now lists.new) }
         ensures right { IfOk result (λ _.
             AreRightOf self.now lists.new constructors.now made.new) }
+        ensures marks { IfOk result (λ _. made.new.marks.items ≡ made.old.marks.items) }
         ensures counted { IfOk result (λ _. length sets.new.items ≡ length constructors.now) }
         ensures added { IfOk result (λ s. (shapes : Shapes) → Shows self.now lists.old shapes
             → IsAdded self.now (all_placed constructors.now) shapes lists.old lists.new
@@ -126,12 +130,16 @@ impl Below<'_, '_> {
         ctors: &[CtorId],
         sets: &mut Vec<CubeSet>,
         lists: &mut TokenLists,
+        made: &mut HeadsMade,
     ) -> Result<Vec<Shape>, ShapeError>
         requires sized { AreSized self.now lists.old }
         requires counted { length sets.old.items ≡ length constructors.now }
-        requires there { AllByRecursion (IsThere lists.old.all) self.now.shapes.now }
-        requires numbered { AreNumbered constructors.now }
+        requires right { AreRightOf self.now lists.old constructors.now made.old }
+        requires marked { AllByRecursion (λ i. AreMarked self.now.tables.now made.old.marks.items
+            (pattern_at (all_placed constructors.now) i)) ctors.now }
         ensures sized { IfOk result (λ _. AreSized self.now lists.new) }
+        ensures right { IfOk result (λ _.
+            AreRightOf self.now lists.new constructors.now made.new) }
         ensures counted { IfOk result (λ _. length sets.new.items ≡ length constructors.now) }
         ensures added { IfOk result (λ found. (shapes : Shapes) → Shows self.now lists.old shapes
             → AreAdded self.now (all_placed constructors.now) shapes lists.old lists.new
@@ -141,11 +149,10 @@ impl Below<'_, '_> {
             error) }
     {
         let mut found = Vec::new(alloc);
-        let mut made = none_made(alloc);
         'ctors: for index in 0..ctors.len() {
             let ctor = ctors[index];
-            made = kept_at(alloc, index, made);
-            let shape = self.add_constructor(alloc, constructors, ctor, sets, lists, &mut made)?;
+            made.grow_older(alloc);
+            let shape = self.add_constructor(alloc, constructors, ctor, sets, lists, made)?;
             push(&mut found, shape)?;
         }
         Ok(found)

@@ -20,6 +20,7 @@ order-preserved c =
     let table = get_or order i 0 in
     record {
       right = c.in_ok-shape_table.ensures.right;
+      kept = c.in_ok-shape_table.ensures.kept;
       are = known_more c.args.t.now (all_placed c.args.constructors.now) order i table c.order-test.true (read_any order i 0 table c.order-test.true)
           c.order.known c.order.invariant.are c.shape_table.new.self (length c.args.constructors.now) c.order.invariant.right c.in_ok-shape_table.ensures.right c.in_ok-shape_table.ensures.next;
     }

@@ -10,7 +10,7 @@ use Rattle.sl_shape.specs.Faults.{ShapeTells}
 use Rattle.sl_shape.specs.HeadsMade.{IsHeadShape}
 use Rattle.sl_shape.specs.Stops.{Stops}
 use Rattle.sl_shape.proofs.BelowLemmas.{shaped_group, told_group, told_left, told_right}
-use Rattle.sl_shape.proofs.HeadLemmas.{both_kept, first_made, own_kept, rest_kept, rest_made, shown}
+use Rattle.sl_shape.proofs.HeadLemmas.{both_kept, first_made, other_both, other_rest, own_kept, rest_kept, rest_made, shown}
 use Rattle.sl_shape.proofs.JoinLemmas.{for_right, for_right_stops, in_open, joined_goes, joined_stops, same_goes}
 use Rattle.sl_spec.specs.Unfolded.{heads_of, under}
 use Rattle.sl_shape.proofs.below.Below.+shape_in_blocks.Goals as goal
@@ -139,3 +139,13 @@ returns-clause-kept t c =
     let j = c.in_ok-inside.ensures.shape (shapes_in self old) i.gets.shows in
     both_kept self c.args.heads.now c.in-Some.rest.now c.in-Some.first.now c.in-Some.ensures.cases.0 old c.shape_of_block.new.lists c.shape_in_blocks-2.new.lists c.both_shape.new.lists
     c.args.made.now c.shape_of_block.new.made c.shape_in_blocks-2.new.made c.in_ok-around.ensures.kept c.in_ok-inside.ensures.kept j.gets.shows.there c.both_shape.ensures.lists c.both_shape.result
+
+pub returns-in_default-pattern-clause-others : goal.returns-in_default-pattern-clause-others
+returns-in_default-pattern-clause-others t c =
+    other_rest c.args.heads.now c.in-Some.rest.now c.in-Some.first.now c.in-Some.ensures.cases.0 c.args.made.now c.shape_in_blocks.new.made c.shape_in_blocks.result
+    c.shape_in_blocks.ensures.others
+
+pub returns-clause-others : goal.returns-clause-others
+returns-clause-others t c =
+    other_both c.args.heads.now c.in-Some.rest.now c.in-Some.first.now c.in-Some.ensures.cases.0 c.args.made.now c.shape_of_block.new.made c.shape_in_blocks-2.new.made
+    c.in_ok-around.ensures.others c.in_ok-inside.ensures.others c.both_shape.result

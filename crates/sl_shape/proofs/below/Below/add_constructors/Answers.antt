@@ -1,8 +1,11 @@
-use Rattle.std.proofs.Common.{◌+◌, List, [], take, refl, sym, subst}
+use Rattle.std.proofs.Common.{◌+◌, Bool, List, [], take, refl, sym, ◌∙◌, subst}
 use Rattle.std.proofs.lemmas.Result.{err_from_is_err_and}
 use Rattle.sl_shape.specs.Adding.{AreAdded}
+use Rattle.sl_shape.specs.HeadsMade.{AreMarked}
+use Rattle.sl_shape.specs.Tables.{pattern_at}
 use Rattle.sl_shape.proofs.AddLoopLemmas.{added_more, all_added, first_found}
 use Rattle.sl_shape.proofs.BelowLemmas.{keeps_same}
+use Rattle.sl_shape.proofs.HeadLemmas.{all_at}
 use Rattle.sl_shapes.specs.declared.shapes.Shape as code
 use Rattle.sl_spec.specs.Unfolded.{all_placed}
 use Rattle.sl_shape.proofs.below.Below.add_constructors.Goals as goal
@@ -23,10 +26,10 @@ ctors-init c =
     let cs = all_placed c.args.constructors.now in
     let l = c.args.lists.now in
     let sets = c.args.sets.now.items in
-    let numbered = c.requires.numbered in
     record {
       sized = c.requires.sized;
-      right = (numbered.0, numbered.1, c.none_made-made.ensures b l numbered.0 c.requires.there);
+      right = c.requires.right;
+      marks = refl;
       counted = c.requires.counted;
       added = λ shapes shows.
           let none : AreAdded b cs shapes l l sets sets [] [] =
@@ -37,7 +40,15 @@ ctors-init c =
 pub add_constructor-requires-clause-right : goal.add_constructor-requires-clause-right
 add_constructor-requires-clause-right c =
     let right = c.ctors.invariant.right in
-    (right.0, right.1, c.kept_at-made.ensures c.args.self.now c.ctors.lists right.0 right.2)
+    (right.0, right.1, c.grow_older.ensures.right c.args.self.now c.ctors.lists right.0 right.2)
+
+pub add_constructor-requires-clause-marked : goal.add_constructor-requires-clause-marked
+add_constructor-requires-clause-marked c =
+    let t = c.args.self.now.tables.now in
+    let cs = all_placed c.args.constructors.now in
+    let marked = all_at (λ i. AreMarked t c.args.made.now.marks.items (pattern_at cs i)) c.args.ctors.now c.requires.marked c.ctors.index c.index-ctors-index.result
+    c.ctors-test.true c.index-ctors-index.is in
+    subst (λ (marks : List Bool). AreMarked t marks (pattern_at cs c.index-ctors-index.result)) (sym (c.grow_older.ensures.marks ∙ c.ctors.invariant.marks)) marked
 
 pub ctors-preserved : goal.ctors-preserved
 ctors-preserved c =
@@ -46,6 +57,7 @@ ctors-preserved c =
     record {
       sized = c.in_ok-shape.ensures.sized;
       right = c.in_ok-shape.ensures.right;
+      marks = c.in_ok-shape.ensures.marks ∙ c.grow_older.ensures.marks ∙ c.ctors.invariant.marks;
       counted = c.in_ok-shape.ensures.counted;
       added = λ shapes shows.
           let added = c.ctors.invariant.added shapes shows in

@@ -10,6 +10,7 @@ abbrev pub invariant-ctors : goal.invariant-ctors
 invariant-ctors l = record {
   sized : AreSized l.fn.self l.lists;
   right : AreRightOf l.fn.self l.lists l.constructors l.made;
+  marks : l.made.marks.items ≡ l.initial.made.marks.items;
   counted : length l.sets.items ≡ length l.constructors;
   added : (shapes : Shapes) → Shows l.fn.self l.initial.lists shapes
       → AreAdded l.fn.self (all_placed l.constructors) shapes l.initial.lists l.lists l.initial.sets.items l.sets.items (take l.index l.ctors) l.found.items;

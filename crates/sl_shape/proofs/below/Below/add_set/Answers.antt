@@ -1,8 +1,10 @@
-use Rattle.std.proofs.Common.{◌≡◌, Some, arith, sym, ap, ◌∙◌}
+use Rattle.std.proofs.Common.{◌≡◌, Option, Some, arith, sym, ap, ◌∙◌, subst}
 use Rattle.std.proofs.lemmas.List.{length-map}
 use Rattle.std.proofs.lemmas.Option.{slice_get-get_or}
 use Rattle.std.proofs.lemmas.Result.{err_from_is_err_and}
 use Rattle.std.specs.Prelude.{slice_get}
+use Rattle.sl_ast.specs.Trees.{Pattern}
+use Rattle.sl_shape.specs.HeadsMade.{AreMarked}
 use Rattle.sl_shape.proofs.AddedLemmas.{made_added, none_added, told_at}
 use Rattle.sl_shape.proofs.HeadLemmas.{all_at}
 use Rattle.sl_shape.proofs.NamedLemmas.{pattern_here, pattern_past}
@@ -46,3 +48,10 @@ returns-clause-right c =
     let right = c.requires.right in
     let told = all_at (λ u. AreTold right.0 u.heads.items) c.args.constructors.now right.1 c.args.index c.in-Some.of.now c.in-Some.ensures.lookup.3.0 (c.in-Some.ensures.lookup.3.1 c.in-Some.of.now) in
     (right.0, right.1, c.in_ok-shape.ensures.right right.0 told right.2)
+
+pub constructor-requires-clause-marked : goal.constructor-requires-clause-marked
+constructor-requires-clause-marked c =
+    let us = c.args.constructors.now in
+    let u = c.in-Some.of.now in
+    let at : slice_get us c.args.index ≡ Some u = slice_get-get_or us c.args.index u c.in-Some.ensures.lookup.3.0 ∙ ap Some (sym (c.in-Some.ensures.lookup.3.1 u)) in
+    subst (λ (o : Option Pattern). AreMarked c.args.self.now.tables.now c.args.made.now.marks.items o) (pattern_here us c.args.index u at) c.requires.marked

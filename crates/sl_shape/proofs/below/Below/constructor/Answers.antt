@@ -1,10 +1,12 @@
 use Rattle.std.proofs.lemmas.Result.{err_from_is_err_and}
+use Rattle.sl_ast.specs.Views.{constructor_of}
 use Rattle.sl_spec.specs.Unfolded.{placed}
 use Rattle.sl_shape.specs.Below.{Shows, shapes_in}
 use Rattle.sl_shape.specs.Faults.{CountTells, OrElse, PointTells, ShapeTells, WindowTells}
 use Rattle.sl_shape.specs.declared.below.TokenLists.{TokenLists}
 use Rattle.sl_shape.proofs.BelowLemmas.{keeps_same, or_else_first, or_else_second}
 use Rattle.sl_shape.proofs.HeadLemmas.{lists_kept, sets_more, shapes_more, shapes_same, there_more, windows_more}
+use Rattle.sl_shape.proofs.KeptLemmas.{made_marked}
 use Rattle.sl_shape.proofs.below.Below.constructor.Goals as goal
 
 pub returns-in_err-shape-clause-fault : goal.returns-in_err-shape-clause-fault
@@ -90,10 +92,18 @@ returns-clause-right c = λ head_at told right.
     let keeps = lists_kept self old mid right.there (placed c.args.of.now).1.pattern c.in_ok-shape.shape shaped in
     let there = there_more self old mid right.there keeps in
     let same = shapes_same self old new right.there keeps in
+    let t = self.tables.now in
+    let marks = c.args.made.now.marks.items in
+    let blocks = c.args.of.now.heads.items in
+    let own = constructor_of c.args.of.now.own.now in
+    let others = rw c.as_slice-heads.ensures.value at c.in_ok-shape.ensures.others in
     record {
       there = there;
       counts = c.in_ok-demand_count.ensures.kept head_at told right.counts;
       shapes = shapes_more self mid new there (keeps_same mid.all) head_at c.shape_in_blocks.new.made (kept head_at told right.shapes);
       windows = c.in_ok-set.ensures.windows head_at told (windows_more self (shapes_in self old) (shapes_in self new) same head_at c.args.made.now.windows right.windows);
       sets = c.in_ok-set.ensures.sets head_at told (sets_more self (shapes_in self old) (shapes_in self new) same head_at c.args.made.now.sets right.sets);
+      shapes_marked = made_marked t marks blocks own c.requires.marked head_at told c.args.made.now.shapes c.shape_in_blocks.new.made others right.shapes_marked;
+      windows_marked = made_marked t marks blocks own c.requires.marked head_at told c.args.made.now.windows c.set_of.new.windows c.in_ok-set.ensures.other_windows right.windows_marked;
+      sets_marked = made_marked t marks blocks own c.requires.marked head_at told c.args.made.now.sets c.set_of.new.sets c.in_ok-set.ensures.other_sets right.sets_marked;
     }

@@ -2,7 +2,7 @@ use Rattle.std.proofs.Common.{ap, sym, ◌∙◌, subst}
 use Rattle.std.specs.Prelude.{option_copied}
 use Rattle.sl_ast.specs.Trees.{Pattern}
 use Rattle.sl_ast.specs.Views.{head_of, pattern_of}
-use Rattle.sl_patterns.proofs.HeadLemmas.{its_own}
+use Rattle.sl_patterns.proofs.HeadLemmas.{its_own, put_here}
 use Rattle.sl_shape.specs.Below.{IsShaped, shapes_in}
 use Rattle.sl_shape.specs.HeadsMade.{IsHeadShape}
 use Rattle.sl_shape.specs.PatternShapes.{Shapes}
@@ -34,3 +34,6 @@ returns-clause-kept c = λ head_at told right.
     (shapes_more self old new there (lists_kept self old new there p s c.in_ok-shape.ensures.shape) head_at c.args.made.now right)
     (its_own (λ (q : Pattern) (t : code.Shape). IsShaped self (shapes_in self new) new new q t) (head_of block.head.now) p s c.requires.its
     (shaped_now self old new there p s c.in_ok-shape.ensures.shape))
+
+pub returns-clause-others : goal.returns-clause-others
+returns-clause-others c = put_here c.args.block.now c.args.made.now c.put.new.self c.in_ok-shape.shape c.in_ok-put.ensures

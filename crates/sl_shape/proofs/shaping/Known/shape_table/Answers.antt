@@ -1,16 +1,22 @@
-use Rattle.std.proofs.Common.{◌≡◌, List, length, map, arith, refl, sym, ap, ◌∙◌, subst}
+use Rattle.std.proofs.Common.{◌≡◌, ℕ, List, Option, length, map, set, arith, refl, sym, ap, ◌∙◌, subst}
 use Rattle.std.proofs.lemmas.List.{length-map, length-set}
 use Rattle.std.proofs.lemmas.Result.{err_from_is_err_and}
 use Rattle.std.specs.List.{AllByRecursion}
 use Rattle.std.specs.Prelude.{option_copied}
 use Rattle.sl_patterns.specs.Hulls.{IsHullOrNone, TableHas}
+use Rattle.sl_cube.specs.declared.Cube.{Cube}
+use Rattle.sl_levels.specs.Views.{graph_of}
 use Rattle.sl_settle.specs.declared.CubeSet.{CubeSet}
+use Rattle.sl_shape.specs.HeadsMade.{AreMarked, IsMarked}
 use Rattle.sl_shape.specs.Next.{shapes_known}
-use Rattle.sl_shape.specs.Tables.{constructors_of, numbers}
+use Rattle.sl_shape.specs.Tables.{constructors_of, numbers, pattern_at}
 use Rattle.sl_shape.specs.declared.below.Below.{Below}
+use Rattle.sl_shape.specs.declared.below.TokenLists.{TokenLists}
 use Rattle.sl_shape.proofs.BelowLemmas.{all_there}
+use Rattle.sl_shape.proofs.HeadLemmas.{right_more}
 use Rattle.sl_shape.proofs.NamedLemmas.{read_some}
-use Rattle.sl_shape.proofs.ShapeTableLemmas.{all_set, error_below, next_goes, none_next, shown_below}
+use Rattle.sl_shape.proofs.OrderLemmas.{named_each}
+use Rattle.sl_shape.proofs.ShapeTableLemmas.{all_set, error_below, next_goes, none_next, same_but, shown_below}
 use Rattle.sl_shapes.proofs.ListLemmas.{keeps_more}
 use Rattle.sl_shapes.specs.Lists.{IsThere, seen}
 use Rattle.sl_shapes.specs.Shapes.{of_table}
@@ -75,6 +81,34 @@ returns-clause-next c =
     refl refl
     (subst (λ (l : List CubeSet). IsHullOrNone (TableHas l c.as_slice-ctors.result.now) c.table_hull-hull.result) c.as_slice-4.ensures.value c.table_hull-hull.ensures)
 
-pub add_constructors-requires-clause-there : goal.add_constructors-requires-clause-there
-add_constructors-requires-clause-there c =
-    subst (λ (l : List code.Shape). AllByRecursion (IsThere c.args.self.now.lists.all) l) (sym c.as_slice.ensures.value) c.requires.right.there
+pub add_constructors-requires-clause-right : goal.add_constructors-requires-clause-right
+add_constructors-requires-clause-right c =
+    let b : Below = record { tables = c.args.t; shapes = c.as_slice.result; hulls = c.as_slice-2.result } in
+    let kept = c.requires.kept b (record { tables = refl; shapes = c.as_slice.ensures.value; hulls = c.as_slice-2.ensures.value }) in
+    (kept.0, kept.1, c.mark_named.ensures.right b c.args.self.now.lists kept.0 kept.2)
+
+pub add_constructors-requires-clause-marked : goal.add_constructors-requires-clause-marked
+add_constructors-requires-clause-marked c =
+    let t = c.args.t.now in
+    let cs = all_placed c.args.constructors.now in
+    let marks = c.mark_named.new.self.marks.items in
+    let is_are : c.as_slice-ctors.result.now ≡ c.in-Some.of.now.constructors = c.as_slice-ctors.ensures.value ∙ ap (λ b. b.constructors) c.of.view_is in
+    subst (λ (is : List ℕ). AllByRecursion (λ i. AreMarked t marks (pattern_at cs i)) is) (sym is_are)
+    (named_each t cs (graph_of c.args.graph.now) c.requires.graph (IsMarked marks) c.args.table c.in-Some.of.now (sym c.in-Some.ensures) c.mark_named.ensures.marked)
+
+pub returns-clause-kept : goal.returns-clause-kept
+returns-clause-kept c = λ next below.
+    let old = c.args.self.now in
+    let b : Below = record { tables = c.args.t; shapes = c.as_slice.result; hulls = c.as_slice-2.result } in
+    let lists = c.add_constructors.new.lists in
+    let last : TokenLists = record { all = c.of_table.new.self; bytes = lists.bytes } in
+    let added = c.in_ok-found.ensures.added (shapes_known old)
+    (shown_below b (all_placed c.args.constructors.now) old (length c.args.constructors.now) c.as_slice.ensures.value c.as_slice-2.ensures.value c.requires.right) in
+    let there = all_set (IsThere last.all) old.shapes.items c.args.table c.in_ok-shape.shape
+    (all_there old.lists.all last.all (keeps_more old.lists.all lists.all last.all added.lists c.in_ok-shape.ensures.keeps) old.shapes.items c.requires.right.there) c.in_ok-shape.ensures.there in
+    let same = same_but b next last c.args.table c.in_ok-shape.shape c.table_hull-hull.result (sym below.tables)
+    (subst (λ (l : List code.Shape). AllByRecursion (IsThere last.all) l) (sym below.shapes) there)
+    (below.shapes ∙ ap (λ (l : List code.Shape). set l c.args.table c.in_ok-shape.shape) (sym c.as_slice.ensures.value))
+    (below.hulls ∙ ap (λ (l : List (Option Cube)). set l c.args.table c.table_hull-hull.result) (sym c.as_slice-2.ensures.value)) in
+    let right = c.in_ok-found.ensures.right in
+    (right.0, right.1, c.table_put.ensures b next last right.0 same (right_more b lists last c.in_ok-shape.ensures.keeps right.0 c.add_constructors.new.made right.2))
