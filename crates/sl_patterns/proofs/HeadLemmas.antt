@@ -1,5 +1,5 @@
 -- What is made of the patterns of blocks.
-use Rattle.std.proofs.Common.{◌≡◌, ℕ, ◌<◌, List, [], ◌∷◌, Option, Some, length, arith, sym, subst, ap, ◌∙◌}
+use Rattle.std.proofs.Common.{◌≡◌, ℕ, ◌<◌, Bool, cond, List, [], ◌∷◌, Option, Some, length, arith, sym, subst, ap, ◌∙◌}
 use Rattle.std.specs.Global.{Vec}
 use Rattle.std.specs.Prelude.{unwrap_or}
 use Rattle.sl_ast.specs.Trees.{Head, Pattern}
@@ -7,10 +7,10 @@ use Rattle.sl_ast.specs.Views.{head_of}
 use Rattle.sl_constraints.specs.Sets.{IsUnionOf}
 use Rattle.sl_cube.specs.declared.Cube.{Cube}
 use Rattle.sl_patterns.specs.Counts.{FitCount}
-use Rattle.sl_patterns.specs.Heads.{AreHeadCubes}
+use Rattle.sl_patterns.specs.Heads.{AreHeadCubes, IsElsewhere, KeepsOthers}
 use Rattle.sl_patterns.specs.Patterns.{PatternHolds, Reading}
 use Rattle.sl_spec.proofs.MadeLemmas.{found_right}
-use Rattle.sl_spec.specs.Numbers.{AreMadeFor, AreTold, KeepsMade, made_of}
+use Rattle.sl_spec.specs.Numbers.{AreMadeFor, AreTold, KeepsMade, is_number, made_of}
 use Rattle.sl_spec.specs.declared.unfolded.Around.{Around}
 
 -- what holds of the head's only pattern
@@ -50,3 +50,24 @@ pub found_cubes : (r : Reading) (a : Around) (sets : List (ℕ × Vec Cube)) (p 
     → AreMadeFor (AreHeadCubes r) (a ∷ []) sets → made_of sets a.number ≡ Some cubes
     → IsUnionOf (PatternHolds r p 0) cubes.items × FitCount r.tables p cubes.items
 found_cubes r a sets p cubes its made is = found_right (AreHeadCubes r) made.0 a made.1.0 sets cubes made.2 is p its
+
+-- ---- what was made of other blocks
+
+module _ {V : Type 0} where
+  pub put_here : (a : Around) (old new : List (ℕ × V)) (v : V) → ((n : ℕ) → made_of new n ≡ cond (is_number a.number n) (Some v) (made_of old n))
+      → KeepsOthers (a ∷ []) old new
+  put_here a old new v put n apart = put n ∙ ap (λ (b : Bool). cond b (Some v) (made_of old n)) apart.0
+
+  module _ (blocks rest : List Around) (a : Around) (are : blocks ≡ a ∷ rest) (old new : List (ℕ × V)) where
+    pub others_first : KeepsOthers (a ∷ []) old new → KeepsOthers blocks old new
+    others_first kept n apart =
+        let parts = subst (λ (bs : List Around). IsElsewhere n bs) are apart in
+        kept n (parts.0, tt)
+
+    pub others_rest : KeepsOthers rest old new → KeepsOthers blocks old new
+    others_rest kept n apart =
+        let parts = subst (λ (bs : List Around). IsElsewhere n bs) are apart in
+        kept n parts.1
+
+  pub others_both : (blocks : List Around) (old mid new : List (ℕ × V)) → KeepsOthers blocks old mid → KeepsOthers blocks mid new → KeepsOthers blocks old new
+  others_both blocks old mid new before after n apart = after n apart ∙ before n apart

@@ -4,7 +4,7 @@ ghost use Rattle.std.specs.Prelude.{◌≡◌, ◌∷◌, [], IfOk, Some};
 ghost use Rattle.sl_ast.specs.Views.{constructor_of, head_of, pattern_of};
 ghost use Rattle.sl_constraints.specs.Sets.{IsUnionOf};
 ghost use Rattle.sl_patterns.specs.Counts.{FitCount};
-ghost use Rattle.sl_patterns.specs.Heads.{AreHeadCubes};
+ghost use Rattle.sl_patterns.specs.Heads.{AreHeadCubes, KeepsOthers};
 ghost use Rattle.sl_patterns.specs.Patterns.{PatternHolds};
 ghost use Rattle.sl_patterns.specs.Views.{reading_of};
 ghost use Rattle.sl_spec.specs.Numbers.{AreMadeFor, KeepsMade};
@@ -37,6 +37,7 @@ impl<L: Lengths> Reader<'_, '_, L> {
             FitCount self.now.tables.now (pattern_of pattern.now) cubes.items) }
         ensures kept { IfOk result (λ _. KeepsMade (AreHeadCubes (reading_of L.bytes self.now))
             (block.now ∷ []) sets.old sets.new) }
+        ensures others { IfOk result (λ _. KeepsOthers (block.now ∷ []) sets.old sets.new) }
     {
         if let Some(cubes) = sets.get(block.number) {
             let again = Vec::from_slice(alloc, cubes)?;
@@ -64,6 +65,7 @@ impl<L: Lengths> Reader<'_, '_, L> {
             (under (heads_of heads.now) (constructor_of own.now)).pattern cubes.items) }
         ensures kept { IfOk result (λ _. KeepsMade (AreHeadCubes (reading_of L.bytes self.now))
             heads.now sets.old sets.new) }
+        ensures others { IfOk result (λ _. KeepsOthers heads.now sets.old sets.new) }
     {
         let Some((first, rest)) = heads.split_first() else {
             let cubes = self.pattern_cubes(alloc, &own.pattern, 0)?;
@@ -96,6 +98,7 @@ impl<L: Lengths> Reader<'_, '_, L> {
             FitCount self.now.tables.now (placed of.now).1.pattern cubes.items) }
         ensures kept { IfOk result (λ _. KeepsMade (AreHeadCubes (reading_of L.bytes self.now))
             of.now.heads.items sets.old sets.new) }
+        ensures others { IfOk result (λ _. KeepsOthers of.now.heads.items sets.old sets.new) }
     {
         let own = of.own;
         let cubes = self.cubes_in_blocks(alloc, of.heads.as_slice(), own, sets)?;

@@ -3,7 +3,7 @@
 ghost use Rattle.std.specs.Prelude.{◌≡◌, ◌∷◌, [], ℕ, Some, IfOk};
 ghost use Rattle.sl_ast.specs.Views.{constructor_of, expression_of, head_of, pattern_of};
 ghost use Rattle.sl_constraints.specs.Windows.{IsEnd};
-ghost use Rattle.sl_patterns.specs.Heads.{IsHeadWindow};
+ghost use Rattle.sl_patterns.specs.Heads.{IsHeadWindow, KeepsOthers};
 ghost use Rattle.sl_patterns.specs.Patterns.{constraint_of, told};
 ghost use Rattle.sl_patterns.specs.Views.{reading_of};
 ghost use Rattle.sl_patterns.specs.Windows.{FixesByte, IfConstrains, IsWindow, NameConstrains};
@@ -110,6 +110,8 @@ impl<L: Lengths> Reader<'_, '_, L> {
             (pattern_of pattern.now) 0)) }
         ensures kept { IfOk result (λ _. KeepsMade (IsHeadWindow (reading_of L.bytes self.now))
             (block.now ∷ []) windows.old windows.new) }
+        ensures others { IfOk result (λ _.
+            KeepsOthers (block.now ∷ []) windows.old windows.new) }
     {
         if let Some(window) = windows.get(block.number) {
             return Ok(*window);
@@ -132,6 +134,7 @@ impl<L: Lengths> Reader<'_, '_, L> {
             (under (heads_of heads.now) (constructor_of own.now)).pattern 0)) }
         ensures kept { IfOk result (λ _. KeepsMade (IsHeadWindow (reading_of L.bytes self.now))
             heads.now windows.old windows.new) }
+        ensures others { IfOk result (λ _. KeepsOthers heads.now windows.old windows.new) }
     {
         let Some((first, rest)) = heads.split_first() else {
             let window = self.pattern_window(alloc, &own.pattern, 0)?;
@@ -161,6 +164,8 @@ impl<L: Lengths> Reader<'_, '_, L> {
             (placed of.now).1.pattern 0)) }
         ensures kept { IfOk result (λ _. KeepsMade (IsHeadWindow (reading_of L.bytes self.now))
             of.now.heads.items windows.old windows.new) }
+        ensures others { IfOk result (λ _.
+            KeepsOthers of.now.heads.items windows.old windows.new) }
     {
         let own = of.own;
         let window = self.window_in_blocks(alloc, of.heads.as_slice(), own, windows)?;

@@ -8,7 +8,7 @@ use Rattle.sl_patterns.specs.Heads.{AreHeadCubes}
 use Rattle.sl_patterns.specs.Patterns.{PatternHolds}
 use Rattle.sl_patterns.specs.Views.{reading_of}
 use Rattle.sl_patterns.proofs.CountLemmas.{few_in_block}
-use Rattle.sl_patterns.proofs.HeadLemmas.{kept_both, kept_rest, made_first, made_rest, rest_shorter}
+use Rattle.sl_patterns.proofs.HeadLemmas.{kept_both, kept_rest, made_first, made_rest, others_both, others_first, others_rest, rest_shorter}
 use Rattle.sl_patterns.proofs.ViewLemmas.{in_one_more}
 use Rattle.sl_patterns.proofs.UnionLemmas.{union_in_block}
 use Rattle.sl_patterns.proofs.reader.Reader.+cubes_in_blocks.Goals as goal
@@ -59,3 +59,17 @@ returns-in_default-pattern-clause-kept g t c =
 pub returns-clause-kept : goal.returns-clause-kept
 returns-clause-kept g t c =
     kept_both (AreHeadCubes (reading_of g.L.Lengths.bytes c.args.self.now)) c.args.heads.now c.in-Some.rest.now c.in-Some.first.now c.in-Some.ensures.cases.0 c.args.sets.now c.cubes_in_blocks.new.sets c.cubes_of_block.new.sets c.in_ok-inside.ensures.kept c.in_ok-around.ensures.kept
+
+pub returns-in_default-pattern-clause-others : goal.returns-in_default-pattern-clause-others
+returns-in_default-pattern-clause-others g t c =
+    others_rest c.args.heads.now c.in-Some.rest.now c.in-Some.first.now c.in-Some.ensures.cases.0 c.args.sets.now c.cubes_in_blocks.new.sets c.in_ok-inside.ensures.others
+
+pub returns-clause-others : goal.returns-clause-others
+returns-clause-others g t c =
+    let blocks = c.args.heads.now in
+    let rest = c.in-Some.rest.now in
+    let first = c.in-Some.first.now in
+    let are = c.in-Some.ensures.cases.0 in
+    others_both blocks c.args.sets.now c.cubes_in_blocks.new.sets c.cubes_of_block.new.sets
+    (others_rest blocks rest first are c.args.sets.now c.cubes_in_blocks.new.sets c.in_ok-inside.ensures.others)
+    (others_first blocks rest first are c.cubes_in_blocks.new.sets c.cubes_of_block.new.sets c.in_ok-around.ensures.others)

@@ -5,7 +5,7 @@ use Rattle.sl_spec.specs.Unfolded.{heads_of, under}
 use Rattle.sl_patterns.specs.Heads.{IsHeadWindow}
 use Rattle.sl_patterns.specs.Views.{reading_of}
 use Rattle.sl_patterns.specs.Windows.{IsWindow, PatternConstrains}
-use Rattle.sl_patterns.proofs.HeadLemmas.{kept_both, kept_rest, made_first, made_rest, rest_shorter}
+use Rattle.sl_patterns.proofs.HeadLemmas.{kept_both, kept_rest, made_first, made_rest, others_both, others_first, others_rest, rest_shorter}
 use Rattle.sl_patterns.proofs.ViewLemmas.{in_none, in_one_more}
 use Rattle.sl_patterns.proofs.WindowLemmas.{window_in_block}
 use Rattle.sl_patterns.proofs.reader.Reader.+window_in_blocks.Goals as goal
@@ -49,3 +49,17 @@ returns-in_default-pattern-clause-kept g t c =
 pub returns-clause-kept : goal.returns-clause-kept
 returns-clause-kept g t c =
     kept_both (IsHeadWindow (reading_of g.L.Lengths.bytes c.args.self.now)) c.args.heads.now c.in-Some.rest.now c.in-Some.first.now c.in-Some.ensures.cases.0 c.args.windows.now c.window_in_blocks.new.windows c.window_of_block.new.windows c.in_ok-inside.ensures.kept c.in_ok-around.ensures.kept
+
+pub returns-in_default-pattern-clause-others : goal.returns-in_default-pattern-clause-others
+returns-in_default-pattern-clause-others g t c =
+    others_rest c.args.heads.now c.in-Some.rest.now c.in-Some.first.now c.in-Some.ensures.cases.0 c.args.windows.now c.window_in_blocks.new.windows c.in_ok-inside.ensures.others
+
+pub returns-clause-others : goal.returns-clause-others
+returns-clause-others g t c =
+    let blocks = c.args.heads.now in
+    let rest = c.in-Some.rest.now in
+    let first = c.in-Some.first.now in
+    let are = c.in-Some.ensures.cases.0 in
+    others_both blocks c.args.windows.now c.window_in_blocks.new.windows c.window_of_block.new.windows
+    (others_rest blocks rest first are c.args.windows.now c.window_in_blocks.new.windows c.in_ok-inside.ensures.others)
+    (others_first blocks rest first are c.window_in_blocks.new.windows c.window_of_block.new.windows c.in_ok-around.ensures.others)

@@ -9,7 +9,7 @@ use Rattle.sl_patterns.specs.Counts.{FitCount}
 use Rattle.sl_patterns.specs.Heads.{AreHeadCubes}
 use Rattle.sl_patterns.specs.Patterns.{PatternHolds}
 use Rattle.sl_patterns.specs.Views.{reading_of}
-use Rattle.sl_patterns.proofs.HeadLemmas.{found_cubes, its_own}
+use Rattle.sl_patterns.proofs.HeadLemmas.{found_cubes, its_own, put_here}
 use Rattle.sl_spec.proofs.MadeLemmas.{put_right}
 use Rattle.sl_patterns.proofs.reader.Reader.cubes_of_block.Goals as goal
 
@@ -42,3 +42,6 @@ returns-clause-kept g c = λ head_at told right.
     put_right (AreHeadCubes r) head_at block told.0 c.args.sets.now c.put.new.self c.in_ok-cubes.cubes c.in_ok-put.ensures right
     (its_own (λ (p : Pattern) (cubes : Vec Cube). IsUnionOf (PatternHolds r p 0) cubes.items × FitCount r.tables p cubes.items)
     (head_of block.head.now) (pattern_of c.args.pattern.now) c.in_ok-cubes.cubes c.requires.its (c.in_ok-cubes.ensures.points 0 refl, c.in_ok-cubes.ensures.few))
+
+pub returns-clause-others : goal.returns-clause-others
+returns-clause-others g c = put_here c.args.block.now c.args.sets.now c.put.new.self c.in_ok-cubes.cubes c.in_ok-put.ensures

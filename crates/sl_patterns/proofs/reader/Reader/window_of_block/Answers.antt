@@ -4,7 +4,7 @@ use Rattle.sl_ast.specs.Views.{head_of, pattern_of}
 use Rattle.sl_patterns.specs.Heads.{IsHeadWindow}
 use Rattle.sl_patterns.specs.Views.{reading_of}
 use Rattle.sl_patterns.specs.Windows.{IsWindow, PatternConstrains}
-use Rattle.sl_patterns.proofs.HeadLemmas.{its_own}
+use Rattle.sl_patterns.proofs.HeadLemmas.{its_own, put_here}
 use Rattle.sl_spec.proofs.MadeLemmas.{found_right, put_right}
 use Rattle.sl_patterns.proofs.reader.Reader.window_of_block.Goals as goal
 
@@ -23,3 +23,6 @@ returns-clause-kept g c = λ head_at told right.
     let block = c.args.block.now in
     put_right (IsHeadWindow r) head_at block told.0 c.args.windows.now c.put.new.self c.in_ok-window.window c.in_ok-put.ensures right
     (its_own (λ p n. IsWindow (PatternConstrains r p 0) n) (head_of block.head.now) (pattern_of c.args.pattern.now) c.in_ok-window.window c.requires.its (c.in_ok-window.ensures 0 refl))
+
+pub returns-clause-others : goal.returns-clause-others
+returns-clause-others g c = put_here c.args.block.now c.args.windows.now c.put.new.self c.in_ok-window.window c.in_ok-put.ensures
