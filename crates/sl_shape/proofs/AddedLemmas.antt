@@ -52,6 +52,7 @@ module _ (b : Below) (cs : List (Placed Constructor)) (shapes : Shapes) (i : ℕ
           set = one;
           set_is = here;
           union = subst (λ (o : Option Pattern). IsUnionOf (IfHolds b.tables.now cs shapes b.hulls.now o) one.cubes.items) (sym e) made.union;
+          few = made.few;
         } in
         record {
           gets = record {
@@ -68,6 +69,7 @@ module _ (b : Below) (cs : List (Placed Constructor)) (shapes : Shapes) (i : ℕ
               set = h.set;
               set_is = ap (λ (l : List CubeSet). slice_get l j) put ∙ set_other before i j one apart ∙ h.set_is;
               union = h.union;
+              few = h.few;
             }
           ];
         }

@@ -174,6 +174,7 @@ module _ (t : Tables) (s r : Shapes) (h k : List (Option Cube)) where
     set_same sets i agree e = record {
       set = e.set;
       set_is = e.set_is;
+      few = e.few;
       union = λ x range. (
         λ w. (if_holds (pattern_at cs i) agree x range).0 ((e.union x range).0 w),
         λ w. (e.union x range).1 ((if_holds (pattern_at cs i) agree x range).1 w),

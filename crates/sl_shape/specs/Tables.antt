@@ -1,5 +1,5 @@
 -- meaning: the shapes, the sets and the hulls of tables, and the first constructor with a fault.
-use Rattle.std.specs.Prelude.{◌≡◌, ℕ, suc, ◌<◌, ◌==◌, Bool, false, if◌then◌else◌}
+use Rattle.std.specs.Prelude.{◌≡◌, ℕ, suc, ◌<◌, ◌≤◌, ◌==◌, Bool, false, if◌then◌else◌}
 use Rattle.std.specs.Prelude.{List, [], ◌∷◌, ◌++◌, get_or, map, length}
 use Rattle.std.specs.Prelude.{Option, Some, None, option_and_then, option_map, slice_get, unwrap_or}
 use Rattle.std.specs.List.{AllByRecursion, Any}
@@ -14,7 +14,7 @@ use Rattle.sl_patterns.specs.Hulls.{IsHullOrNone}
 use Rattle.sl_patterns.specs.Patterns.{hull_at}
 use Rattle.sl_rules.specs.Gathered.{gathered}
 use Rattle.sl_settle.specs.declared.CubeSet.{CubeSet}
-use Rattle.sl_shape.specs.Faults.{Holds, Tells}
+use Rattle.sl_shape.specs.Faults.{Holds, Tells, most_cubes}
 use Rattle.sl_shape.specs.PatternShapes.{Shapes, shape_of}
 use Rattle.sl_shape.specs.declared.errors.ShapeError.{ShapeError}
 use Rattle.sl_shape.specs.declared.errors.ShapeError.TheVariants as error
@@ -113,11 +113,12 @@ module _ (t : Tables) (cs : List (Placed Constructor)) (shapes : Shapes)
         (hull_at hulls table)
     pub sound : AllByRecursion (λ i. CtorTells i None) (constructors_of t table)
 
-  -- The set of the constructor has the points at which its pattern holds.
+  -- The set of the constructor is the points at which its pattern holds, as at most 1,024 cubes.
   pub record IsSetAt (sets : List CubeSet) (i : ℕ) : Type 0 where
     pub set : CubeSet
     pub set_is : slice_get sets i ≡ Some set
     pub union : IsUnionOf (CtorHolds i) set.cubes.items
+    pub few : length set.cubes.items ≤ most_cubes
 
   -- If there is such a constructor, its set is there.
   abbrev pub IfSetAt : List CubeSet → ℕ → Type 0

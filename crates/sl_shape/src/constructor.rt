@@ -5,6 +5,7 @@ ghost use Rattle.std.specs.List.{AllByRecursion};
 ghost use Rattle.sl_ast.specs.Views.{constructor_of, head_of, pattern_of};
 ghost use Rattle.sl_cube.specs.Points.{InRange, IsInSome};
 ghost use Rattle.sl_cube.specs.declared.Point as point;
+ghost use Rattle.sl_patterns.specs.Counts.{FitCount};
 ghost use Rattle.sl_patterns.specs.Heads.{AreHeadCubes, IsHeadCount, IsHeadWindow, KeepsOthers};
 ghost use Rattle.sl_shape.specs.Below.{AreSized, IsShaped, Shows};
 ghost use Rattle.sl_shape.specs.Faults.{CountTells, OrElse, PointTells, ShapeTells, Tells};
@@ -137,7 +138,7 @@ impl Below<'_, '_> {
         self.both_shape(alloc, around, inside, lists)
     }
 
-    /// The set of a constructor that has a shape, or its first fault.
+    /// The set of a constructor that has a shape, of no more cubes than its count, or its first fault.
     fn set_of(
         &self,
         alloc: Global,
@@ -157,6 +158,8 @@ impl Below<'_, '_> {
             → shape_of self.now.tables.now shapes (placed of.now).1.pattern ≡ Some s
             → IsSetOf self.now.tables.now shapes self.now.hulls.now
             (placed of.now).1.pattern set) }
+        ensures few { IfOk result (λ set.
+            FitCount self.now.tables.now (placed of.now).1.pattern set.cubes.items) }
         ensures windows { IfOk result (λ _. KeepsMade (IsHeadWindow (read_with self.now lists.now))
             of.now.heads.items windows.old windows.new) }
         ensures sets { IfOk result (λ _. KeepsMade (AreHeadCubes (read_with self.now lists.now))

@@ -1,3 +1,4 @@
+use Rattle.std.proofs.Math.Nat.{le_trans}
 use Rattle.std.proofs.lemmas.Result.{err_from_is_err_and}
 use Rattle.sl_ast.specs.Views.{constructor_of}
 use Rattle.sl_spec.specs.Unfolded.{placed}
@@ -46,11 +47,13 @@ returns-clause-made c = λ shapes shows.
     let i = shaped shapes shows in
     let now : Shows self (record { all = c.shape_in_blocks.new.lists.all; bytes = c.grow.new.self }) shapes = record { there = i.gets.shows.there; are = i.gets.shows.are } in
     let set = c.in_ok-set.ensures.set shapes i.want now i.shape in
+    let count = c.in_ok-demand_count.ensures.few in
     record {
       want = i.want;
       gets = record { shows = now; keeps = i.gets.keeps; there = i.gets.there; is = i.gets.is };
       shape = i.shape;
       union = set.union;
+      few = le_trans (c.in_ok-set.ensures.few count.0 count.1) count.2;
       sound = (c.in_ok-demand_count.ensures.few, (i.sound, set.sound));
     }
 
