@@ -5,3 +5,4 @@ pub mod FlatLemmas
 pub mod MakingLemmas
 pub mod NumberLemmas
 pub mod PartLemmas
+pub mod SpanLemmas

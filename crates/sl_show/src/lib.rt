@@ -6,6 +6,7 @@ mod entries;
 mod fields;
 mod making;
 mod numbers;
+mod spans;
 mod templates;
 mod texts;
 

@@ -1,13 +1,14 @@
 //! Displays of constructors, made once.
 
-ghost use Rattle.std.specs.Prelude.{◌≡◌, [], ◌++◌, OnOk, IfOk};
-ghost use Rattle.sl_show.specs.Templates.{made, part_text, parts_text};
+ghost use Rattle.std.specs.Prelude.{◌≡◌, [], ◌++◌, Decides, OnOk, IfOk, length, not};
+ghost use Rattle.sl_show.specs.Templates.{AreOnce, made, part_text, parts_text};
 ghost use Rattle.sl_show.specs.Texts.{Spot};
 ghost use Rattle.sl_spec.specs.declared.tables.Tables.{Tables as TablesOf};
 
 use sl_plan::Extent;
 use sl_spec::FieldId;
 use std::alloc::{AllocError, Global};
+use std::collections::BTreeSet;
 
 /// A part of the text of a node.
 #[derive(Drop)]
@@ -25,6 +26,24 @@ pub enum Part {
 #[derive(Drop)]
 pub struct Template {
     pub(crate) parts: Vec<Part>,
+    /// Whether the text of an operand is among the parts more than once.
+    pub(crate) repeats: bool,
+}
+
+/// Whether the text of an operand is among these parts more than once.
+fn has_repeats(alloc: Global, parts: &[Part]) -> Result<bool, AllocError>
+    ensures { IfOk result (λ repeats. Decides (not repeats)
+        (AreOnce parts.now (length parts.now))) }
+{
+    let mut shown = BTreeSet::new(alloc);
+    'parts: for part in parts {
+        if let Part::Table(number) = part {
+            if !shown.insert(*number)? {
+                return Ok(true);
+            }
+        }
+    }
+    Ok(false)
 }
 
 /// A template that is being made: parts, and the text that stands behind them so far.
@@ -78,10 +97,14 @@ impl Maker {
 
     /// The template.
     pub fn end(mut self, alloc: Global) -> Result<Template, AllocError>
-        ensures { IfOk result (λ template. (t : TablesOf) (s : Spot)
+        ensures text { IfOk result (λ template. (t : TablesOf) (s : Spot)
             → parts_text t s template.parts.items ≡ made t s self) }
+        ensures repeats { IfOk result (λ template. Decides (not template.repeats)
+            (AreOnce template.parts.items (length template.parts.items))) }
     {
         self.close(alloc)?;
-        Ok(Template { parts: self.parts })
+        let parts = self.parts;
+        let repeats = has_repeats(alloc, parts.as_slice())?;
+        Ok(Template { parts, repeats })
     }
 }

@@ -1,19 +1,22 @@
 //! The text of trees, appended to one buffer by the templates of their constructors.
 
-ghost use Rattle.std.specs.Prelude.{◌≡◌, ◌+◌, ◌++◌, ℤ, List, OnOk, slice_get};
+ghost use Rattle.std.specs.Prelude.{◌≡◌, ◌+◌, ◌≤◌, ◌++◌, ℤ, List, [], OnOk};
+ghost use Rattle.std.specs.Prelude.{get_or, length, slice_get};
 ghost use Rattle.sl_ast.specs.Trees.{Constructor as ConstructorOf};
 ghost use Rattle.sl_ast.specs.Unfolding.{Placed};
 ghost use Rattle.sl_decoding.specs.Flat.{all_values, entries};
 ghost use Rattle.sl_decoding.specs.Trees.{Node, Trees};
 ghost use Rattle.sl_plan.specs.Extents.{extent};
 ghost use Rattle.sl_show.specs.Entries.{row_of, rows, rows_of};
-ghost use Rattle.sl_show.specs.Templates.{AreTemplates, part_text, parts_of, parts_text};
-ghost use Rattle.sl_show.specs.Templates.{spot_among, template_text};
+ghost use Rattle.sl_show.specs.Spans.{AreTexts, AreWithin};
+ghost use Rattle.sl_show.specs.Templates.{AreTemplates, operand_texts, part_text};
+ghost use Rattle.sl_show.specs.Templates.{parts_of, parts_text, spot_among, template_text};
 ghost use Rattle.sl_show.specs.Texts.{field_text, first_text, lengths_of, shown_text, texts_by};
 
 use crate::entries::{extent_among, parted, skip, value_of};
 use crate::fields::push_field;
 use crate::numbers::push_number;
+use crate::spans::{Span, Spans};
 use crate::templates::{Part, Template};
 use sl_decoding::Entry;
 use sl_plan::Extent;
@@ -27,13 +30,13 @@ pub struct Instruction<'i> {
     pub values: &'i [i64],
 }
 
-/// The parts of a constructor.
-fn parts_of(templates: &[Template], constructor: CtorId) -> &[Part]
-    ensures { result.now ≡ parts_of (slice_get templates.now constructor) }
+/// The parts of a constructor, and whether the text of an operand is among them more than once.
+fn parts_of(templates: &[Template], constructor: CtorId) -> (&[Part], bool)
+    ensures { result.0.now ≡ parts_of (slice_get templates.now constructor) }
 {
     match templates.get(constructor.0 as usize) {
-        Some(template) => template.parts.as_slice(),
-        None => &[],
+        Some(template) => (template.parts.as_slice(), template.repeats),
+        None => (&[], false),
     }
 }
 
@@ -47,7 +50,9 @@ fn push_field_at(
     place: &Extent,
     out: &mut Vec<u8>,
 ) -> Result<(), AllocError>
-    ensures { OnOk result ((values : List ℤ) (f : Trees Node) → rows_of values kids.now ≡ rows f
+    ensures longer { OnOk result (length out.old.items ≤ length out.new.items) }
+    ensures text { OnOk result ((values : List ℤ) (f : Trees Node)
+        → rows_of values kids.now ≡ rows f
         → out.new.items ≡ out.old.items ++ field_text t.now id bytes.now
         (node.now.at + extent place.now (lengths_of f)) node.now.context) }
 {
@@ -65,7 +70,8 @@ fn push_first(
     nodes: &[Entry],
     out: &mut Vec<u8>,
 ) -> Result<(), AllocError>
-    ensures { OnOk result ((f : Trees Node) → rows_of of.entry.values.now nodes.now ≡ rows f
+    ensures longer { OnOk result (length out.old.items ≤ length out.new.items) }
+    ensures text { OnOk result ((f : Trees Node) → rows_of of.entry.values.now nodes.now ≡ rows f
         → out.new.items ≡ out.old.items
         ++ first_text (texts_by (template_text t.now templates.now) of.entry.bytes.now f)) }
 {
@@ -74,11 +80,13 @@ fn push_first(
     }
     let (kids, _) = parted(nodes);
     let node = &nodes[0];
-    let parts = parts_of(templates, node.ctor);
-    match push_parts(t, templates, of, node, kids, parts, out) {
-        Ok(()) => Ok(()),
-        Err(error) => Err(error),
+    let (parts, repeats) = parts_of(templates, node.ctor);
+    if repeats {
+        push_parts_once(t, templates, of, node, kids, parts, out)?;
+        return Ok(());
     }
+    push_parts(t, templates, of, node, kids, parts, out)?;
+    Ok(())
 }
 
 /// Appends one part of a node with these operands.
@@ -92,7 +100,8 @@ fn push_part(
     part: &Part,
     out: &mut Vec<u8>,
 ) -> Result<(), AllocError>
-    ensures { OnOk result ((f : Trees Node) → rows_of of.entry.values.now kids.now ≡ rows f
+    ensures longer { OnOk result (length out.old.items ≤ length out.new.items) }
+    ensures text { OnOk result ((f : Trees Node) → rows_of of.entry.values.now kids.now ≡ rows f
         → out.new.items ≡ out.old.items ++ part_text t.now
         (spot_among t.now templates.now of.entry.bytes.now
         (row_of of.entry.values.now node.now).node f) part.now) }
@@ -122,13 +131,115 @@ fn push_parts(
     parts: &[Part],
     out: &mut Vec<u8>,
 ) -> Result<(), AllocError>
-    ensures { OnOk result ((f : Trees Node) → rows_of of.entry.values.now kids.now ≡ rows f
+    ensures longer { OnOk result (length out.old.items ≤ length out.new.items) }
+    ensures text { OnOk result ((f : Trees Node) → rows_of of.entry.values.now kids.now ≡ rows f
         → out.new.items ≡ out.old.items ++ parts_text t.now
         (spot_among t.now templates.now of.entry.bytes.now
         (row_of of.entry.values.now node.now).node f) parts.now) }
 {
     'parts: for part in parts {
         push_part(t, templates, of, node, kids, part, out)?;
+    }
+    Ok(())
+}
+
+/// Appends the text of the operand of this number: a copy where it is in the buffer already.
+#[cycle(texts)]
+fn push_operand_once(
+    t: &Tables,
+    templates: &[Template],
+    of: Instruction<'_>,
+    kids: &[Entry],
+    number: usize,
+    spans: &mut Spans,
+    out: &mut Vec<u8>,
+) -> Result<(), AllocError>
+    requires { AreWithin spans.old out.old.items }
+    ensures longer { OnOk result (length out.old.items ≤ length out.new.items) }
+    ensures within { OnOk result (AreWithin spans.new out.new.items) }
+    ensures texts { OnOk result ((f : Trees Node) → rows_of of.entry.values.now kids.now ≡ rows f
+        → AreTexts (operand_texts t.now templates.now of.entry.bytes.now f) spans.old out.old.items
+        → AreTexts (operand_texts t.now templates.now of.entry.bytes.now f)
+        spans.new out.new.items) }
+    ensures text { OnOk result ((f : Trees Node) → rows_of of.entry.values.now kids.now ≡ rows f
+        → AreTexts (operand_texts t.now templates.now of.entry.bytes.now f) spans.old out.old.items
+        → out.new.items ≡ out.old.items
+        ++ get_or (operand_texts t.now templates.now of.entry.bytes.now f) number []) }
+{
+    match spans.get(number) {
+        Some(span) => {
+            out.extend_from_within(span.start..span.end)?;
+            Ok(())
+        }
+        None => {
+            let start = out.len();
+            push_first(t, templates, of, skip(kids, number), out)?;
+            let end = out.len();
+            spans.put(number, Span { start, end })?;
+            Ok(())
+        }
+    }
+}
+
+/// Appends one part of a node with these operands; the text of an operand is made once.
+#[cycle(texts)]
+fn push_part_once(
+    t: &Tables,
+    templates: &[Template],
+    of: Instruction<'_>,
+    node: &Entry,
+    kids: &[Entry],
+    part: &Part,
+    spans: &mut Spans,
+    out: &mut Vec<u8>,
+) -> Result<(), AllocError>
+    requires { AreWithin spans.old out.old.items }
+    ensures longer { OnOk result (length out.old.items ≤ length out.new.items) }
+    ensures within { OnOk result (AreWithin spans.new out.new.items) }
+    ensures texts { OnOk result ((f : Trees Node) → rows_of of.entry.values.now kids.now ≡ rows f
+        → AreTexts (operand_texts t.now templates.now of.entry.bytes.now f) spans.old out.old.items
+        → AreTexts (operand_texts t.now templates.now of.entry.bytes.now f)
+        spans.new out.new.items) }
+    ensures text { OnOk result ((f : Trees Node) → rows_of of.entry.values.now kids.now ≡ rows f
+        → AreTexts (operand_texts t.now templates.now of.entry.bytes.now f) spans.old out.old.items
+        → out.new.items ≡ out.old.items ++ part_text t.now
+        (spot_among t.now templates.now of.entry.bytes.now
+        (row_of of.entry.values.now node.now).node f) part.now) }
+{
+    match part {
+        Part::Table(number) => {
+            push_operand_once(t, templates, of, kids, *number, spans, out)?;
+            Ok(())
+        }
+        _ => {
+            push_part(t, templates, of, node, kids, part, out)?;
+            Ok(())
+        }
+    }
+}
+
+/// Appends the parts of a node with these operands, where some operand is shown more than once.
+/// The text of each is made once: else a chain of nodes, each of which shows the next one twice,
+/// would take 2^n steps, even where nothing is shown.
+#[cycle(texts)]
+fn push_parts_once(
+    t: &Tables,
+    templates: &[Template],
+    of: Instruction<'_>,
+    node: &Entry,
+    kids: &[Entry],
+    parts: &[Part],
+    out: &mut Vec<u8>,
+) -> Result<(), AllocError>
+    ensures longer { OnOk result (length out.old.items ≤ length out.new.items) }
+    ensures text { OnOk result ((f : Trees Node) → rows_of of.entry.values.now kids.now ≡ rows f
+        → out.new.items ≡ out.old.items ++ parts_text t.now
+        (spot_among t.now templates.now of.entry.bytes.now
+        (row_of of.entry.values.now node.now).node f) parts.now) }
+{
+    let mut spans = Spans::new(*out.allocator());
+    'parts: for part in parts {
+        push_part_once(t, templates, of, node, kids, part, &mut spans, out)?;
     }
     Ok(())
 }

@@ -4,8 +4,8 @@ use Rattle.sl_show.specs.Texts.{lengths_of}
 use Rattle.sl_show.proofs.PartLemmas.{same_place}
 use Rattle.sl_show.proofs.texts.push_field_at.Goals as goal
 
-pub returns : goal.returns
-returns c values f e =
+pub returns-clause-text : goal.returns-clause-text
+returns-clause-text c values f e =
     let few : length c.args.bytes.now < 2 ^ 63 = search rules in
     c.in_ok-push_field.ensures
     ∙ ap (λ text. c.args.out.now.items ++ text)

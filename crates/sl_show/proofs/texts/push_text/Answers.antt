@@ -5,5 +5,5 @@ use Rattle.sl_show.proofs.texts.push_text.Goals as goal
 
 pub returns : goal.returns
 returns c constructors f are nodes values =
-    c.in_ok-push_first.ensures f (whole_rows f c.args.of.values.now c.args.nodes.now nodes values)
+    c.in_ok-push_first.ensures.text f (whole_rows f c.args.of.values.now c.args.nodes.now nodes values)
     ∙ ap (λ text. c.args.out.now.items ++ text) (shown_is c.args.t.now c.args.templates.now constructors c.args.of.bytes.now f are)
