@@ -17,7 +17,7 @@ use Rattle.sl_shape.specs.declared.stop.Stop.{Stop}
 use Rattle.sl_shape.proofs.BelowLemmas.{all_seen, all_there, gets_same, keeps_same, keeps_there, seen_more, shows_more}
 use Rattle.sl_shapes.specs.Lists.{IsThere, Keeps}
 use Rattle.sl_shapes.specs.declared.shapes.Shape as code
-use Rattle.sl_spec.specs.Numbers.{AreMade, AreMadeFor, AreTold}
+use Rattle.sl_spec.specs.Numbers.{AreMade, AreMadeFor, AreTold, KeepsMade}
 use Rattle.sl_spec.specs.declared.unfolded.Around.{Around}
 
 -- what holds of all holds of one
@@ -83,11 +83,6 @@ module _ (b : Below) where
         kept head_at parts.1 right
     rest_kept old new before after (Err e) kept = kept
 
-    pub first_made : (old : TokenLists) (made : List (ℕ × code.Shape)) → AreMadeFor (IsHeadShape b old) blocks made → AreMadeFor (IsHeadShape b old) (a ∷ []) made
-    first_made old made right =
-        let parts = subst (λ (bs : List Around). AreTold right.0 bs) are right.1 in
-        (right.0, (parts.0, tt), right.2)
-
     pub rest_made : (old mid : TokenLists) (before made : List (ℕ × code.Shape)) → AreMadeFor (IsHeadShape b old) blocks before → KeepsShapes b old mid (a ∷ []) before made
         → AreMadeFor (IsHeadShape b mid) rest made
     rest_made old mid before made right kept =
@@ -101,6 +96,24 @@ module _ (b : Below) where
         shapes_more late new there (subst (λ (l : List (List ℕ)). Keeps late.all l) (sym same) (keeps_same late.all)) head_at after
         (inside head_at parts.1 (first head_at (parts.0, tt) right))
     both_kept old mid late new before made after first inside there same (Err e) = tt
+
+-- ---- the first of some blocks, and then the rest
+
+module _ {V : Type 0} (IsRight : Head → V → Type 0) (blocks rest : List Around) (a : Around) (are : blocks ≡ a ∷ rest) where
+  pub first_made : (made : List (ℕ × V)) → AreMadeFor IsRight blocks made → AreMadeFor IsRight (a ∷ []) made
+  first_made made right =
+      let parts = subst (λ (bs : List Around). AreTold right.0 bs) are right.1 in
+      (right.0, (parts.0, tt), right.2)
+
+  pub then_rest : (old mid : List (ℕ × V)) → AreMadeFor IsRight blocks old → KeepsMade IsRight (a ∷ []) old mid → AreMadeFor IsRight rest mid
+  then_rest old mid right first =
+      let parts = subst (λ (bs : List Around). AreTold right.0 bs) are right.1 in
+      (right.0, parts.1, first right.0 (parts.0, tt) right.2)
+
+  pub first_then : (old mid new : List (ℕ × V)) → KeepsMade IsRight (a ∷ []) old mid → KeepsMade IsRight rest mid new → KeepsMade IsRight blocks old new
+  first_then old mid new first inside head_at told right =
+      let parts = subst (λ (bs : List Around). AreTold head_at bs) are told in
+      inside head_at parts.1 (first head_at (parts.0, tt) right)
 
 -- ---- what was made of other blocks
 

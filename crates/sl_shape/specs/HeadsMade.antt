@@ -1,5 +1,6 @@
 -- step: what was made of the patterns of blocks.
 use Rattle.std.specs.Prelude.{◌≡◌, ◌≢◌, ℕ, Bool, true, List, get_or, Option, Some}
+use Rattle.std.specs.Global.{Vec}
 use Rattle.std.specs.List.{AllByRecursion}
 use Rattle.sl_ast.specs.Trees.{Head, Pattern}
 use Rattle.sl_cube.specs.declared.Cube.{Cube}
@@ -24,6 +25,15 @@ use Rattle.sl_spec.specs.declared.unfolded.Unfolded.{Unfolded}
 abbrev pub by_extents : Tables → Shapes → List (Option Cube) → Reading
 by_extents t shapes hulls =
     record { tables = t; bytes = λ p. extent_bytes (extent_of t shapes p); hulls = hulls }
+
+-- These are the tables that the head's pattern names.
+abbrev pub AreHeadTables : Tables → Head → Vec ℕ → Type 0
+AreHeadTables t h tables = tables.items ≡ named_by t h.pattern
+
+-- What was made is right where numbers tell the heads of all blocks round these constructors.
+abbrev pub AreMadeOf : {V : Type 0} → (Head → V → Type 0) → List Unfolded → List (ℕ × V) → Type 0
+AreMadeOf IsRight us made =
+    (head_at : ℕ → Head) × AreToldOf head_at us × AreMade IsRight head_at made
 
 -- ---- marks
 

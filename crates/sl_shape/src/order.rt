@@ -1,16 +1,18 @@
 //! The order in which tables are shaped.
 
-ghost use Rattle.std.specs.Prelude.{◌≡◌, ◌∷◌, [], ◌++◌, IfOk, IsTrue, OnOk};
-ghost use Rattle.sl_ast.specs.Views.{constructor_of, pattern_of};
+ghost use Rattle.std.specs.Prelude.{◌≡◌, ◌∷◌, [], ◌++◌, IfOk, IsTrue, OnOk, Some};
+ghost use Rattle.sl_ast.specs.Views.{constructor_of, head_of, pattern_of};
 ghost use Rattle.sl_levels.specs.Views.{graph_of};
 ghost use Rattle.sl_rules.specs.Gathered.{gathered};
+ghost use Rattle.sl_shape.specs.HeadsMade.{AreHeadTables, AreMadeOf};
 ghost use Rattle.sl_shape.specs.Tables.{appearing, begins, constructors_of, named_by};
 ghost use Rattle.sl_shape.specs.Tables.{one_or_none, pattern_at, table_graph, tables_named};
+ghost use Rattle.sl_spec.specs.Numbers.{AreMadeFor, AreNumbered, KeepsMade};
 ghost use Rattle.sl_spec.specs.Unfolded.{all_placed, heads_of, under};
 
 use sl_ast::constructors::Constructor;
 use sl_ast::patterns::Pattern;
-use sl_spec::{Around, CtorId, TableId, Tables, Unfolded};
+use sl_spec::{Around, ByBlock, CtorId, TableId, Tables, Unfolded};
 use std::alloc::{AllocError, Global};
 
 /// Adds a table, if there is one.
@@ -40,41 +42,86 @@ fn add_named(t: &Tables, of: &Pattern, all: &mut Vec<usize>) -> Result<(), Alloc
     }
 }
 
+/// Adds some tables.
+fn add_all(tables: &[usize], all: &mut Vec<usize>) -> Result<(), AllocError>
+    ensures { OnOk result (all.new.items ≡ all.old.items ++ tables.now) }
+{
+    all.extend_from_slice(tables)?;
+    Ok(())
+}
+
+/// Adds the tables that the pattern of a block names, found where they aren't there yet.
+fn add_of_block(
+    alloc: Global,
+    t: &Tables,
+    block: &Around,
+    pattern: &Pattern,
+    made: &mut ByBlock<Vec<usize>>,
+    all: &mut Vec<usize>,
+) -> Result<(), AllocError>
+    requires its { (head_of block.now.head.now).pattern ≡ Some (pattern_of pattern.now) }
+    requires made { AreMadeFor (AreHeadTables t.now) (block.now ∷ []) made.old }
+    ensures added { OnOk result (all.new.items
+        ≡ all.old.items ++ tables_named t.now (pattern_of pattern.now)) }
+    ensures kept { IfOk result (λ _.
+        KeepsMade (AreHeadTables t.now) (block.now ∷ []) made.old made.new) }
+{
+    if let Some(tables) = made.get(block.number) {
+        add_all(tables.as_slice(), all)?;
+        return Ok(());
+    }
+    let mut tables = Vec::new(alloc);
+    add_named(t, pattern, &mut tables)?;
+    add_all(tables.as_slice(), all)?;
+    made.put(block.number, tables)?;
+    Ok(())
+}
+
 /// Adds the tables that the pattern of a constructor in its blocks names.
 fn add_in_blocks(
+    alloc: Global,
     t: &Tables,
     heads: &[Around],
     own: &Constructor,
+    made: &mut ByBlock<Vec<usize>>,
     all: &mut Vec<usize>,
 ) -> Result<(), AllocError>
-    ensures { OnOk result (all.new.items ≡ all.old.items
+    requires { AreMadeFor (AreHeadTables t.now) heads.now made.old }
+    ensures added { OnOk result (all.new.items ≡ all.old.items
         ++ tables_named t.now (under (heads_of heads.now) (constructor_of own.now)).pattern) }
+    ensures kept { IfOk result (λ _.
+        KeepsMade (AreHeadTables t.now) heads.now made.old made.new) }
 {
     let Some((first, rest)) = heads.split_first() else {
         return add_named(t, &own.pattern, all);
     };
     let head = first.head;
     let Some(pattern) = &head.pattern else {
-        return add_in_blocks(t, rest, own, all);
+        return add_in_blocks(alloc, t, rest, own, made, all);
     };
-    add_named(t, pattern, all)?;
-    add_in_blocks(t, rest, own, all)
+    add_of_block(alloc, t, first, pattern, made, all)?;
+    add_in_blocks(alloc, t, rest, own, made, all)
 }
 
 /// Adds the tables that the pattern of a constructor names, if there is such a constructor.
 fn add_at(
+    alloc: Global,
     t: &Tables,
     constructors: &[Unfolded],
     index: usize,
+    made: &mut ByBlock<Vec<usize>>,
     all: &mut Vec<usize>,
 ) -> Result<(), AllocError>
-    ensures { OnOk result (all.new.items ≡ all.old.items
+    requires { AreMadeOf (AreHeadTables t.now) constructors.now made.old }
+    ensures added { OnOk result (all.new.items ≡ all.old.items
         ++ named_by t.now (pattern_at (all_placed constructors.now) index)) }
+    ensures kept { IfOk result (λ _.
+        AreMadeOf (AreHeadTables t.now) constructors.now made.new) }
 {
     match constructors.get(index) {
         Some(of) => {
             let own = of.own;
-            add_in_blocks(t, of.heads.as_slice(), own, all)
+            add_in_blocks(alloc, t, of.heads.as_slice(), own, made, all)
         }
         None => Ok(()),
     }
@@ -86,31 +133,39 @@ fn named_in(
     t: &Tables,
     constructors: &[Unfolded],
     ctors: &[CtorId],
+    made: &mut ByBlock<Vec<usize>>,
 ) -> Result<Vec<usize>, AllocError>
-    ensures { IfOk result (λ all. all.items ≡ gathered
+    requires { AreMadeOf (AreHeadTables t.now) constructors.now made.old }
+    ensures named { IfOk result (λ all. all.items ≡ gathered
         (λ i. named_by t.now (pattern_at (all_placed constructors.now) i)) ctors.now) }
+    ensures kept { IfOk result (λ _.
+        AreMadeOf (AreHeadTables t.now) constructors.now made.new) }
 {
     let mut all = Vec::new(alloc);
     'ctors: for index in 0..ctors.len() {
         let ctor = ctors[index];
-        add_at(t, constructors, ctor.0 as usize, &mut all)?;
+        add_at(alloc, t, constructors, ctor.0 as usize, made, &mut all)?;
     }
     Ok(all)
 }
 
-/// For each table the tables that the patterns of its constructors name.
+/// For each table the tables that the patterns of its constructors name. The pattern of a block is
+/// gone over once.
 pub fn table_graph(
     alloc: Global,
     t: &Tables,
     constructors: &[Unfolded],
 ) -> Result<Vec<Vec<usize>>, AllocError>
+    requires { AreNumbered constructors.now }
     ensures { IfOk result (λ graph. graph_of graph.items
         ≡ table_graph t.now (all_placed constructors.now)) }
 {
     let mut graph = Vec::new(alloc);
+    let mut made = ByBlock::new(alloc);
     'tables: for index in 0..t.tables.len() {
         let table = t.tables.member(index);
-        graph.push(named_in(alloc, t, constructors, table.constructors.as_slice())?)?;
+        let ctors = table.constructors.as_slice();
+        graph.push(named_in(alloc, t, constructors, ctors, &mut made)?)?;
     }
     Ok(graph)
 }

@@ -8,11 +8,12 @@ pub ctors-preserved : goal.ctors-preserved
 ctors-preserved c =
     let t = c.args.t.now in
     let us = c.args.constructors.now in
-    gathers (λ i. named_by t (pattern_at (all_placed us) i)) [] c.args.ctors.now c.ctors.all.items c.add_at.new.all.items c.ctors.index c.index-ctors-index.result c.ctors-test.true
-    c.index-ctors-index.is (c.in_ok-add_at.ensures ∙ ap (λ n. c.ctors.all.items ++ named_by t (pattern_at (all_placed us) n)) c.ctor.view_is) c.ctors.invariant
+    let named = gathers (λ i. named_by t (pattern_at (all_placed us) i)) [] c.args.ctors.now c.ctors.all.items c.add_at.new.all.items c.ctors.index c.index-ctors-index.result c.ctors-test.true
+    c.index-ctors-index.is (c.in_ok-add_at.ensures.added ∙ ap (λ n. c.ctors.all.items ++ named_by t (pattern_at (all_placed us) n)) c.ctor.view_is) c.ctors.invariant.named in
+    record { named = named; kept = c.in_ok-add_at.ensures.kept }
 
-pub returns : goal.returns
-returns c =
+pub returns-clause-named : goal.returns-clause-named
+returns-clause-named c =
     let t = c.args.t.now in
     let us = c.args.constructors.now in
-    all_gathered (λ i. named_by t (pattern_at (all_placed us) i)) [] c.args.ctors.now c.ctors.all.items c.ctors.index c.ctors-test.false c.ctors.invariant
+    all_gathered (λ i. named_by t (pattern_at (all_placed us) i)) [] c.args.ctors.now c.ctors.all.items c.ctors.index c.ctors-test.false c.ctors.invariant.named

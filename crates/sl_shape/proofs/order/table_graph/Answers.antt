@@ -14,6 +14,7 @@ tables-preserved c =
     let cs = all_placed c.args.constructors.now in
     let g : ℕ → List ℕ = λ i. named_by t (pattern_at cs i) in
     let f : Table → List ℕ = λ b. gathered g b.constructors in
-    ap graph_of c.in_ok-push.ensures.items ∙ map_push (λ l. l.items) c.tables.graph.items c.in_ok-named_in.field-0
-    ∙ ap (λ (l : List ℕ). graph_of c.tables.graph.items ++ l ∷ []) (c.in_ok-named_in.ensures ∙ ap (gathered g) c.as_slice.ensures.value ∙ ap f c.table.view_is)
-    ∙ graph_more f t.tables c.tables.index c.member-table.result.now (graph_of c.tables.graph.items) c.member-table.ensures c.tables.invariant
+    let are = ap graph_of c.in_ok-push.ensures.items ∙ map_push (λ l. l.items) c.tables.graph.items c.in_ok-named_in.field-0
+    ∙ ap (λ (l : List ℕ). graph_of c.tables.graph.items ++ l ∷ []) (c.in_ok-named_in.ensures.named ∙ ap (gathered g) c.as_slice-ctors.ensures.value ∙ ap f c.table.view_is)
+    ∙ graph_more f t.tables c.tables.index c.member-table.result.now (graph_of c.tables.graph.items) c.member-table.ensures c.tables.invariant.are in
+    record { are = are; kept = c.in_ok-named_in.ensures.kept }

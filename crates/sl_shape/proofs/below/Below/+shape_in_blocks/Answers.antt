@@ -115,7 +115,7 @@ returns-in_default-pattern-clause-kept t c =
 
 pub shape_of_block-requires-clause-made : goal.shape_of_block-requires-clause-made
 shape_of_block-requires-clause-made t c =
-    first_made c.args.self.now c.args.heads.now c.in-Some.rest.now c.in-Some.first.now c.in-Some.ensures.cases.0 c.args.lists.now c.args.made.now c.requires.made
+    first_made (IsHeadShape c.args.self.now c.args.lists.now) c.args.heads.now c.in-Some.rest.now c.in-Some.first.now c.in-Some.ensures.cases.0 c.args.made.now c.requires.made
 
 pub shape_in_blocks-requires-2 : goal.shape_in_blocks-requires-2
 shape_in_blocks-requires-2 t c =
