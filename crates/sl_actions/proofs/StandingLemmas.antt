@@ -7,9 +7,8 @@ use Rattle.std.proofs.lemmas.Slice.Eq.{bytes_eq-Decides}
 use Rattle.sl_rules.specs.Names.{Name, is_among}
 use Rattle.sl_parts.specs.Parts.{Part}
 use Rattle.sl_actions.specs.ActionNames.{with_name}
-use Rattle.sl_actions.specs.PatternNames.{standing_of, with_part}
+use Rattle.sl_actions.specs.PatternNames.{PatternNames, no_names, standing_of, with_part}
 use Rattle.sl_actions.specs.Standing.{Standing, standing}
-use Rattle.sl_actions.specs.declared.pattern_names.PatternNames.{PatternNames}
 
 or_swap : (a b c : Bool) → ((a || b) || c) ≡ (a || (b || c))
 or_swap true b c = refl
@@ -66,12 +65,7 @@ made a b c = record { anywhere = a; bare = b; behind_table = c }
 alike : {a b c x y z : Name → Bool} → a ≡ x → b ≡ y → c ≡ z → made a b c ≡ made x y z
 alike {b = b} {c = c} {x = x} {y = y} p q r = ap (λ f. made f b c) p ∙ ap (λ f. made x f c) q ∙ ap (λ f. made x y f) r
 
-none_before : (names : List Name) (w : Name) (rest : Bool) → names ≡ [] → (is_among names w || rest) ≡ rest
-none_before names w rest none = ap (λ (ns : List Name). is_among ns w || rest) none
-
-pub all_stand : (start now : PatternNames) (ps : List Part) → start.anywhere ≡ [] → start.bare ≡ [] → start.behind_table ≡ [] → now ≡ fold with_part start ps → standing_of now ≡ standing ps
-all_stand start now ps a b c is =
-    ap standing_of is ∙ alike
-    (fun_ext (λ w. anywhere_of start ps w ∙ none_before start.anywhere w (list_any (λ p. bytes_eq w p.name) ps) a))
-    (fun_ext (λ w. bare_of start ps w ∙ none_before start.bare w (list_any (λ p. p.bare && bytes_eq w p.name) ps) b))
-    (fun_ext (λ w. behind_of start ps w ∙ none_before start.behind_table w (list_any (λ p. p.behind_table && bytes_eq w p.name) ps) c))
+pub all_stand : (start now : PatternNames) (ps : List Part) → start ≡ no_names → now ≡ fold with_part start ps → standing_of now ≡ standing ps
+all_stand start now ps none is =
+    ap standing_of (is ∙ ap (λ (names : PatternNames). fold with_part names ps) none)
+    ∙ alike (fun_ext (anywhere_of no_names ps)) (fun_ext (bare_of no_names ps)) (fun_ext (behind_of no_names ps))

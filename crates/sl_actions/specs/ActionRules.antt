@@ -90,11 +90,15 @@ each_holds t holds before (a ∷ as') =
     holds before a && each_holds t holds (with_action t before a) as'
 
 -- rules 21 to 25 of the actions of a constructor, with all tables of the text, what is defined by
--- now, and the names of its pattern
-abbrev pub action_demands : List Table → Tables → List Part → List Action → List Demand
-action_demands all t ps as' =
+-- now, and how names stand in its pattern
+abbrev pub action_demands_by : List Table → Tables → Standing → List Action → List Demand
+action_demands_by all t stands as' =
     (21, each_holds t (has_new_left all t) [] as')
-    ∷ (22, each_holds t (uses_known_names t (standing ps)) [] as')
-    ∷ (23, each_holds t (uses_early_names t (standing ps)) [] as')
+    ∷ (22, each_holds t (uses_known_names t stands) [] as')
+    ∷ (23, each_holds t (uses_early_names t stands) [] as')
     ∷ (24, each_holds t (sets_context_field t) [] as')
-    ∷ (25, each_holds t (has_address t (standing ps)) [] as') ∷ []
+    ∷ (25, each_holds t (has_address t stands) [] as') ∷ []
+
+-- the same by the parts of its pattern
+abbrev pub action_demands : List Table → Tables → List Part → List Action → List Demand
+action_demands all t ps as' = action_demands_by all t (standing ps) as'

@@ -1,17 +1,32 @@
--- view: how names stand in a pattern, as the program keeps it.
-use Rattle.std.specs.Prelude.{cond}
-use Rattle.sl_rules.specs.Names.{is_among}
+-- view: how names stand in patterns, as the program keeps it.
+use Rattle.std.specs.Prelude.{cond, List, [], map}
+use Rattle.sl_rules.specs.Names.{Name, is_among}
 use Rattle.sl_parts.specs.Parts.{Part}
 use Rattle.sl_actions.specs.ActionNames.{with_name}
-use Rattle.sl_actions.specs.Standing.{Standing}
-use Rattle.sl_actions.specs.declared.pattern_names.PatternNames.{PatternNames}
+use Rattle.sl_actions.specs.Standing.{Standing, standing_in}
 
+-- the names of a pattern, each once: all of them, those that stand alone, and those right of a `;`
+-- whose left side holds a table
+pub record PatternNames : Type 0 where
+  pub anywhere : List Name
+  pub bare : List Name
+  pub behind_table : List Name
+
+-- how names stand there
 abbrev pub standing_of : PatternNames → Standing
 standing_of names = record {
   anywhere = is_among names.anywhere;
   bare = is_among names.bare;
   behind_table = is_among names.behind_table;
 }
+
+-- in several patterns
+abbrev pub standing_among : List PatternNames → Standing
+standing_among all = standing_in (map standing_of all)
+
+-- of no pattern
+abbrev pub no_names : PatternNames
+no_names = record { anywhere = []; bare = []; behind_table = [] }
 
 -- the names with that of a part
 abbrev pub with_part : PatternNames → Part → PatternNames

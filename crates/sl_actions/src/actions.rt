@@ -3,18 +3,17 @@
 ghost use Rattle.std.specs.Prelude.{◌≡◌, [], IfOk};
 ghost use Rattle.sl_ast.specs.Views.{action_of};
 ghost use Rattle.sl_rules.specs.Demands.{first_broken};
-ghost use Rattle.sl_actions.specs.ActionRules.{action_demands};
+ghost use Rattle.sl_actions.specs.ActionRules.{action_demands_by};
 ghost use Rattle.sl_actions.specs.Holding.{all_holding, both, demands_of, holding};
-ghost use Rattle.sl_actions.specs.PatternNames.{standing_of};
 ghost use Rattle.sl_actions.specs.SeenActions.{seen_actions};
+ghost use Rattle.sl_actions.specs.PatternNames.{standing_among};
 
-use crate::pattern_names::{PatternNames, names_of};
+use crate::pattern_names::JoinedNames;
 use crate::rules::{
     has_address, has_new_left, sets_context_field, uses_early_names, uses_known_names,
 };
 use crate::set_names::{ActionRef, add_action};
 use sl_ast::patterns::Action;
-use sl_parts::Part;
 use sl_rules::NameSet;
 use sl_spec::{Named, Table, Tables};
 use std::alloc::{AllocError, Global};
@@ -65,12 +64,12 @@ fn holding<'a>(
     alloc: Global,
     all: &Named<'a, Table<'a>>,
     t: &Tables<'a>,
-    stands: &PatternNames<'a>,
+    stands: &JoinedNames<'a>,
     before: &NameSet<'a>,
     action: &Action<'a>,
 ) -> Result<Holds, AllocError>
     ensures { IfOk result (λ h. h
-        ≡ holding all.now t.now (standing_of stands.now) before.now (action_of action.now)) }
+        ≡ holding all.now t.now (standing_among stands.now) before.now (action_of action.now)) }
 {
     Ok(Holds {
         new_left: has_new_left(all, t, before, action),
@@ -86,11 +85,11 @@ fn all_holding<'s, 'a>(
     alloc: Global,
     all: &Named<'a, Table<'a>>,
     t: &Tables<'a>,
-    stands: &PatternNames<'a>,
+    stands: &JoinedNames<'a>,
     actions: &[ActionRef<'s, 'a>],
 ) -> Result<Holds, AllocError>
     ensures { IfOk result (λ h. h
-        ≡ all_holding all.now t.now (standing_of stands.now) [] (seen_actions actions.now)) }
+        ≡ all_holding all.now t.now (standing_among stands.now) [] (seen_actions actions.now)) }
 {
     let mut before = NameSet::new(alloc);
     let mut holds = Holds {
@@ -109,23 +108,19 @@ fn all_holding<'s, 'a>(
 }
 
 /// The number of the first of the rules 21 to 25 that the actions of a constructor break. `all` are
-/// the tables of the whole text, `t` is what is defined before the constructor, `parts` are those
-/// of its pattern, and `actions` its own behind those of the blocks round it.
-#[tactic(auto, unfolding(crate::specs::ActionRules::each_holds))]
+/// the tables of the whole text, `t` is what is defined before the constructor, `stands` has the names
+/// of its pattern and of the blocks' patterns round it, and `actions` are its own behind those of the
+/// blocks.
 pub fn judge_actions<'s, 'a>(
     alloc: Global,
     all: &Named<'a, Table<'a>>,
     t: &Tables<'a>,
-    parts: &[Part<'a>],
+    stands: &JoinedNames<'a>,
     actions: &[ActionRef<'s, 'a>],
 ) -> Result<Option<u8>, AllocError>
-    ensures { IfOk result (λ broken. broken
-        ≡ first_broken (action_demands all.now t.now parts.now (seen_actions actions.now))) }
+    ensures { IfOk result (λ broken. broken ≡ first_broken (action_demands_by all.now t.now
+        (standing_among stands.now) (seen_actions actions.now))) }
 {
-    if actions.is_empty() {
-        return Ok(None);
-    }
-    let stands = names_of(alloc, parts)?;
-    let holds = all_holding(alloc, all, t, &stands, actions)?;
+    let holds = all_holding(alloc, all, t, stands, actions)?;
     Ok(first_number(holds))
 }

@@ -9,10 +9,10 @@ ghost use Rattle.sl_actions.specs.ActionRules.{is_address, is_early, is_global, 
 ghost use Rattle.sl_actions.specs.ActionRules.{is_usable};
 ghost use Rattle.sl_actions.specs.ActionRules.{sets_context_field, uses_early_names};
 ghost use Rattle.sl_actions.specs.ActionRules.{uses_known_names};
-ghost use Rattle.sl_actions.specs.PatternNames.{standing_of};
+ghost use Rattle.sl_actions.specs.PatternNames.{standing_among};
 
 use crate::names_used::names_in;
-use crate::pattern_names::PatternNames;
+use crate::pattern_names::JoinedNames;
 use crate::set_names::{is_context_field, is_token_field};
 use sl_ast::patterns::{Action, Address};
 use sl_rules::{NameSet, is_among};
@@ -83,19 +83,19 @@ pub(crate) fn has_new_left(
 }
 
 /// Whether the expression of an action may use the name.
-fn is_usable(t: &Tables, stands: &PatternNames, before: &NameSet, name: &[u8]) -> bool
-    ensures { result ≡ is_usable t.now (standing_of stands.now) before.now name.now }
+fn is_usable(t: &Tables, stands: &JoinedNames, before: &NameSet, name: &[u8]) -> bool
+    ensures { result ≡ is_usable t.now (standing_among stands.now) before.now name.now }
 {
-    is_token_field(t, name) && stands.anywhere.has(name)
+    is_token_field(t, name) && stands.is_anywhere(name)
         || is_context_field(t, name)
         || before.has(name)
         || is_start(name)
         || is_next(name)
 }
 
-fn all_usable(t: &Tables, stands: &PatternNames, before: &NameSet, names: &[&[u8]]) -> bool
+fn all_usable(t: &Tables, stands: &JoinedNames, before: &NameSet, names: &[&[u8]]) -> bool
     ensures { result
-        ≡ list_all (λ n. is_usable t.now (standing_of stands.now) before.now n.now) names.now }
+        ≡ list_all (λ n. is_usable t.now (standing_among stands.now) before.now n.now) names.now }
 {
     names.iter().all(|name| is_usable(t, stands, before, name))
 }
@@ -105,12 +105,12 @@ fn all_usable(t: &Tables, stands: &PatternNames, before: &NameSet, names: &[&[u8
 pub(crate) fn uses_known_names(
     alloc: Global,
     t: &Tables,
-    stands: &PatternNames,
+    stands: &JoinedNames,
     before: &NameSet,
     action: &Action,
 ) -> Result<bool, AllocError>
     ensures { IfOk result (λ holds. holds
-        ≡ uses_known_names t.now (standing_of stands.now) before.now (action_of action.now)) }
+        ≡ uses_known_names t.now (standing_among stands.now) before.now (action_of action.now)) }
 {
     match action {
         Action::Assign(_, e) => {
@@ -122,15 +122,15 @@ pub(crate) fn uses_known_names(
 }
 
 /// Whether the expression of an action on a context field may use the name.
-fn is_early(stands: &PatternNames, before: &NameSet, name: &[u8]) -> bool
-    ensures { result ≡ is_early (standing_of stands.now) before.now name.now }
+fn is_early(stands: &JoinedNames, before: &NameSet, name: &[u8]) -> bool
+    ensures { result ≡ is_early (standing_among stands.now) before.now name.now }
 {
-    !is_next(name) && !before.has(name) && !stands.behind_table.has(name)
+    !is_next(name) && !before.has(name) && !stands.is_behind_table(name)
 }
 
-fn all_early(stands: &PatternNames, before: &NameSet, names: &[&[u8]]) -> bool
+fn all_early(stands: &JoinedNames, before: &NameSet, names: &[&[u8]]) -> bool
     ensures { result
-        ≡ list_all (λ n. is_early (standing_of stands.now) before.now n.now) names.now }
+        ≡ list_all (λ n. is_early (standing_among stands.now) before.now n.now) names.now }
 {
     names.iter().all(|name| is_early(stands, before, name))
 }
@@ -140,12 +140,12 @@ fn all_early(stands: &PatternNames, before: &NameSet, names: &[&[u8]]) -> bool
 pub(crate) fn uses_early_names(
     alloc: Global,
     t: &Tables,
-    stands: &PatternNames,
+    stands: &JoinedNames,
     before: &NameSet,
     action: &Action,
 ) -> Result<bool, AllocError>
     ensures { IfOk result (λ holds. holds
-        ≡ uses_early_names t.now (standing_of stands.now) before.now (action_of action.now)) }
+        ≡ uses_early_names t.now (standing_among stands.now) before.now (action_of action.now)) }
 {
     match action {
         Action::Assign(name, e) => {
@@ -171,15 +171,15 @@ pub(crate) fn sets_context_field(t: &Tables, before: &NameSet, action: &Action) 
 }
 
 /// Whether the address of a `globalset` is one.
-fn is_address(t: &Tables, stands: &PatternNames, before: &NameSet, at: &Address) -> bool
+fn is_address(t: &Tables, stands: &JoinedNames, before: &NameSet, at: &Address) -> bool
     ensures { result
-        ≡ is_address t.now (standing_of stands.now) before.now (operand_of_address at.now) }
+        ≡ is_address t.now (standing_among stands.now) before.now (operand_of_address at.now) }
 {
     match at {
         Address::Name(name) => {
             is_start(name)
                 || is_next(name)
-                || is_token_field(t, name) && stands.bare.has(name)
+                || is_token_field(t, name) && stands.is_bare(name)
                 || before.has(name)
         }
         Address::Integer(_) => true,
@@ -190,12 +190,12 @@ fn is_address(t: &Tables, stands: &PatternNames, before: &NameSet, at: &Address)
 #[tactic(auto, unfolding(crate::specs::ActionRules::has_address))]
 pub(crate) fn has_address(
     t: &Tables,
-    stands: &PatternNames,
+    stands: &JoinedNames,
     before: &NameSet,
     action: &Action,
 ) -> bool
     ensures { result
-        ≡ has_address t.now (standing_of stands.now) before.now (action_of action.now) }
+        ≡ has_address t.now (standing_among stands.now) before.now (action_of action.now) }
 {
     match action {
         Action::Assign(_, _) => true,

@@ -1,19 +1,20 @@
 -- What was made of blocks, constructor by constructor.
-use Rattle.std.proofs.Common.{◌≡◌, ℕ, zero, suc, ◌<◌, false, List, [], ◌∷◌, length, get_or, None, Some, Result, Ok, Err, sym, ap, subst, ◌∙◌, arith}
+use Rattle.std.proofs.Common.{◌≡◌, ℕ, zero, suc, ◌<◌, false, List, [], ◌∷◌, length, get_or, Result, Ok, Err, sym, ap, subst, ◌∙◌, arith}
 use Rattle.std.specs.Prelude.{IfOk}
 use Rattle.sl_ast.specs.Trees.{Constructor, Head, constructor}
 use Rattle.sl_bind.proofs.GrowLemmas.{begins_as, came_of, constructor_added, is_kept, put}
 use Rattle.sl_bind.proofs.WalkLemmas.{put_known, rules_of_section, unplaced}
-use Rattle.sl_bind.specs.Steps.{AreFacts, AreMadeForAll}
+use Rattle.sl_bind.specs.Steps.{IsMadeForAll}
 use Rattle.sl_bind.specs.Verdict.{item_step, placed_step, section_step, with_constructor_of, with_known}
 use Rattle.sl_bind.specs.declared.items.Progress.{Progress}
-use Rattle.sl_constructors.specs.Facts.{AreOfHead, PatternFacts}
+use Rattle.sl_constructors.specs.Made.{IsMadeAnyway, IsMadeFor, StaysMade}
 use Rattle.sl_constructors.specs.Steps.{constructor_step}
+use Rattle.sl_constructors.specs.declared.made.MadeOfBlocks.{MadeOfBlocks}
 use Rattle.sl_definitions.specs.Beginning.{begin}
 use Rattle.sl_definitions.specs.Items.{with_tables}
 use Rattle.sl_definitions.specs.declared.known.Known.{Known}
 use Rattle.sl_section_rules.specs.WholeText.{Whole}
-use Rattle.sl_spec.specs.Numbers.{AreMadeFor, AreNumbered, AreNumberedBelow, AreTold, AreToldOf, KeepsMade, made_of}
+use Rattle.sl_spec.specs.Numbers.{AreNumbered, AreNumberedBelow, AreTold, AreToldOf}
 use Rattle.sl_spec.specs.Tables.{Field, Table}
 use Rattle.sl_spec.specs.declared.tables.Tables.{Tables}
 use Rattle.sl_spec.specs.declared.unfolded.Unfolded.{Unfolded}
@@ -36,18 +37,15 @@ told_at head_at [] i u below at told = absurd (omega arith)
 told_at head_at (v ∷ vs) zero u below at told = subst (λ (x : Unfolded). AreTold head_at x.heads.items) (sym at) told.0
 told_at head_at (v ∷ vs) (suc i) u below at told = told_at head_at vs i u (omega arith) at told.1
 
-module _ {V : Type 0} (IsRight : Head → V → Type 0) (us : List Unfolded) where
-  pub none_made : (made : List (ℕ × V)) → made ≡ [] → AreNumbered us → AreMadeForAll IsRight us made
-  none_made made none numbered = (numbered.0, numbered.1, λ n v found. never n v (ap (λ (m : List (ℕ × V)). made_of m n) (sym none) ∙ found))
-    where
-      never : (n : ℕ) (v : V) → None ≡ Some v → IsRight (numbered.0 n) v
-      never n v is = absurd (cc)
+module _ (fields : List Field) (tables : List Table) (us : List Unfolded) where
+  pub none_made : (made : MadeOfBlocks) → IsMadeAnyway made → AreNumbered us → IsMadeForAll fields tables us made
+  none_made made right numbered = (numbered.0, numbered.1, right fields tables numbered.0)
 
-  module _ (i : ℕ) (u : Unfolded) (below : i < length us) (at : u ≡ get_or us i u) (now : List (ℕ × V)) where
-    pub made_for_one : AreMadeForAll IsRight us now → AreMadeFor IsRight u.heads.items now
+  module _ (i : ℕ) (u : Unfolded) (below : i < length us) (at : u ≡ get_or us i u) (now : MadeOfBlocks) where
+    pub made_for_one : IsMadeForAll fields tables us now → IsMadeFor fields tables u.heads.items now
     made_for_one made = (made.0, told_at made.0 us i u below at made.1, made.2)
 
-    pub made_behind_one : (new : List (ℕ × V)) → KeepsMade IsRight u.heads.items now new → AreMadeForAll IsRight us now → AreMadeForAll IsRight us new
+    pub made_behind_one : (new : MadeOfBlocks) → StaysMade fields tables u.heads.items now new → IsMadeForAll fields tables us now → IsMadeForAll fields tables us new
     made_behind_one new kept made = (made.0, made.1, kept made.0 (told_at made.0 us i u below at made.1) made.2)
 
 -- ---- a constructor defines no field
@@ -69,5 +67,6 @@ module _ (w : Whole) (p next : Progress) (n : ℕ) (c : Constructor) where
       ∙ ap (λ (x : Progress). x.known.tables.fields) (is_kept (rules_of_section w s.0.known.tables s.0.macros c) s.0 next s.2).1
 
   -- so what was made of blocks before it is right behind it
-  pub right_behind : (us : List Unfolded) (made : List (ℕ × PatternFacts)) → placed_step w p (n, constructor c) ≡ Ok next → AreMadeForAll (AreFacts w p) us made → AreMadeForAll (AreFacts w next) us made
-  right_behind us made is right = subst (λ (fields : List Field). AreMadeForAll (AreOfHead fields w.tables) us made) (keeps_fields is) right
+  pub right_behind : (us : List Unfolded) (made : MadeOfBlocks) → placed_step w p (n, constructor c) ≡ Ok next
+      → IsMadeForAll p.known.tables.fields w.tables us made → IsMadeForAll next.known.tables.fields w.tables us made
+  right_behind us made is right = subst (λ (fields : List Field). IsMadeForAll fields w.tables us made) (keeps_fields is) right

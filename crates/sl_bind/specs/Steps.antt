@@ -3,16 +3,14 @@ use Rattle.std.specs.Prelude.{◌≡◌, ℕ, List, ◌∷◌, ◌++◌, Some, R
 use Rattle.sl_ast.specs.Trees.{Head, Item, constructor}
 use Rattle.sl_ast.specs.Unfolding.{Placed, unfolded_from}
 use Rattle.sl_bind.specs.Verdict.{Broken}
-use Rattle.sl_bind.specs.declared.items.Progress.{Progress}
 use Rattle.sl_bind.specs.declared.stop.Stop.{Stop}
 use Rattle.sl_bind.specs.declared.stop.Stop.TheVariants.{Rule, NoMemory}
-use Rattle.sl_constructors.specs.Facts.{AreOfHead, PatternFacts}
-use Rattle.sl_definitions.specs.declared.known.Known.{Known}
+use Rattle.sl_constructors.specs.Made.{IsMade}
+use Rattle.sl_constructors.specs.declared.made.MadeOfBlocks.{MadeOfBlocks}
 use Rattle.sl_rules.specs.declared.fault.Fault.{Fault}
 use Rattle.sl_rules.specs.declared.fault.Fault.TheVariants as fault
-use Rattle.sl_section_rules.specs.WholeText.{Whole}
-use Rattle.sl_spec.specs.Numbers.{AreMade, AreToldOf}
-use Rattle.sl_spec.specs.Tables.{Table}
+use Rattle.sl_spec.specs.Numbers.{AreToldOf}
+use Rattle.sl_spec.specs.Tables.{Field, Table}
 use Rattle.sl_spec.specs.Unfolded.{placed, unfolded_one}
 use Rattle.sl_spec.specs.declared.unfolded.Unfolded.{Unfolded}
 
@@ -40,15 +38,8 @@ abbrev pub GoesOn : ℕ → Item → ℕ → Type 0
 GoesOn number item next = (items : List Item)
     → unfolded_from number (item ∷ items) ≡ unfolded_one number item ++ unfolded_from next items
 
--- They are what rules 17 to 20 say of a block's pattern, by what is known before its constructors.
-abbrev pub AreFactsOf : List Table → Known → Head → PatternFacts → Type 0
-AreFactsOf tables k h f = AreOfHead k.tables.fields tables h f
-
-abbrev pub AreFacts : Whole → Progress → Head → PatternFacts → Type 0
-AreFacts w p h f = AreFactsOf w.tables p.known h f
-
--- It is right where numbers tell the heads of the blocks round all these constructors.
-abbrev pub AreMadeForAll : {V : Type 0} → (Head → V → Type 0) → List Unfolded → List (ℕ × V)
-    → Type 0
-AreMadeForAll IsRight us made =
-    (head_at : ℕ → Head) × AreToldOf head_at us × AreMade IsRight head_at made
+-- It is right where numbers tell the heads of the blocks round all these constructors, by the fields
+-- so far and all tables of the text.
+abbrev pub IsMadeForAll : List Field → List Table → List Unfolded → MadeOfBlocks → Type 0
+IsMadeForAll fields tables us made =
+    (head_at : ℕ → Head) × AreToldOf head_at us × IsMade fields tables head_at made

@@ -3,25 +3,26 @@
 ghost use Rattle.std.specs.Prelude.{◌≡◌, IfOk, map};
 ghost use Rattle.sl_ast.specs.Unfolding.{unfolded};
 ghost use Rattle.sl_ast.specs.Views.{item_of, macro_of, section_of};
-ghost use Rattle.sl_bind.specs.Steps.{AreFacts, AreFactsOf, GivesAt, GoesOn, constructor_item};
+ghost use Rattle.sl_bind.specs.Steps.{GivesAt, GoesOn, constructor_item};
 ghost use Rattle.sl_bind.specs.Verdict.{at, beginning, item_step, last_operands, macro_step};
 ghost use Rattle.sl_bind.specs.Verdict.{macro_taken, placed_step, section_step, single_step};
 ghost use Rattle.sl_bind.specs.Verdict.{with_constructor_of};
 ghost use Rattle.sl_constructors.specs.ConstructorRules.{is_of_root};
+ghost use Rattle.sl_constructors.specs.Made.{IsMadeFor, StaysMade};
 ghost use Rattle.sl_constructors.specs.WholeText.{table_name};
 ghost use Rattle.sl_rules.specs.Demands.{Gives, first_broken, run};
 ghost use Rattle.sl_section_rules.specs.SectionRules.{section_demands};
-ghost use Rattle.sl_spec.specs.Numbers.{AreMadeFor, AreNumbered, KeepsMade};
+ghost use Rattle.sl_spec.specs.Numbers.{AreNumbered};
 ghost use Rattle.sl_spec.specs.Unfolded.{all_placed, constructors_in, placed, unfolded_one};
 
 use crate::stop::{Stop, stop_at};
 use sl_ast::constructors::{Macro, Section};
 use sl_ast::items::{Item, ItemKind};
-use sl_constructors::{PatternFacts, define_constructor, table_name};
+use sl_constructors::{MadeOfBlocks, define_constructor, table_name};
 use sl_definitions::{Known, begin, define, is_new, opening};
 use sl_rules::Fault;
 use sl_section_rules::{Signature, Whole, add_signature, judge_macro, judge_section, signature_of};
-use sl_spec::{ByBlock, Macro as MacroEntry, Named, Table, Tables, Unfolded, add_unfolded};
+use sl_spec::{Macro as MacroEntry, Named, Table, Tables, Unfolded, add_unfolded};
 use std::alloc::{AllocError, Global};
 
 /// What is known before an item, and the macros so far as calls of them are judged.
@@ -112,13 +113,13 @@ fn add_constructor<'s, 'a>(
     tables: &Named<'a, Table<'a>>,
     known: &mut Known<'a>,
     of: &Unfolded<'s, 'a>,
-    made: &mut ByBlock<PatternFacts<'a>>,
+    made: &mut MadeOfBlocks<'a>,
 ) -> Result<(), Fault>
-    requires { AreMadeFor (AreFactsOf tables.now known.old) of.now.heads.items made.old }
+    requires { IsMadeFor known.old.tables.fields tables.now of.now.heads.items made.old }
     ensures gives { Gives (λ _. known.new) result (with_constructor_of tables.now known.old
         (placed of.now).0 (placed of.now).1) }
     ensures kept { IfOk result (λ _.
-        KeepsMade (AreFactsOf tables.now known.old) of.now.heads.items made.old made.new) }
+        StaysMade known.old.tables.fields tables.now of.now.heads.items made.old made.new) }
 {
     begin(known, false)?;
     define_constructor(alloc, tables, &mut known.tables, of, made)
@@ -185,13 +186,15 @@ fn constructor<'s, 'a>(
     whole: &Whole<'a>,
     progress: &mut Progress<'a>,
     of: &Unfolded<'s, 'a>,
-    made: &mut ByBlock<PatternFacts<'a>>,
+    made: &mut MadeOfBlocks<'a>,
 ) -> Result<(), Fault>
-    requires { AreMadeFor (AreFacts whole.now progress.old) of.now.heads.items made.old }
+    requires { IsMadeFor progress.old.known.tables.fields whole.now.tables of.now.heads.items
+        made.old }
     ensures gives { Gives (λ _. progress.new) result
         (item_step whole.now progress.old (constructor_item of.now)) }
     ensures kept { IfOk result (λ _.
-        KeepsMade (AreFacts whole.now progress.old) of.now.heads.items made.old made.new) }
+        StaysMade progress.old.known.tables.fields whole.now.tables of.now.heads.items made.old
+        made.new) }
 {
     add_constructor(alloc, &whole.tables, &mut progress.known, of, made)?;
     demand_section(alloc, whole, progress, of)
@@ -203,13 +206,15 @@ fn take_constructor<'s, 'a>(
     whole: &Whole<'a>,
     progress: &mut Progress<'a>,
     of: &Unfolded<'s, 'a>,
-    made: &mut ByBlock<PatternFacts<'a>>,
+    made: &mut MadeOfBlocks<'a>,
 ) -> Result<(), Stop>
-    requires { AreMadeFor (AreFacts whole.now progress.old) of.now.heads.items made.old }
+    requires { IsMadeFor progress.old.known.tables.fields whole.now.tables of.now.heads.items
+        made.old }
     ensures gives { GivesAt (λ _. progress.new) result
         (placed_step whole.now progress.old (constructor_item of.now)) }
     ensures kept { IfOk result (λ _.
-        KeepsMade (AreFacts whole.now progress.old) of.now.heads.items made.old made.new) }
+        StaysMade progress.old.known.tables.fields whole.now.tables of.now.heads.items made.old
+        made.new) }
 {
     match constructor(alloc, whole, progress, of, made) {
         Ok(()) => Ok(()),
@@ -217,8 +222,8 @@ fn take_constructor<'s, 'a>(
     }
 }
 
-/// Takes constructors in their order. What rules 17 to 20 say of the pattern of a block is made once
-/// for all of them.
+/// Takes constructors in their order. What is asked of the pattern of a block is made once for all of
+/// them.
 fn take_constructors<'s, 'a>(
     alloc: Global,
     whole: &Whole<'a>,
@@ -229,7 +234,7 @@ fn take_constructors<'s, 'a>(
     ensures { GivesAt (λ _. progress.new) result
         (run (placed_step whole.now) progress.old (map constructor_item all.now)) }
 {
-    let mut made = ByBlock::new(alloc);
+    let mut made = MadeOfBlocks::new(alloc);
     'constructors: for index in 0..all.len() {
         take_constructor(alloc, whole, progress, &all[index], &mut made)?;
     }

@@ -1,4 +1,6 @@
 pub mod BlockLemmas
+mod BlockNameLemmas
+mod DemandLemmas
 pub mod DisplayLemmas
 pub mod FactLemmas
 pub mod MadeLemmas

@@ -1,8 +1,9 @@
 -- What was made of the blocks round a constructor, block by block.
-use Rattle.std.proofs.Common.{◌≡◌, ℕ, zero, suc, ◌<◌, List, [], ◌∷◌, length, get_or, sym, subst, arith}
+use Rattle.std.proofs.Common.{◌≡◌, ℕ, zero, suc, ◌<◌, List, [], ◌∷◌, length, get_or, None, Some, Result, Ok, Err, sym, ap, subst, ◌∙◌, arith}
+use Rattle.std.specs.Prelude.{IfOk}
 use Rattle.sl_ast.specs.Trees.{Head}
 use Rattle.sl_ast.specs.Views.{head_of}
-use Rattle.sl_spec.specs.Numbers.{AreMadeFor, AreTold, KeepsMade}
+use Rattle.sl_spec.specs.Numbers.{AreMade, AreMadeFor, AreTold, KeepsMade, made_of}
 use Rattle.sl_spec.specs.declared.unfolded.Around.{Around}
 
 told_at : (head_at : ℕ → Head) (blocks : List Around) (i : ℕ) (a : Around) → i < length blocks → a ≡ get_or blocks i a → AreTold head_at blocks → AreTold head_at (a ∷ [])
@@ -18,3 +19,15 @@ module _ {V : Type 0} (IsRight : Head → V → Type 0) (blocks : List Around) (
   -- and stays so
   pub keeps_more : (new : List (ℕ × V)) → KeepsMade IsRight (a ∷ []) now new → KeepsMade IsRight blocks old now → KeepsMade IsRight blocks old new
   keeps_more new one kept = λ head_at told made. one head_at (told_at head_at blocks i a below at told) (kept head_at told made)
+
+-- where nothing was made
+pub none_made : {V : Type 0} (IsRight : Head → V → Type 0) (head_at : ℕ → Head) (made : List (ℕ × V)) → made ≡ [] → AreMade IsRight head_at made
+none_made {V} IsRight head_at made none = λ n v found. never n v (ap (λ (m : List (ℕ × V)). made_of m n) (sym none) ∙ found)
+  where
+    never : (n : ℕ) (v : V) → None ≡ Some v → IsRight (head_at n) v
+    never n v is = absurd (cc)
+
+-- what follows, follows where a call succeeds
+pub where_ok : {X E P Q : Type 0} (r : Result X E) → (P → Q) → IfOk r (λ _. P) → IfOk r (λ _. Q)
+where_ok (Ok x) follows p = follows p
+where_ok (Err e) follows p = tt

@@ -58,13 +58,19 @@ abbrev pub demands_by : PatternFacts → List Name → List Demand → List Dema
 demands_by f names more = (17, f.known) ∷ (18, are_few f.bare names) ∷ (19, f.allowed)
     ∷ (20, f.valued) ∷ more
 
--- the demands on it, by its operands' names and its actions
+-- the demands on it, by its operands' names, and further ones
+abbrev pub demands_before : Tables → Constructor → PatternFacts → List Name → List Demand
+    → List Demand
+demands_before t c f names more =
+    (3, may_begin t (table_name c))
+    ∷ (16, shows_operands t names (is_of_root (table_name c)) c.display)
+    ∷ demands_by f names more
+
+-- and by its actions
 abbrev pub demands_with : List Table → Tables → Constructor → PatternFacts → List Name
     → List Action → List Demand
 demands_with tables t c f names as' =
-    (3, may_begin t (table_name c))
-    ∷ (16, shows_operands t names (is_of_root (table_name c)) c.display)
-    ∷ demands_by f names (action_demands tables t (parts_of tables c.pattern) as')
+    demands_before t c f names (action_demands tables t (parts_of tables c.pattern) as')
 
 abbrev pub operands_with : List Table → Tables → PatternFacts → List Action → List Operand
 operands_with tables t f as' = operands t.fields tables f.bare (action_names t as')

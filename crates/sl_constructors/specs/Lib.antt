@@ -1,3 +1,4 @@
+pub mod BlockNames
 pub mod Blocks
 pub mod ConstraintValues
 pub mod ConstructorRules
@@ -6,6 +7,7 @@ pub mod FactSteps
 pub mod Facts
 pub mod Laws
 pub mod Listed
+pub mod Made
 pub mod Operands
 pub mod Steps
 pub mod WholeText

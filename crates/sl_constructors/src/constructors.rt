@@ -1,30 +1,33 @@
 //! Constructors: all rules by which one is judged, and what it adds.
 
-ghost use Rattle.std.specs.Prelude.{◌≡◌, OnOk, IfOk};
+ghost use Rattle.std.specs.Prelude.{◌≡◌, [], OnOk, IfOk};
 ghost use Rattle.sl_rules.specs.Demands.{Gives, first_broken};
 ghost use Rattle.sl_actions.specs.ActionRules.{action_demands};
 ghost use Rattle.sl_actions.specs.SeenActions.{seen_actions};
+ghost use Rattle.sl_constructors.specs.BlockNames.{AreNamesOfHead};
 ghost use Rattle.sl_constructors.specs.ConstructorRules.{is_of_root, may_begin, shows_operands};
-ghost use Rattle.sl_constructors.specs.FactSteps.{demands_by, demands_with, operands_with};
+ghost use Rattle.sl_constructors.specs.FactSteps.{demands_before, demands_by, operands_with};
 ghost use Rattle.sl_constructors.specs.FactSteps.{step_with};
-ghost use Rattle.sl_constructors.specs.Facts.{AreOfHead};
+ghost use Rattle.sl_constructors.specs.Made.{IsMadeFor, StaysMade};
 ghost use Rattle.sl_constructors.specs.Steps.{added, constructor_step, with_ctor};
 ghost use Rattle.sl_constructors.specs.WholeText.{table_name};
 ghost use Rattle.sl_parts.specs.Parts.{parts_of};
 ghost use Rattle.sl_spec.specs.Numbers.{AreMadeFor, KeepsMade};
 ghost use Rattle.sl_spec.specs.Unfolded.{placed};
 
+use crate::block_names::names_of_unfolded;
 use crate::displays::shows_operands;
 use crate::facts::{PatternFacts, facts_of_unfolded};
+use crate::made::MadeOfBlocks;
 use crate::operands::{operand_names, operands, small, table_number};
 use crate::patterns::are_few;
 use crate::whole_text::table_name;
-use sl_actions::{ActionRef, action_names, actions_of_unfolded, judge_actions};
+use sl_actions::{ActionRef, PatternNames, action_names, actions_of_unfolded, judge_actions};
 use sl_definitions::is_new;
-use sl_parts::parts_of;
 use sl_rules::{Fault, NameSet};
 use sl_spec::{ByBlock, Ctor, CtorId, Named, Operand, Table, TableId, Tables, Unfolded};
 use std::alloc::{AllocError, Global};
+use std::rc::Rc;
 
 /// Rule 3, of a table: it has a constructor before, or its name is new.
 fn may_begin(t: &Tables, name: &[u8]) -> bool
@@ -49,40 +52,13 @@ fn shows<'s, 'a>(t: &Tables<'a>, of: &Unfolded<'s, 'a>, names: &NameSet<'a>, tab
     shows_operands(t, names, is_of_root(table), own.display.as_slice())
 }
 
-/// The first rule that the actions of a constructor break. The parts of its pattern are made for
-/// actions alone.
-#[tactic(auto, unfolding(sl_actions::specs::ActionRules::each_holds))]
-fn broken_in_actions<'s, 'a>(
+/// The first rule that a pattern breaks, by what is said of it.
+fn broken_in_pattern(
     alloc: Global,
-    tables: &Named<'a, Table<'a>>,
-    t: &Tables<'a>,
-    of: &Unfolded<'s, 'a>,
-    actions: &[ActionRef<'s, 'a>],
+    facts: &PatternFacts,
+    names: &NameSet,
 ) -> Result<Option<u8>, AllocError>
-    ensures { IfOk result (λ broken. broken ≡ first_broken
-        (action_demands tables.now t.now (parts_of tables.now (placed of.now).1.pattern)
-        (seen_actions actions.now))) }
-{
-    if actions.is_empty() {
-        return Ok(None);
-    }
-    let parts = parts_of(alloc, tables, of)?;
-    judge_actions(alloc, tables, t, parts.as_slice(), actions)
-}
-
-/// The first rule that a pattern or its actions break, by what is said of the pattern.
-fn broken_in_pattern<'s, 'a>(
-    alloc: Global,
-    tables: &Named<'a, Table<'a>>,
-    t: &Tables<'a>,
-    of: &Unfolded<'s, 'a>,
-    facts: &PatternFacts<'a>,
-    names: &NameSet<'a>,
-    actions: &[ActionRef<'s, 'a>],
-) -> Result<Option<u8>, AllocError>
-    ensures { IfOk result (λ broken. broken ≡ first_broken (demands_by facts.now names.now
-        (action_demands tables.now t.now (parts_of tables.now (placed of.now).1.pattern)
-        (seen_actions actions.now)))) }
+    ensures { IfOk result (λ broken. broken ≡ first_broken (demands_by facts.now names.now [])) }
 {
     if !facts.known {
         return Ok(Some(17));
@@ -96,22 +72,19 @@ fn broken_in_pattern<'s, 'a>(
     if !facts.valued {
         return Ok(Some(20));
     }
-    broken_in_actions(alloc, tables, t, of, actions)
+    Ok(None)
 }
 
-/// The first rule that a constructor breaks, by what is said of its pattern.
-fn broken<'s, 'a>(
+/// The first rule that a constructor breaks apart from its actions, by what is said of its pattern.
+fn broken_before_actions<'s, 'a>(
     alloc: Global,
-    tables: &Named<'a, Table<'a>>,
     t: &Tables<'a>,
     of: &Unfolded<'s, 'a>,
     facts: &PatternFacts<'a>,
     names: &NameSet<'a>,
-    actions: &[ActionRef<'s, 'a>],
 ) -> Result<Option<u8>, AllocError>
     ensures { IfOk result (λ broken. broken ≡ first_broken
-        (demands_with tables.now t.now (placed of.now).1 facts.now names.now
-        (seen_actions actions.now))) }
+        (demands_before t.now (placed of.now).1 facts.now names.now [])) }
 {
     let table = table_name(of);
     if !may_begin(t, table) {
@@ -120,7 +93,32 @@ fn broken<'s, 'a>(
     if !shows(t, of, names, table) {
         return Ok(Some(16));
     }
-    broken_in_pattern(alloc, tables, t, of, facts, names, actions)
+    broken_in_pattern(alloc, facts, names)
+}
+
+/// The first rule that the actions of a constructor break. The names of its pattern are gathered for
+/// actions alone.
+#[tactic(auto, unfolding(sl_actions::specs::ActionRules::each_holds))]
+fn broken_in_actions<'s, 'a>(
+    alloc: Global,
+    tables: &Named<'a, Table<'a>>,
+    t: &Tables<'a>,
+    of: &Unfolded<'s, 'a>,
+    actions: &[ActionRef<'s, 'a>],
+    made: &mut ByBlock<Rc<PatternNames<'a>>>,
+) -> Result<Option<u8>, AllocError>
+    requires { AreMadeFor (AreNamesOfHead tables.now) of.now.heads.items made.old }
+    ensures broken { IfOk result (λ broken. broken ≡ first_broken
+        (action_demands tables.now t.now (parts_of tables.now (placed of.now).1.pattern)
+        (seen_actions actions.now))) }
+    ensures kept { IfOk result (λ _.
+        KeepsMade (AreNamesOfHead tables.now) of.now.heads.items made.old made.new) }
+{
+    if actions.is_empty() {
+        return Ok(None);
+    }
+    let stands = names_of_unfolded(alloc, tables, of, made)?;
+    judge_actions(alloc, tables, t, &stands, actions)
 }
 
 /// The operands of a constructor, by the bare names of its pattern and its actions.
@@ -182,15 +180,22 @@ fn define_by<'s, 'a>(
     t: &mut Tables<'a>,
     of: &Unfolded<'s, 'a>,
     facts: &PatternFacts<'a>,
+    made: &mut ByBlock<Rc<PatternNames<'a>>>,
 ) -> Result<(), Fault>
-    ensures { Gives (λ _. t.new) result
+    requires { AreMadeFor (AreNamesOfHead tables.now) of.now.heads.items made.old }
+    ensures gives { Gives (λ _. t.new) result
         (step_with tables.now t.old (placed of.now).0 (placed of.now).1 facts.now) }
+    ensures kept { IfOk result (λ _.
+        KeepsMade (AreNamesOfHead tables.now) of.now.heads.items made.old made.new) }
 {
     let actions = actions_of_unfolded(alloc, of)?;
-    let operands = operands_of(alloc, tables, t, facts, actions.as_slice())?;
+    let actions = actions.as_slice();
+    let operands = operands_of(alloc, tables, t, facts, actions)?;
     let names = operand_names(alloc, operands.as_slice())?;
-    let broken = broken(alloc, tables, t, of, facts, &names, actions.as_slice())?;
-    if let Some(rule) = broken {
+    if let Some(rule) = broken_before_actions(alloc, t, of, facts, &names)? {
+        return Err(Fault::Rule(rule));
+    }
+    if let Some(rule) = broken_in_actions(alloc, tables, t, of, actions, made)? {
         return Err(Fault::Rule(rule));
     }
     add_with(alloc, tables, t, of, operands)?;
@@ -198,22 +203,22 @@ fn define_by<'s, 'a>(
 }
 
 /// Defines a constructor (SLEIGH manual, "Constructors"). `tables` are all tables of the text.
-/// `made` is what rules 17 to 20 say of the patterns of blocks, as long as no field is defined: of a
-/// block it is made once, and all constructors inside are judged by it. The actions of a constructor
-/// are judged with those of the blocks round it, by the names of the whole pattern.
+/// `made` is what is made of the patterns of blocks, as long as no field is defined: of a block it is
+/// made once, and all constructors inside are judged by it. The actions of a constructor are judged
+/// with those of the blocks round it, by the names of the whole pattern.
 pub fn define_constructor<'s, 'a>(
     alloc: Global,
     tables: &Named<'a, Table<'a>>,
     t: &mut Tables<'a>,
     of: &Unfolded<'s, 'a>,
-    made: &mut ByBlock<PatternFacts<'a>>,
+    made: &mut MadeOfBlocks<'a>,
 ) -> Result<(), Fault>
-    requires { AreMadeFor (AreOfHead t.old.fields tables.now) of.now.heads.items made.old }
+    requires { IsMadeFor t.old.fields tables.now of.now.heads.items made.old }
     ensures gives { Gives (λ _. t.new) result
         (constructor_step tables.now t.old (placed of.now).0 (placed of.now).1) }
     ensures kept { IfOk result (λ _.
-        KeepsMade (AreOfHead t.old.fields tables.now) of.now.heads.items made.old made.new) }
+        StaysMade t.old.fields tables.now of.now.heads.items made.old made.new) }
 {
-    let facts = facts_of_unfolded(alloc, &t.fields, tables, of, made)?;
-    define_by(alloc, tables, t, of, &facts)
+    let facts = facts_of_unfolded(alloc, &t.fields, tables, of, &mut made.facts)?;
+    define_by(alloc, tables, t, of, &facts, &mut made.names)
 }

@@ -1,11 +1,13 @@
 //! Constructors: all rules by which one is judged, and what each adds to the tables.
 #![tactic(auto)]
 
+mod block_names;
 mod constraints;
 mod constructors;
 mod displays;
 mod facts;
 mod laws;
+mod made;
 mod operands;
 mod patterns;
 mod whole_text;
@@ -13,6 +15,6 @@ mod whole_text;
 pub use constraints::constraint_value;
 pub use constructors::define_constructor;
 pub use displays::{blanks, is_blank, is_literal};
-pub use facts::PatternFacts;
 pub use laws::tables_stand_in_order;
+pub use made::MadeOfBlocks;
 pub use whole_text::{all_tables, table_name};

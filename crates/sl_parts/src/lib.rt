@@ -1,4 +1,4 @@
-//! The names of a constructor's pattern in the order of the text, each with how it stands.
+//! The names of a pattern in the order of the text, each with how it stands.
 #![tactic(auto)]
 
 mod part;

@@ -1,16 +1,13 @@
 //! Patterns as lists of their parts.
 
 ghost use Rattle.std.specs.Prelude.{◌≡◌, ◌++◌, ◌∷◌, [], OnOk, IfOk};
-ghost use Rattle.sl_ast.specs.Views.{head_of, pattern_of};
-ghost use Rattle.sl_parts.specs.Blocks.{head_parts};
+ghost use Rattle.sl_ast.specs.Views.{pattern_of};
 ghost use Rattle.sl_parts.specs.Parts.{holds_table, is_table, parts, parts_of};
 ghost use Rattle.sl_parts.specs.Parts as spec;
-ghost use Rattle.sl_spec.specs.Unfolded.{placed};
 
 use crate::part::Part;
-use sl_ast::constructors::Head;
 use sl_ast::patterns::{Pattern, PatternOp};
-use sl_spec::{Listed, Named, Table, Unfolded};
+use sl_spec::{Listed, Named, Table};
 use std::alloc::{AllocError, Global};
 
 /// Whether one of the tables has the name.
@@ -87,37 +84,15 @@ fn add_parts<'a>(
     }
 }
 
-/// Adds the parts of a block's pattern, if it has one.
-fn add_head<'a>(
-    tables: &Named<'a, Table<'a>>,
-    head: &Head<'a>,
-    all: &mut Listed<Part<'a>>,
-) -> Result<(), AllocError>
-    ensures { OnOk result (all.new ≡ all.old ++ head_parts tables.now (head_of head.now)) }
-{
-    match &head.pattern {
-        Some(pattern) => {
-            add_parts(tables, false, false, pattern, all)?;
-            Ok(())
-        }
-        None => Ok(()),
-    }
-}
-
-/// The parts of a constructor's pattern, those of the blocks round it first. `tables` are all
-/// tables of the text.
-pub fn parts_of<'s, 'a>(
+/// The parts of a whole pattern. `tables` are all tables of the text.
+pub fn parts_of<'a>(
     alloc: Global,
     tables: &Named<'a, Table<'a>>,
-    of: &Unfolded<'s, 'a>,
+    pattern: &Pattern<'a>,
 ) -> Result<Listed<Part<'a>>, AllocError>
-    ensures { IfOk result (λ all. all ≡ parts_of tables.now (placed of.now).1.pattern) }
+    ensures { IfOk result (λ all. all ≡ parts_of tables.now (pattern_of pattern.now)) }
 {
-    let heads = of.heads.as_slice();
     let mut all = Listed::new(alloc);
-    'heads: for index in 0..heads.len() {
-        add_head(tables, heads[index].head, &mut all)?;
-    }
-    add_parts(tables, false, false, &of.own.pattern, &mut all)?;
+    add_parts(tables, false, false, pattern, &mut all)?;
     Ok(all)
 }

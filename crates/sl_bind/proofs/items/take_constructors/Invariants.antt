@@ -1,9 +1,9 @@
 use Rattle.std.specs.Prelude.{map}
-use Rattle.sl_bind.specs.Steps.{AreFacts, AreMadeForAll, constructor_item}
+use Rattle.sl_bind.specs.Steps.{IsMadeForAll, constructor_item}
 use Rattle.sl_bind.specs.Verdict.{placed_step}
 use Rattle.sl_rules.proofs.Runs.{IsRun}
 use Rattle.sl_bind.proofs.items.take_constructors.Given as goal
 
 abbrev pub invariant-constructors : goal.invariant-constructors
 invariant-constructors l = IsRun (placed_step l.whole) l.initial.progress (map constructor_item l.all) l.progress l.index
-    × AreMadeForAll (AreFacts l.whole l.progress) l.all l.made
+    × IsMadeForAll l.progress.known.tables.fields l.whole.tables l.all l.made
