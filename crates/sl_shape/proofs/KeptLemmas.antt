@@ -140,11 +140,14 @@ module _ (b next : Below) (l : TokenLists) (table : ℕ) (same : AreSameBut tabl
       (w.0, end_same (PatternConstrains (by_extents t s h) p 0) (PatternConstrains (by_extents t r k) p 0) looks w.0 w.1, w.2)
 
   sets_put : AreMade (AreHeadCubes (by_extents t r k)) head_at made.sets
-  sets_put n v found p is = (λ x range.
-      let here = (right.sets n v found p is).0 x range in
-      let all = agree_all (head_at n) p is (right.sets_marked n v found) in
-      let holds = holds_alike t (λ q. extent_bytes (extent_of t s q)) (λ q. extent_bytes (extent_of t r q)) h k p (alike p all) 0 x range in
-      (λ i. holds.0 (here.0 i), λ w. here.1 (holds.1 w)), (right.sets n v found p is).1)
+  sets_put n v found p is = (
+    λ x range.
+        let here = (right.sets n v found p is).0 x range in
+        let all = agree_all (head_at n) p is (right.sets_marked n v found) in
+        let holds = holds_alike t (λ q. extent_bytes (extent_of t s q)) (λ q. extent_bytes (extent_of t r q)) h k p (alike p all) 0 x range in
+        (λ i. holds.0 (here.0 i), λ w. here.1 (holds.1 w)),
+    (right.sets n v found p is).1,
+  )
 
   marks_put : {V : Type 0} (xs : List (ℕ × V)) → AreOfMarked t marks head_at xs → AreOfMarked next.tables.now marks head_at xs
   marks_put xs m = subst (λ (u : Tables). AreOfMarked u marks head_at xs) same.tables m

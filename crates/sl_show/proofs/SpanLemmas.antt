@@ -1,12 +1,7 @@
 -- Spans of a buffer that grows.
-use Rattle.std.proofs.Common.{◌≡◌, ℕ, ◌-◌, ◌≤◌, Bool, true, false, cond, List, [], ◌++◌, length, take, drop, get_or, slice_range, Option, Some, refl, sym, ap, subst, ◌∙◌, arith, length-append, length-drop, take_all}
+use Rattle.std.proofs.Common.{◌≡◌, ℕ, ◌-◌, ◌≤◌, ◌⊎◌, cond, List, [], ◌++◌, length, take, drop, get_or, slice_range, Option, Some, inl, inr, sym, ap, ◌∙◌, arith, length-append, length-drop, take_all}
 use Rattle.std.proofs.Math.Seq.{drop-append_seam}
-use Rattle.std.proofs.lemmas.Cmp.{ranked}
 use Rattle.std.proofs.lemmas.List.{drop-append-le, take-append-le}
-use Rattle.std.specs.Ordering.{is_eq, nat_cmp}
-use Rattle.std.specs.Prelude.{unwrap_or}
-use Rattle.std.specs.declared.cmp.Ordering.{Ordering}
-use Rattle.std.specs.declared.cmp.Ordering.TheVariants.{Less, Equal, Greater}
 use Rattle.sl_show.specs.Spans.{AreTexts, AreWithin, span_of}
 use Rattle.sl_show.specs.declared.spans.Span.{Span}
 use Rattle.sl_spec.specs.Numbers.{is_number}
@@ -36,28 +31,17 @@ span_behind old new more grown =
 
 -- ---- a span that is put
 
-same_number : (k n : ℕ) (o : Ordering) → nat_cmp k n ≡ o → is_eq o ≡ true → k ≡ n
-same_number k n Less is e = absurd (cc e)
-same_number k n Equal is e = ranked k n Equal (sym is)
-same_number k n Greater is e = absurd (cc e)
-
-some_inj : {V : Type 0} {v w : V} → Some v ≡ Some w → v ≡ w
-some_inj {V} {v} {w} e = ap (λ (o : Option V). unwrap_or o v) e
+-- what is found then is the span that was put, or was there before
+put_or_old : (k n : ℕ) (v w : Span) (old : Option Span) → cond (is_number k n) (Some v) old ≡ Some w → ((k ≡ n) × (v ≡ w)) ⊎ (old ≡ Some w)
+put_or_old k n v w old is = grind arith
 
 pub put_text : (operands : List (List ℕ)) (old new : List (ℕ × Span)) (before buffer : List ℕ) (k : ℕ) (v : Span) → ((n : ℕ) → span_of new n ≡ cond (is_number k n) (Some v) (span_of old n))
     → v.start ≡ length before → v.end ≡ length buffer → buffer ≡ before ++ get_or operands k [] → AreWithin old before → AreTexts operands old before → AreTexts operands new buffer
-put_text operands old new before buffer k v put from to grown within texts n w found =
-    by_test (is_number k n) refl (sym (put n) ∙ found)
-  where
-    mine : slice_range buffer v.start v.end ≡ get_or operands k []
-    mine = ap (λ i. slice_range buffer i v.end) from ∙ ap (slice_range buffer (length before)) to ∙ span_behind before buffer (get_or operands k []) grown
-
-    by_test : (b : Bool) → is_number k n ≡ b → cond (is_number k n) (Some v) (span_of old n) ≡ Some w → slice_range buffer w.start w.end ≡ get_or operands n []
-    by_test true e is =
-        let same : v ≡ w = some_inj (ap (λ (b : Bool). cond b (Some v) (span_of old n)) (sym e) ∙ is) in
-        subst (λ (x : Span). slice_range buffer x.start x.end ≡ get_or operands n []) same
-        (mine ∙ ap (λ m. get_or operands m []) (same_number k n (nat_cmp k n) refl e))
-    by_test false e is = still_texts operands old before buffer (get_or operands k []) grown within texts n w (ap (λ (b : Bool). cond b (Some v) (span_of old n)) (sym e) ∙ is)
+put_text operands old new before buffer k v put from to grown within texts n w found = elim (put_or_old k n v w (span_of old n) (sym (put n) ∙ found)) [
+  | inl same ↦ ap (λ (s : Span). slice_range buffer s.start s.end) (sym same.1) ∙ ap (λ i. slice_range buffer i v.end) from ∙ ap (slice_range buffer (length before)) to
+      ∙ span_behind before buffer (get_or operands k []) grown ∙ ap (λ m. get_or operands m []) same.0
+  | inr there ↦ still_texts operands old before buffer (get_or operands k []) grown within texts n w there
+]
 
 -- ---- no spans
 
