@@ -41,7 +41,7 @@ pub struct HeadsMade {
     pub sets: ByBlock<Vec<Cube>>,
     /// For each table whether one of these patterns may name it.
     pub marks: Vec<bool>,
-    /// The number of constructors since the last time that nothing was made.
+    /// For how many constructors it was kept.
     pub age: usize,
 }
 
@@ -98,7 +98,7 @@ impl HeadsMade {
         self.age = 0;
     }
 
-    /// Forgets what was made at every 1,024th constructor.
+    /// One constructor more: forgets what was made once it was kept for 1,024 of them.
     pub fn grow_older(&mut self, alloc: Global)
         ensures right { (b : Below) (lists : TokenLists) (head_at : ℕ → Head)
             → AreRight b lists head_at self.old → AreRight b lists head_at self.new }
