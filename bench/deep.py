@@ -70,6 +70,12 @@ def nested_sets():
     return {"s": front + "".join(lines), "i": b"\0" * 16}
 
 
+def shown_twice():
+    """A chain of tables each of which shows the next one twice, the last one nothing."""
+    lines = ["t0: \"\" is b=0 {}\n"] + ["t%d: t%d^t%d is t%d {}\n" % (n, n - 1, n - 1, n - 1) for n in range(1, 1023)]
+    return {"s": MACHINE + "".join(lines) + ":x t1022 is a=1 & t1022 {}\n", "i": b"\x10"}
+
+
 def unreached():
     lines = ["t0: \"e\" is b=1 {}\n"] + ["t%d: t%d is t%d {}\n" % (n, n - 1, n - 1) for n in range(1, 65534)]
     return {"s": MACHINE + "".join(lines) + ":x is a=1 {}\n"}
@@ -96,5 +102,6 @@ def texts():
     yield "1,023 tables with sections", chained("X = X + 1;", "X = X + 1; build tN;", "X = X + 1; build tN;"), ALL, ends, BEGINS
     yield "1,023 tables that hand on an export", chained("export A;", "export tN;", "tN = tN + 1;"), ALL, ends, BEGINS
     yield "1,023 tables that are pointers", chained("export *:4 X;", "export *:4 tN;", "tN = tN + 1;"), ALL, ends, BEGINS
+    yield "1,023 tables, each of which shows the next twice", shown_twice(), ALL, ends, BEGINS
     yield "65,534 tables below one another", unreached(), ALL[:1], ends, BEGINS
     yield "192 sets, each of a bit more", nested_sets(), ALL[:2], ends, BEGINS | {"list": "00000000: %s x191\n" % ("0" * 32)}

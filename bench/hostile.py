@@ -218,6 +218,12 @@ def doubling_text(size):
     return {"s": PLAIN + "".join(lines) + ":x t%d is a=1 & t%d {}\n" % (size - 1, size - 1), "i": b"\x10"}
 
 
+def doubling_nothing(size):
+    """The same without a byte to show."""
+    lines = ["t0: \"\" is epsilon {}\n"] + ["t%d: t%d^t%d is t%d {}\n" % (n, n - 1, n - 1, n - 1) for n in range(1, size)]
+    return {"s": PLAIN + "".join(lines) + ":x t%d is a=1 & t%d {}\n" % (size - 1, size - 1), "i": b"\x10"}
+
+
 # ---- one thing for many constructors
 
 
@@ -247,6 +253,10 @@ def named_heads(size):
     front = SPACE % 4 + "define token c (32) code=(8,31) b=(0,3) %s;\n" % fields
     heads = "".join(head % ("n%d" % n) for n in range(16))
     return {"s": front + heads + "".join(":o%d is code=%d {}\n" % (n, n) for n in range(size)) + "}\n" * 16}
+
+
+def listed_named_heads(size):
+    return {**named_heads(size), "i": bytes(64)}
 
 
 def acting_heads(size):
@@ -282,6 +292,10 @@ def wide_sets(size):
     """So many constructors of 1,024 cubes of which no two meet."""
     front = SPACE % 4 + "define token w (64) p=(0,7) q=(8,15) r=(16,31) code=(40,63);\n"
     return {"s": front + "".join(":o%d is code=%d & p!=0 & q!=0 & r!=0 {}\n" % (n, n) for n in range(size))}
+
+
+def listed_wide_sets(size):
+    return {**wide_sets(size), "i": bytes(1 << 18)}
 
 
 def relations(size):
@@ -421,15 +435,20 @@ KINDS = (
             lambda n: ok(2 * n + 1, 4 * n - 1)),
     Hostile("a text that each table shows twice", "tables", (8, 16, 20, 24, 26, 1022), "1,022", doubling_text,
             lambda n: (DONE, "00000000: 10 x ab ab ab ab"), LIST),
+    Hostile("a text without a byte that each table shows twice", "tables", (8, 16, 24, 1022), "1,022", doubling_nothing,
+            lambda n: (DONE, "00000000: 10 x "), LIST),
     Hostile("constructors that call one macro of 65,528 tokens", "constructors", powers(16, 65535), "65,535", heavy_macro, lambda n: ok(1, n)),
     Hostile("constructors in 16 blocks of 128 constraints", "constructors", powers(256, 65535), "65,535", heads, lambda n: ok(1, n)),
     Hostile("constructors in 16 blocks of 127 constraints and an operand", "constructors", powers(256, 65535), "65,535", named_heads, lambda n: ok(1, n)),
+    Hostile("the same, listed", "constructors", powers(256, 65535), "65,535", listed_named_heads, lambda n: (DONE, "00000000: 00000000 o0\n"), LIST),
     Hostile("constructors in 16 blocks of 128 constraints and one action", "constructors", powers(256, 65535), "65,535", acting_heads, lambda n: ok(1, n)),
     Hostile("tables of one constructor in 16 blocks of 128 constraints", "tables", powers(256, 65534), "65,534", head_tables, lambda n: ok(n + 1, n + 1)),
     Hostile("constructors in a block of 1,024 cubes and 15 others", "constructors", powers(16, 65535), "65,535", wide_heads, lambda n: ok(1, n)),
     Hostile("actions in the head of a block round constructors", "of each", powers(2000, 65535), "65,535, and 2,000,000 actions",
             head_actions, lambda n: ok(1, n)),
     Hostile("constructors of 1,024 cubes", "constructors", powers(64, 65535), "65,535", wide_sets, lambda n: ok(1, n)),
+    Hostile("the same, 131,072 instructions listed", "constructors", powers(64, 65535), "65,535", listed_wide_sets,
+            lambda n: (DONE, "00000000: "), LIST),
     Hostile("a chain of relations, checked", "constructors", powers(1024, 65535), "65,535", relations, lambda n: ok(1, n)),
     Hostile("a chain of relations, 131,072 instructions listed", "constructors", powers(256, 65535), "65,535", listed_relations,
             lambda n: (DONE, "00000000: 0000 o1\n"), LIST),
