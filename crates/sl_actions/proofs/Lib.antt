@@ -1,6 +1,10 @@
+pub mod AlikeLemmas
 pub mod Arguments
+pub mod BlockLemmas
 pub mod Folds
-pub mod HoldingLemmas
+pub mod LevelLemmas
+pub mod PendingLemmas
 pub mod RowTheorems
 pub mod StandingLemmas
+pub mod UseLemmas
 pub mod WrittenLemmas

@@ -1,6 +1,9 @@
 pub mod ActionNames
 pub mod ActionRules
-pub mod Holding
+pub mod Blocks
+pub mod Levels
 pub mod PatternNames
+pub mod Pending
 pub mod SeenActions
 pub mod Standing
+pub mod Stands

@@ -1,9 +1,9 @@
 -- view: how names stand in patterns, as the program keeps it.
-use Rattle.std.specs.Prelude.{cond, List, [], map}
+use Rattle.std.specs.Prelude.{cond, List, []}
 use Rattle.sl_rules.specs.Names.{Name, is_among}
 use Rattle.sl_parts.specs.Parts.{Part}
 use Rattle.sl_actions.specs.ActionNames.{with_name}
-use Rattle.sl_actions.specs.Standing.{Standing, standing_in}
+use Rattle.sl_actions.specs.Standing.{Standing}
 
 -- the names of a pattern, each once: all of them, those that stand alone, and those right of a `;`
 -- whose left side holds a table
@@ -19,10 +19,6 @@ standing_of names = record {
   bare = is_among names.bare;
   behind_table = is_among names.behind_table;
 }
-
--- in several patterns
-abbrev pub standing_among : List PatternNames → Standing
-standing_among all = standing_in (map standing_of all)
 
 -- of no pattern
 abbrev pub no_names : PatternNames

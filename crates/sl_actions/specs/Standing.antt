@@ -1,5 +1,5 @@
--- meaning: how a name stands in a pattern, and in several that are joined.
-use Rattle.std.specs.Prelude.{Bool, ◌&&◌, List}
+-- meaning: how a name stands in a pattern, and in two that are joined.
+use Rattle.std.specs.Prelude.{Bool, false, ◌&&◌, ◌||◌, List}
 use Rattle.std.specs.List.{list_any}
 use Rattle.std.specs.Str.{bytes_eq}
 use Rattle.sl_rules.specs.Names.{Name}
@@ -20,10 +20,18 @@ standing ps = record {
   behind_table = λ name. list_any (λ p. p.behind_table && bytes_eq name p.name) ps;
 }
 
--- In a pattern that joins others by `&` a name stands so where it does in one of them.
-abbrev pub standing_in : List Standing → Standing
-standing_in ss = record {
-  anywhere = λ name. list_any (λ s. s.anywhere name) ss;
-  bare = λ name. list_any (λ s. s.bare name) ss;
-  behind_table = λ name. list_any (λ s. s.behind_table name) ss;
+-- In two patterns that are joined by `&`.
+abbrev pub joined : Standing → Standing → Standing
+joined s r = record {
+  anywhere = λ name. s.anywhere name || r.anywhere name;
+  bare = λ name. s.bare name || r.bare name;
+  behind_table = λ name. s.behind_table name || r.behind_table name;
+}
+
+-- In no pattern.
+abbrev pub nowhere : Standing
+nowhere = record {
+  anywhere = λ name. false;
+  bare = λ name. false;
+  behind_table = λ name. false;
 }

@@ -1,126 +1,151 @@
-//! Rules 21 to 25 of the actions of a constructor.
+//! Actions by rules 21 to 25, level by level.
 
-ghost use Rattle.std.specs.Prelude.{◌≡◌, [], IfOk};
-ghost use Rattle.sl_ast.specs.Views.{action_of};
-ghost use Rattle.sl_rules.specs.Demands.{first_broken};
-ghost use Rattle.sl_actions.specs.ActionRules.{action_demands_by};
-ghost use Rattle.sl_actions.specs.Holding.{all_holding, both, demands_of, holding};
-ghost use Rattle.sl_actions.specs.SeenActions.{seen_actions};
-ghost use Rattle.sl_actions.specs.PatternNames.{standing_among};
+ghost use Rattle.std.specs.Prelude.{◌≡◌, [], IfOk, OnOk, fold};
+ghost use Rattle.sl_ast.specs.Views.{action_of, actions_of};
+ghost use Rattle.sl_actions.specs.ActionNames.{with_name};
+ghost use Rattle.sl_actions.specs.Blocks.{IsInside};
+ghost use Rattle.sl_actions.specs.Levels.{IsBegun, IsWith, StaysJudged, innermost};
+ghost use Rattle.sl_actions.specs.SeenActions.{seen_written};
+ghost use Rattle.sl_actions.specs.Stands.{stands_of};
 
-use crate::pattern_names::JoinedNames;
+use crate::levels::{Judged, Level, Stands, any_unwanted};
+use crate::pattern_names::PatternNames;
+use crate::pending::{Pending, left_inside};
 use crate::rules::{
-    has_address, has_new_left, sets_context_field, uses_early_names, uses_known_names,
+    has_new_left, sets_context_field, use_address, use_early_names, use_known_names,
 };
-use crate::set_names::{ActionRef, add_action};
+use crate::set_names::{add_action, add_once, name_at};
 use sl_ast::patterns::Action;
 use sl_rules::NameSet;
 use sl_spec::{Named, Table, Tables};
 use std::alloc::{AllocError, Global};
 
-/// Which of the rules 21 to 25 hold.
-#[derive(Clone, Copy)]
-pub(crate) struct Holds {
-    pub new_left: bool,
-    pub known_names: bool,
-    pub early_names: bool,
-    pub context_field: bool,
-    pub address: bool,
-}
-
-fn both(h: Holds, k: Holds) -> Holds
-    ensures { result ≡ both h k }
+/// The names once more.
+fn copied<'a>(alloc: Global, names: &NameSet<'a>) -> Result<NameSet<'a>, AllocError>
+    ensures { IfOk result (λ copy. copy ≡ fold with_name [] names.now) }
 {
-    Holds {
-        new_left: h.new_left && k.new_left,
-        known_names: h.known_names && k.known_names,
-        early_names: h.early_names && k.early_names,
-        context_field: h.context_field && k.context_field,
-        address: h.address && k.address,
+    let mut copy = NameSet::new(alloc);
+    'names: for index in 0..names.len() {
+        let name = name_at(names, index);
+        add_once(&mut copy, name)?;
     }
+    Ok(copy)
 }
 
-/// The number of the first rule that doesn't hold.
-fn first_number(h: Holds) -> Option<u8>
-    ensures { result ≡ first_broken (demands_of h) }
-{
-    if !h.new_left {
-        Some(21)
-    } else if !h.known_names {
-        Some(22)
-    } else if !h.early_names {
-        Some(23)
-    } else if !h.context_field {
-        Some(24)
-    } else if !h.address {
-        Some(25)
-    } else {
-        None
-    }
-}
-
-/// Which rules hold of one action, where these action names are set before it.
-fn holding<'a>(
+/// What is known inside these levels, where this is known at the innermost one, before any action
+/// inside a pattern with these names.
+fn begun_inside<'a>(
     alloc: Global,
-    all: &Named<'a, Table<'a>>,
-    t: &Tables<'a>,
-    stands: &JoinedNames<'a>,
-    before: &NameSet<'a>,
-    action: &Action<'a>,
-) -> Result<Holds, AllocError>
-    ensures { IfOk result (λ h. h
-        ≡ holding all.now t.now (standing_among stands.now) before.now (action_of action.now)) }
+    around: &[Level<'a>],
+    outer: &Judged<'a>,
+    names: &PatternNames<'a>,
+) -> Result<Judged<'a>, AllocError>
+    ensures { IfOk result (IsBegun around.now names.now outer.now) }
 {
-    Ok(Holds {
-        new_left: has_new_left(all, t, before, action),
-        known_names: uses_known_names(alloc, t, stands, before, action)?,
-        early_names: uses_early_names(alloc, t, stands, before, action)?,
-        context_field: sets_context_field(t, before, action),
-        address: has_address(t, stands, before, action),
+    let mut early_names = Pending::new(alloc);
+    early_names.holds = outer.early_names.holds && !any_unwanted(around, &names.behind_table);
+    Ok(Judged {
+        given: copied(alloc, &outer.given)?,
+        new_left: outer.new_left,
+        known_names: left_inside(alloc, &outer.known_names, &names.anywhere)?,
+        early_names,
+        context_field: outer.context_field,
+        address: left_inside(alloc, &outer.address, &names.bare)?,
     })
 }
 
-/// Which rules hold of each action.
-fn all_holding<'s, 'a>(
+/// What is known inside these levels before any action inside a pattern with these names.
+fn begun<'a>(
     alloc: Global,
-    all: &Named<'a, Table<'a>>,
-    t: &Tables<'a>,
-    stands: &JoinedNames<'a>,
-    actions: &[ActionRef<'s, 'a>],
-) -> Result<Holds, AllocError>
-    ensures { IfOk result (λ h. h
-        ≡ all_holding all.now t.now (standing_among stands.now) [] (seen_actions actions.now)) }
+    around: &[Level<'a>],
+    names: &PatternNames<'a>,
+) -> Result<Judged<'a>, AllocError>
+    ensures { IfOk result (IsBegun around.now names.now (innermost around.now)) }
 {
-    let mut before = NameSet::new(alloc);
-    let mut holds = Holds {
-        new_left: true,
-        known_names: true,
-        early_names: true,
-        context_field: true,
-        address: true,
-    };
-    'actions: for index in 0..actions.len() {
-        let action = actions[index].action;
-        holds = both(holds, holding(alloc, all, t, stands, &before, action)?);
-        add_action(t, &mut before, action)?;
+    match around.last() {
+        Some(level) => begun_inside(alloc, around, &level.judged, names),
+        None => Ok(Judged::new(alloc)),
     }
-    Ok(holds)
 }
 
-/// The number of the first of the rules 21 to 25 that the actions of a constructor break. `all` are
-/// the tables of the whole text, `t` is what is defined before the constructor, `stands` has the names
-/// of its pattern and of the blocks' patterns round it, and `actions` are its own behind those of the
-/// blocks.
-pub fn judge_actions<'s, 'a>(
+/// Judges one action more.
+fn add_judged<'a>(
     alloc: Global,
     all: &Named<'a, Table<'a>>,
     t: &Tables<'a>,
-    stands: &JoinedNames<'a>,
-    actions: &[ActionRef<'s, 'a>],
-) -> Result<Option<u8>, AllocError>
-    ensures { IfOk result (λ broken. broken ≡ first_broken (action_demands_by all.now t.now
-        (standing_among stands.now) (seen_actions actions.now))) }
+    stands: &Stands<'_, 'a>,
+    action: &Action<'a>,
+    judged: &mut Judged<'a>,
+) -> Result<(), AllocError>
+    ensures { OnOk result
+        (IsWith all.now t.now (stands_of stands.now) (action_of action.now) judged.old judged.new) }
 {
-    let holds = all_holding(alloc, all, t, stands, actions)?;
-    Ok(first_number(holds))
+    let before = &judged.given;
+    judged.new_left = judged.new_left && has_new_left(all, t, before, action);
+    use_known_names(alloc, t, stands, before, action, &mut judged.known_names)?;
+    use_early_names(alloc, t, stands, before, action, &mut judged.early_names)?;
+    judged.context_field = judged.context_field && sets_context_field(t, before, action);
+    use_address(t, stands, before, action, &mut judged.address)?;
+    add_action(t, &mut judged.given, action)
+}
+
+/// Judges more actions.
+fn add_all_judged<'a>(
+    alloc: Global,
+    all: &Named<'a, Table<'a>>,
+    t: &Tables<'a>,
+    stands: &Stands<'_, 'a>,
+    actions: &[Action<'a>],
+    judged: &mut Judged<'a>,
+) -> Result<(), AllocError>
+    ensures { OnOk result (StaysJudged all.now t.now (stands_of stands.now) (actions_of actions.now)
+        judged.old judged.new) }
+{
+    'actions: for index in 0..actions.len() {
+        add_judged(alloc, all, t, stands, &actions[index], judged)?;
+    }
+    Ok(())
+}
+
+/// Judges the actions that are written, if any.
+fn add_written<'a>(
+    alloc: Global,
+    all: &Named<'a, Table<'a>>,
+    t: &Tables<'a>,
+    stands: &Stands<'_, 'a>,
+    actions: &Option<Vec<Action<'a>>>,
+    judged: &mut Judged<'a>,
+) -> Result<(), AllocError>
+    ensures { OnOk result (StaysJudged all.now t.now (stands_of stands.now)
+        (seen_written actions.now) judged.old judged.new) }
+{
+    match actions {
+        Some(actions) => add_all_judged(alloc, all, t, stands, actions.as_slice(), judged)?,
+        None => {}
+    }
+    Ok(())
+}
+
+/// A block or a constructor inside these levels, with the names of its pattern and its actions.
+pub(crate) fn level_inside<'a>(
+    alloc: Global,
+    all: &Named<'a, Table<'a>>,
+    t: &Tables<'a>,
+    around: &[Level<'a>],
+    number: u32,
+    names: PatternNames<'a>,
+    actions: &Option<Vec<Action<'a>>>,
+) -> Result<Level<'a>, AllocError>
+    ensures { IfOk result (IsInside all.now t.now around.now number names.entry
+        (seen_written actions.now)) }
+{
+    let mut judged = begun(alloc, around, &names)?;
+    let own = &names;
+    let stands = Stands { around, own };
+    add_written(alloc, all, t, &stands, actions, &mut judged)?;
+    Ok(Level {
+        number,
+        names,
+        judged,
+    })
 }

@@ -2,14 +2,16 @@
 #![tactic(auto)]
 
 mod actions;
+mod blocks;
+mod levels;
 mod names_used;
 mod pattern_names;
+mod pending;
 mod rules;
 mod set_names;
 mod written;
 
-pub use actions::judge_actions;
-pub use pattern_names::{JoinedNames, PatternNames, names_of_pattern};
+pub use blocks::{ActionFacts, JudgedBlocks, judge_actions};
 pub use rules::is_global;
-pub use set_names::{ActionRef, action_names};
+pub use set_names::ActionRef;
 pub use written::actions_of_unfolded;

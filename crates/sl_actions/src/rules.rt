@@ -1,18 +1,21 @@
 //! What each rule demands of one action.
 
-ghost use Rattle.std.specs.Prelude.{◌≡◌, IfOk};
+ghost use Rattle.std.specs.Prelude.{◌≡◌, ◌&&◌, OnOk, map};
 ghost use Rattle.std.specs.List.{list_all};
+ghost use Rattle.sl_ast.specs.Trees.{by_name};
 ghost use Rattle.sl_ast.specs.Views.{action_of, operand_of_address};
 ghost use Rattle.sl_rules.specs.Names.{is_among};
 ghost use Rattle.sl_actions.specs.ActionRules.{built_in_names, has_address, has_new_left};
 ghost use Rattle.sl_actions.specs.ActionRules.{is_address, is_early, is_global, is_next, is_start};
-ghost use Rattle.sl_actions.specs.ActionRules.{is_usable};
-ghost use Rattle.sl_actions.specs.ActionRules.{sets_context_field, uses_early_names};
-ghost use Rattle.sl_actions.specs.ActionRules.{uses_known_names};
-ghost use Rattle.sl_actions.specs.PatternNames.{standing_among};
+ghost use Rattle.sl_actions.specs.ActionRules.{is_usable, sets_context_field};
+ghost use Rattle.sl_actions.specs.ActionRules.{uses_early_names, uses_known_names};
+ghost use Rattle.sl_actions.specs.Pending.{all_stand, none_stands};
+ghost use Rattle.sl_actions.specs.Standing.{Standing, joined};
+ghost use Rattle.sl_actions.specs.Stands.{stands_of};
 
+use crate::levels::Stands;
 use crate::names_used::names_in;
-use crate::pattern_names::JoinedNames;
+use crate::pending::Pending;
 use crate::set_names::{is_context_field, is_token_field};
 use sl_ast::patterns::{Action, Address};
 use sl_rules::{NameSet, is_among};
@@ -82,9 +85,9 @@ pub(crate) fn has_new_left(
     }
 }
 
-/// Whether the expression of an action may use the name.
-fn is_usable(t: &Tables, stands: &JoinedNames, before: &NameSet, name: &[u8]) -> bool
-    ensures { result ≡ is_usable t.now (standing_among stands.now) before.now name.now }
+/// Whether the expression of an action may use the name, whatever stands inside.
+fn is_usable(t: &Tables, stands: &Stands, before: &NameSet, name: &[u8]) -> bool
+    ensures { result ≡ is_usable t.now (stands_of stands.now) before.now name.now }
 {
     is_token_field(t, name) && stands.is_anywhere(name)
         || is_context_field(t, name)
@@ -93,69 +96,137 @@ fn is_usable(t: &Tables, stands: &JoinedNames, before: &NameSet, name: &[u8]) ->
         || is_next(name)
 }
 
-fn all_usable(t: &Tables, stands: &JoinedNames, before: &NameSet, names: &[&[u8]]) -> bool
-    ensures { result
-        ≡ list_all (λ n. is_usable t.now (standing_among stands.now) before.now n.now) names.now }
+/// Rule 22 of a name in the expression of an action, with the names so far.
+fn use_name<'a>(
+    t: &Tables,
+    stands: &Stands,
+    before: &NameSet,
+    name: &'a [u8],
+    known: &mut Pending<'a>,
+) -> Result<(), AllocError>
+    ensures { OnOk result ((inside : Standing) → all_stand known.new inside.anywhere
+        ≡ (all_stand known.old inside.anywhere
+        && is_usable t.now (joined (stands_of stands.now) inside) before.now name.now)) }
 {
-    names.iter().all(|name| is_usable(t, stands, before, name))
+    if is_usable(t, stands, before, name) {
+        return Ok(());
+    }
+    if is_token_field(t, name) {
+        known.hang_on(name)?;
+    } else {
+        known.break_it();
+    }
+    Ok(())
 }
 
-/// Rule 22, of one action.
-#[tactic(auto, using(sl_rules::proofs::Seen::seen), unfolding(crate::specs::ActionRules::uses_known_names))]
-pub(crate) fn uses_known_names(
+fn use_names<'a>(
+    t: &Tables,
+    stands: &Stands,
+    before: &NameSet,
+    names: &[&'a [u8]],
+    known: &mut Pending<'a>,
+) -> Result<(), AllocError>
+    ensures { OnOk result ((inside : Standing) → all_stand known.new inside.anywhere
+        ≡ (all_stand known.old inside.anywhere
+        && list_all (is_usable t.now (joined (stands_of stands.now) inside) before.now)
+        (map (λ n. n.now) names.now))) }
+{
+    'names: for index in 0..names.len() {
+        use_name(t, stands, before, names[index], known)?;
+    }
+    Ok(())
+}
+
+/// Rule 22, with one action more.
+#[tactic(auto, unfolding(crate::specs::ActionRules::uses_known_names))]
+pub(crate) fn use_known_names<'a>(
     alloc: Global,
     t: &Tables,
-    stands: &JoinedNames,
+    stands: &Stands,
     before: &NameSet,
-    action: &Action,
-) -> Result<bool, AllocError>
-    ensures { IfOk result (λ holds. holds
-        ≡ uses_known_names t.now (standing_among stands.now) before.now (action_of action.now)) }
+    action: &Action<'a>,
+    known: &mut Pending<'a>,
+) -> Result<(), AllocError>
+    ensures { OnOk result ((inside : Standing) → all_stand known.new inside.anywhere
+        ≡ (all_stand known.old inside.anywhere && uses_known_names t.now
+        (joined (stands_of stands.now) inside) before.now (action_of action.now))) }
 {
     match action {
         Action::Assign(_, e) => {
             let names = names_in(alloc, e)?;
-            Ok(all_usable(t, stands, before, names.as_slice()))
+            use_names(t, stands, before, names.as_slice(), known)
         }
-        Action::GlobalSet(_, _) => Ok(true),
+        Action::GlobalSet(_, _) => Ok(()),
     }
 }
 
-/// Whether the expression of an action on a context field may use the name.
-fn is_early(stands: &JoinedNames, before: &NameSet, name: &[u8]) -> bool
-    ensures { result ≡ is_early (standing_among stands.now) before.now name.now }
+/// Whether the expression of an action on a context field may use the name, unless it stands behind a
+/// table inside.
+fn is_early(stands: &Stands, before: &NameSet, name: &[u8]) -> bool
+    ensures { result ≡ is_early (stands_of stands.now) before.now name.now }
 {
     !is_next(name) && !before.has(name) && !stands.is_behind_table(name)
 }
 
-fn all_early(stands: &JoinedNames, before: &NameSet, names: &[&[u8]]) -> bool
-    ensures { result
-        ≡ list_all (λ n. is_early (standing_among stands.now) before.now n.now) names.now }
+/// Rule 23 of a name in the expression of an action on a context field, with the names so far.
+fn use_early_name<'a>(
+    stands: &Stands,
+    before: &NameSet,
+    name: &'a [u8],
+    early: &mut Pending<'a>,
+) -> Result<(), AllocError>
+    ensures { OnOk result ((inside : Standing) → none_stands early.new inside.behind_table
+        ≡ (none_stands early.old inside.behind_table
+        && is_early (joined (stands_of stands.now) inside) before.now name.now)) }
 {
-    names.iter().all(|name| is_early(stands, before, name))
+    if is_early(stands, before, name) {
+        early.hang_on(name)?;
+    } else {
+        early.break_it();
+    }
+    Ok(())
 }
 
-/// Rule 23, of one action.
-#[tactic(auto, using(sl_rules::proofs::Seen::seen), unfolding(crate::specs::ActionRules::uses_early_names))]
-pub(crate) fn uses_early_names(
+fn use_names_early<'a>(
+    stands: &Stands,
+    before: &NameSet,
+    names: &[&'a [u8]],
+    early: &mut Pending<'a>,
+) -> Result<(), AllocError>
+    ensures { OnOk result ((inside : Standing) → none_stands early.new inside.behind_table
+        ≡ (none_stands early.old inside.behind_table
+        && list_all (is_early (joined (stands_of stands.now) inside) before.now)
+        (map (λ n. n.now) names.now))) }
+{
+    'names: for index in 0..names.len() {
+        use_early_name(stands, before, names[index], early)?;
+    }
+    Ok(())
+}
+
+/// Rule 23, with one action more.
+#[tactic(auto, unfolding(crate::specs::ActionRules::uses_early_names))]
+pub(crate) fn use_early_names<'a>(
     alloc: Global,
     t: &Tables,
-    stands: &JoinedNames,
+    stands: &Stands,
     before: &NameSet,
-    action: &Action,
-) -> Result<bool, AllocError>
-    ensures { IfOk result (λ holds. holds
-        ≡ uses_early_names t.now (standing_among stands.now) before.now (action_of action.now)) }
+    action: &Action<'a>,
+    early: &mut Pending<'a>,
+) -> Result<(), AllocError>
+    ensures { OnOk result ((inside : Standing) → none_stands early.new inside.behind_table
+        ≡ (none_stands early.old inside.behind_table && uses_early_names t.now
+        (joined (stands_of stands.now) inside) before.now (action_of action.now))) }
 {
     match action {
         Action::Assign(name, e) => {
             if !is_context_field(t, name) {
-                return Ok(true);
+                return Ok(());
             }
             let names = names_in(alloc, e)?;
-            Ok(all_early(stands, before, names.as_slice()))
+            use_names_early(stands, before, names.as_slice(), early)
         }
-        Action::GlobalSet(_, _) => Ok(true),
+        Action::GlobalSet(_, _) => Ok(()),
     }
 }
 
@@ -170,35 +241,72 @@ pub(crate) fn sets_context_field(t: &Tables, before: &NameSet, action: &Action) 
     }
 }
 
-/// Whether the address of a `globalset` is one.
-fn is_address(t: &Tables, stands: &JoinedNames, before: &NameSet, at: &Address) -> bool
-    ensures { result
-        ≡ is_address t.now (standing_among stands.now) before.now (operand_of_address at.now) }
+/// Whether a `globalset` may have the name as its address, whatever stands inside.
+fn is_address(t: &Tables, stands: &Stands, before: &NameSet, name: &[u8]) -> bool
+    ensures { result ≡ is_address t.now (stands_of stands.now) before.now (by_name name.now) }
+{
+    is_start(name)
+        || is_next(name)
+        || is_token_field(t, name) && stands.is_bare(name)
+        || before.has(name)
+}
+
+/// Rule 25 of a name that is an address, with the names so far.
+fn use_address_name<'a>(
+    t: &Tables,
+    stands: &Stands,
+    before: &NameSet,
+    name: &'a [u8],
+    address: &mut Pending<'a>,
+) -> Result<(), AllocError>
+    ensures { OnOk result ((inside : Standing) → all_stand address.new inside.bare
+        ≡ (all_stand address.old inside.bare
+        && is_address t.now (joined (stands_of stands.now) inside) before.now (by_name name.now))) }
+{
+    if is_address(t, stands, before, name) {
+        return Ok(());
+    }
+    if is_token_field(t, name) {
+        address.hang_on(name)?;
+    } else {
+        address.break_it();
+    }
+    Ok(())
+}
+
+/// Rule 25 of an address, with the names so far.
+fn use_operand<'a>(
+    t: &Tables,
+    stands: &Stands,
+    before: &NameSet,
+    at: &Address<'a>,
+    address: &mut Pending<'a>,
+) -> Result<(), AllocError>
+    ensures { OnOk result ((inside : Standing) → all_stand address.new inside.bare
+        ≡ (all_stand address.old inside.bare && is_address t.now (joined (stands_of stands.now) inside)
+        before.now (operand_of_address at.now))) }
 {
     match at {
-        Address::Name(name) => {
-            is_start(name)
-                || is_next(name)
-                || is_token_field(t, name) && stands.is_bare(name)
-                || before.has(name)
-        }
-        Address::Integer(_) => true,
+        Address::Name(name) => use_address_name(t, stands, before, name, address),
+        Address::Integer(_) => Ok(()),
     }
 }
 
-/// Rule 25, of one action.
+/// Rule 25, with one action more.
 #[tactic(auto, unfolding(crate::specs::ActionRules::has_address))]
-pub(crate) fn has_address(
+pub(crate) fn use_address<'a>(
     t: &Tables,
-    stands: &JoinedNames,
+    stands: &Stands,
     before: &NameSet,
-    action: &Action,
-) -> bool
-    ensures { result
-        ≡ has_address t.now (standing_among stands.now) before.now (action_of action.now) }
+    action: &Action<'a>,
+    address: &mut Pending<'a>,
+) -> Result<(), AllocError>
+    ensures { OnOk result ((inside : Standing) → all_stand address.new inside.bare
+        ≡ (all_stand address.old inside.bare && has_address t.now
+        (joined (stands_of stands.now) inside) before.now (action_of action.now))) }
 {
     match action {
-        Action::Assign(_, _) => true,
-        Action::GlobalSet(at, _) => is_address(t, stands, before, at),
+        Action::Assign(_, _) => Ok(()),
+        Action::GlobalSet(at, _) => use_operand(t, stands, before, at, address),
     }
 }

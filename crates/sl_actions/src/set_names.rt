@@ -1,15 +1,14 @@
 //! The names that actions set.
 
-ghost use Rattle.std.specs.Prelude.{◌≡◌, OnOk, IfOk};
+ghost use Rattle.std.specs.Prelude.{◌≡◌, ◌<◌, OnOk, get_or, length};
 ghost use Rattle.sl_ast.specs.Views.{action_of};
-ghost use Rattle.sl_actions.specs.ActionNames.{action_names, is_context_field, is_token_field};
+ghost use Rattle.sl_actions.specs.ActionNames.{is_context_field, is_token_field};
 ghost use Rattle.sl_actions.specs.ActionNames.{with_action, with_name};
-ghost use Rattle.sl_actions.specs.SeenActions.{seen_actions};
 
 use sl_ast::patterns::Action;
 use sl_rules::NameSet;
 use sl_spec::Tables;
-use std::alloc::{AllocError, Global};
+use std::alloc::AllocError;
 
 /// An action of a constructor or of a block round it.
 #[derive(Clone, Copy)]
@@ -35,6 +34,14 @@ pub(crate) fn is_token_field(t: &Tables, name: &[u8]) -> bool
         Some(field) => field.token.is_some(),
         None => false,
     }
+}
+
+/// The name at an index.
+pub(crate) fn name_at<'a>(names: &NameSet<'a>, index: usize) -> &'a [u8]
+    requires { index < length names.now }
+    ensures { result.now ≡ get_or names.now index result.now }
+{
+    names.at(index).unwrap_or(&[])
 }
 
 /// Adds a name, which stands once.
@@ -64,21 +71,4 @@ pub(crate) fn add_action<'a>(
         Action::GlobalSet(_, _) => {}
     }
     Ok(())
-}
-
-/// The names that actions set, each once, in the text's order. Fields of the context are none of
-/// them.
-pub fn action_names<'s, 'a>(
-    alloc: Global,
-    t: &Tables<'a>,
-    actions: &[ActionRef<'s, 'a>],
-) -> Result<NameSet<'a>, AllocError>
-    ensures { IfOk result (λ names. names
-        ≡ action_names t.now (seen_actions actions.now)) }
-{
-    let mut names = NameSet::new(alloc);
-    'actions: for index in 0..actions.len() {
-        add_action(t, &mut names, actions[index].action)?;
-    }
-    Ok(names)
 }

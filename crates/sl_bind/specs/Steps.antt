@@ -10,8 +10,9 @@ use Rattle.sl_constructors.specs.declared.made.MadeOfBlocks.{MadeOfBlocks}
 use Rattle.sl_rules.specs.declared.fault.Fault.{Fault}
 use Rattle.sl_rules.specs.declared.fault.Fault.TheVariants as fault
 use Rattle.sl_spec.specs.Numbers.{AreToldOf}
-use Rattle.sl_spec.specs.Tables.{Field, Table}
+use Rattle.sl_spec.specs.Tables.{Table}
 use Rattle.sl_spec.specs.Unfolded.{placed, unfolded_one}
+use Rattle.sl_spec.specs.declared.tables.Tables.{Tables}
 use Rattle.sl_spec.specs.declared.unfolded.Unfolded.{Unfolded}
 
 -- The rule is broken by this item, unless memory ran out.
@@ -38,8 +39,8 @@ abbrev pub GoesOn : ℕ → Item → ℕ → Type 0
 GoesOn number item next = (items : List Item)
     → unfolded_from number (item ∷ items) ≡ unfolded_one number item ++ unfolded_from next items
 
--- It is right where numbers tell the heads of the blocks round all these constructors, by the fields
--- so far and all tables of the text.
-abbrev pub IsMadeForAll : List Field → List Table → List Unfolded → MadeOfBlocks → Type 0
-IsMadeForAll fields tables us made =
-    (head_at : ℕ → Head) × AreToldOf head_at us × IsMade fields tables head_at made
+-- It is right where numbers tell the heads of the blocks round all these constructors, by all tables
+-- of the text and what is defined so far.
+abbrev pub IsMadeForAll : List Table → Tables → List Unfolded → MadeOfBlocks → Type 0
+IsMadeForAll tables t us made =
+    (head_at : ℕ → Head) × AreToldOf head_at us × IsMade tables t head_at made

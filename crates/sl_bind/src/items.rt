@@ -115,11 +115,11 @@ fn add_constructor<'s, 'a>(
     of: &Unfolded<'s, 'a>,
     made: &mut MadeOfBlocks<'a>,
 ) -> Result<(), Fault>
-    requires { IsMadeFor known.old.tables.fields tables.now of.now.heads.items made.old }
+    requires { IsMadeFor tables.now known.old.tables of.now.heads.items made.old }
     ensures gives { Gives (λ _. known.new) result (with_constructor_of tables.now known.old
         (placed of.now).0 (placed of.now).1) }
     ensures kept { IfOk result (λ _.
-        StaysMade known.old.tables.fields tables.now of.now.heads.items made.old made.new) }
+        StaysMade tables.now known.old.tables of.now.heads.items made.old made.new) }
 {
     begin(known, false)?;
     define_constructor(alloc, tables, &mut known.tables, of, made)
@@ -188,13 +188,11 @@ fn constructor<'s, 'a>(
     of: &Unfolded<'s, 'a>,
     made: &mut MadeOfBlocks<'a>,
 ) -> Result<(), Fault>
-    requires { IsMadeFor progress.old.known.tables.fields whole.now.tables of.now.heads.items
-        made.old }
+    requires { IsMadeFor whole.now.tables progress.old.known.tables of.now.heads.items made.old }
     ensures gives { Gives (λ _. progress.new) result
         (item_step whole.now progress.old (constructor_item of.now)) }
     ensures kept { IfOk result (λ _.
-        StaysMade progress.old.known.tables.fields whole.now.tables of.now.heads.items made.old
-        made.new) }
+        StaysMade whole.now.tables progress.old.known.tables of.now.heads.items made.old made.new) }
 {
     add_constructor(alloc, &whole.tables, &mut progress.known, of, made)?;
     demand_section(alloc, whole, progress, of)
@@ -208,13 +206,11 @@ fn take_constructor<'s, 'a>(
     of: &Unfolded<'s, 'a>,
     made: &mut MadeOfBlocks<'a>,
 ) -> Result<(), Stop>
-    requires { IsMadeFor progress.old.known.tables.fields whole.now.tables of.now.heads.items
-        made.old }
+    requires { IsMadeFor whole.now.tables progress.old.known.tables of.now.heads.items made.old }
     ensures gives { GivesAt (λ _. progress.new) result
         (placed_step whole.now progress.old (constructor_item of.now)) }
     ensures kept { IfOk result (λ _.
-        StaysMade progress.old.known.tables.fields whole.now.tables of.now.heads.items made.old
-        made.new) }
+        StaysMade whole.now.tables progress.old.known.tables of.now.heads.items made.old made.new) }
 {
     match constructor(alloc, whole, progress, of, made) {
         Ok(()) => Ok(()),
@@ -222,8 +218,8 @@ fn take_constructor<'s, 'a>(
     }
 }
 
-/// Takes constructors in their order. What is asked of the pattern of a block is made once for all of
-/// them.
+/// Takes constructors in their order. What is asked of the pattern and the actions of a block is made
+/// once for all of them.
 fn take_constructors<'s, 'a>(
     alloc: Global,
     whole: &Whole<'a>,

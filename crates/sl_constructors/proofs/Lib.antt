@@ -1,5 +1,4 @@
 pub mod BlockLemmas
-mod BlockNameLemmas
 mod DemandLemmas
 pub mod DisplayLemmas
 pub mod FactLemmas

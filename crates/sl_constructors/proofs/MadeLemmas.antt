@@ -27,7 +27,7 @@ none_made {V} IsRight head_at made none = λ n v found. never n v (ap (λ (m : L
     never : (n : ℕ) (v : V) → None ≡ Some v → IsRight (head_at n) v
     never n v is = absurd (cc)
 
--- what follows, follows where a call succeeds
-pub where_ok : {X E P Q : Type 0} (r : Result X E) → (P → Q) → IfOk r (λ _. P) → IfOk r (λ _. Q)
-where_ok (Ok x) follows p = follows p
-where_ok (Err e) follows p = tt
+-- a fact that doesn't speak of what was returned
+pub anyway : {X E P : Type 0} (r : Result X E) → P → IfOk r (λ _. P)
+anyway (Ok x) p = p
+anyway (Err e) p = tt

@@ -1,4 +1,3 @@
-pub mod BlockNames
 pub mod Blocks
 pub mod ConstraintValues
 pub mod ConstructorRules

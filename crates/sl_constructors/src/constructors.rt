@@ -2,32 +2,30 @@
 
 ghost use Rattle.std.specs.Prelude.{◌≡◌, [], OnOk, IfOk};
 ghost use Rattle.sl_rules.specs.Demands.{Gives, first_broken};
+ghost use Rattle.sl_actions.specs.ActionNames.{action_names};
 ghost use Rattle.sl_actions.specs.ActionRules.{action_demands};
-ghost use Rattle.sl_actions.specs.SeenActions.{seen_actions};
-ghost use Rattle.sl_constructors.specs.BlockNames.{AreNamesOfHead};
+ghost use Rattle.sl_ast.specs.Unfolding.{written};
 ghost use Rattle.sl_constructors.specs.ConstructorRules.{is_of_root, may_begin, shows_operands};
-ghost use Rattle.sl_constructors.specs.FactSteps.{demands_before, demands_by, operands_with};
+ghost use Rattle.sl_constructors.specs.FactSteps.{demands_before, demands_by};
 ghost use Rattle.sl_constructors.specs.FactSteps.{step_with};
 ghost use Rattle.sl_constructors.specs.Made.{IsMadeFor, StaysMade};
+ghost use Rattle.sl_constructors.specs.Operands.{operands};
 ghost use Rattle.sl_constructors.specs.Steps.{added, constructor_step, with_ctor};
 ghost use Rattle.sl_constructors.specs.WholeText.{table_name};
 ghost use Rattle.sl_parts.specs.Parts.{parts_of};
-ghost use Rattle.sl_spec.specs.Numbers.{AreMadeFor, KeepsMade};
 ghost use Rattle.sl_spec.specs.Unfolded.{placed};
 
-use crate::block_names::names_of_unfolded;
 use crate::displays::shows_operands;
 use crate::facts::{PatternFacts, facts_of_unfolded};
 use crate::made::MadeOfBlocks;
 use crate::operands::{operand_names, operands, small, table_number};
 use crate::patterns::are_few;
 use crate::whole_text::table_name;
-use sl_actions::{ActionRef, PatternNames, action_names, actions_of_unfolded, judge_actions};
+use sl_actions::{ActionFacts, judge_actions};
 use sl_definitions::is_new;
 use sl_rules::{Fault, NameSet};
-use sl_spec::{ByBlock, Ctor, CtorId, Named, Operand, Table, TableId, Tables, Unfolded};
+use sl_spec::{Ctor, CtorId, Named, Operand, Table, TableId, Tables, Unfolded};
 use std::alloc::{AllocError, Global};
-use std::rc::Rc;
 
 /// Rule 3, of a table: it has a constructor before, or its name is new.
 fn may_begin(t: &Tables, name: &[u8]) -> bool
@@ -96,44 +94,18 @@ fn broken_before_actions<'s, 'a>(
     broken_in_pattern(alloc, facts, names)
 }
 
-/// The first rule that the actions of a constructor break. The names of its pattern are gathered for
-/// actions alone.
-#[tactic(auto, unfolding(sl_actions::specs::ActionRules::each_holds))]
-fn broken_in_actions<'s, 'a>(
-    alloc: Global,
-    tables: &Named<'a, Table<'a>>,
-    t: &Tables<'a>,
-    of: &Unfolded<'s, 'a>,
-    actions: &[ActionRef<'s, 'a>],
-    made: &mut ByBlock<Rc<PatternNames<'a>>>,
-) -> Result<Option<u8>, AllocError>
-    requires { AreMadeFor (AreNamesOfHead tables.now) of.now.heads.items made.old }
-    ensures broken { IfOk result (λ broken. broken ≡ first_broken
-        (action_demands tables.now t.now (parts_of tables.now (placed of.now).1.pattern)
-        (seen_actions actions.now))) }
-    ensures kept { IfOk result (λ _.
-        KeepsMade (AreNamesOfHead tables.now) of.now.heads.items made.old made.new) }
-{
-    if actions.is_empty() {
-        return Ok(None);
-    }
-    let stands = names_of_unfolded(alloc, tables, of, made)?;
-    judge_actions(alloc, tables, t, &stands, actions)
-}
-
-/// The operands of a constructor, by the bare names of its pattern and its actions.
-fn operands_of<'s, 'a>(
+/// The operands of a constructor, by the bare names of its pattern and the names that its actions set.
+fn operands_of<'a>(
     alloc: Global,
     tables: &Named<'a, Table<'a>>,
     t: &Tables<'a>,
     facts: &PatternFacts<'a>,
-    actions: &[ActionRef<'s, 'a>],
+    given: &NameSet<'a>,
 ) -> Result<Vec<Operand<'a>>, AllocError>
     ensures { IfOk result (λ all. all.items
-        ≡ operands_with tables.now t.now facts.now (seen_actions actions.now)) }
+        ≡ operands t.now.fields tables.now facts.now.bare given.now) }
 {
-    let given = action_names(alloc, t, actions)?;
-    operands(alloc, &t.fields, tables, facts.bare.as_slice(), &given)
+    operands(alloc, &t.fields, tables, facts.bare.as_slice(), given)
 }
 
 /// Adds a constructor to a table.
@@ -172,30 +144,29 @@ fn add_with<'s, 'a>(
     add(alloc, t, name, added)
 }
 
-/// Adds a constructor whose pattern is known by what is said of it, or tells the first rule that it
-/// breaks.
+/// Adds a constructor by what is said of its pattern and of its actions, or tells the first rule that
+/// it breaks.
 fn define_by<'s, 'a>(
     alloc: Global,
     tables: &Named<'a, Table<'a>>,
     t: &mut Tables<'a>,
     of: &Unfolded<'s, 'a>,
     facts: &PatternFacts<'a>,
-    made: &mut ByBlock<Rc<PatternNames<'a>>>,
+    actions: &ActionFacts<'a>,
 ) -> Result<(), Fault>
-    requires { AreMadeFor (AreNamesOfHead tables.now) of.now.heads.items made.old }
-    ensures gives { Gives (λ _. t.new) result
+    requires given { actions.now.given
+        ≡ action_names t.old (written (placed of.now).1.actions) }
+    requires broken { actions.now.broken ≡ first_broken (action_demands tables.now t.old
+        (parts_of tables.now (placed of.now).1.pattern) (written (placed of.now).1.actions)) }
+    ensures { Gives (λ _. t.new) result
         (step_with tables.now t.old (placed of.now).0 (placed of.now).1 facts.now) }
-    ensures kept { IfOk result (λ _.
-        KeepsMade (AreNamesOfHead tables.now) of.now.heads.items made.old made.new) }
 {
-    let actions = actions_of_unfolded(alloc, of)?;
-    let actions = actions.as_slice();
-    let operands = operands_of(alloc, tables, t, facts, actions)?;
+    let operands = operands_of(alloc, tables, t, facts, &actions.given)?;
     let names = operand_names(alloc, operands.as_slice())?;
     if let Some(rule) = broken_before_actions(alloc, t, of, facts, &names)? {
         return Err(Fault::Rule(rule));
     }
-    if let Some(rule) = broken_in_actions(alloc, tables, t, of, actions, made)? {
+    if let Some(rule) = actions.broken {
         return Err(Fault::Rule(rule));
     }
     add_with(alloc, tables, t, of, operands)?;
@@ -203,9 +174,10 @@ fn define_by<'s, 'a>(
 }
 
 /// Defines a constructor (SLEIGH manual, "Constructors"). `tables` are all tables of the text.
-/// `made` is what is made of the patterns of blocks, as long as no field is defined: of a block it is
-/// made once, and all constructors inside are judged by it. The actions of a constructor are judged
-/// with those of the blocks round it, by the names of the whole pattern.
+/// `made` is what is made of the patterns and the actions of blocks, as long as nothing but
+/// constructors is defined: of a block it is made once, and all constructors inside are judged by it.
+/// The actions of a constructor are judged behind those of the blocks round it, by the names of the
+/// whole pattern.
 pub fn define_constructor<'s, 'a>(
     alloc: Global,
     tables: &Named<'a, Table<'a>>,
@@ -213,12 +185,13 @@ pub fn define_constructor<'s, 'a>(
     of: &Unfolded<'s, 'a>,
     made: &mut MadeOfBlocks<'a>,
 ) -> Result<(), Fault>
-    requires { IsMadeFor t.old.fields tables.now of.now.heads.items made.old }
+    requires { IsMadeFor tables.now t.old of.now.heads.items made.old }
     ensures gives { Gives (λ _. t.new) result
         (constructor_step tables.now t.old (placed of.now).0 (placed of.now).1) }
     ensures kept { IfOk result (λ _.
-        StaysMade t.old.fields tables.now of.now.heads.items made.old made.new) }
+        StaysMade tables.now t.old of.now.heads.items made.old made.new) }
 {
     let facts = facts_of_unfolded(alloc, &t.fields, tables, of, &mut made.facts)?;
-    define_by(alloc, tables, t, of, &facts, &mut made.names)
+    let actions = judge_actions(alloc, tables, t, of, &mut made.actions)?;
+    define_by(alloc, tables, t, of, &facts, &actions)
 }

@@ -1,7 +1,6 @@
 //! Constructors: all rules by which one is judged, and what each adds to the tables.
 #![tactic(auto)]
 
-mod block_names;
 mod constraints;
 mod constructors;
 mod displays;

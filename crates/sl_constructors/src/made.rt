@@ -3,17 +3,16 @@
 ghost use Rattle.sl_constructors.specs.Made.{IsMadeAnyway};
 
 use crate::facts::PatternFacts;
-use sl_actions::PatternNames;
+use sl_actions::JudgedBlocks;
 use sl_spec::ByBlock;
 use std::alloc::Global;
-use std::rc::Rc;
 
 /// What was made of blocks, once for all constructors inside: what rules 17 to 20 say of their
-/// patterns, and the names of those, if a constructor inside has actions.
+/// patterns, and what is known of their actions by rules 21 to 25.
 #[derive(Drop)]
 pub struct MadeOfBlocks<'a> {
     pub(crate) facts: ByBlock<PatternFacts<'a>>,
-    pub(crate) names: ByBlock<Rc<PatternNames<'a>>>,
+    pub(crate) actions: JudgedBlocks<'a>,
 }
 
 impl<'a> MadeOfBlocks<'a> {
@@ -23,7 +22,7 @@ impl<'a> MadeOfBlocks<'a> {
     {
         MadeOfBlocks {
             facts: ByBlock::new(alloc),
-            names: ByBlock::new(alloc),
+            actions: JudgedBlocks::new(alloc),
         }
     }
 }

@@ -7,10 +7,10 @@ use Rattle.sl_bind.proofs.items.add_constructor.Goals as goal
 
 pub define_constructor-requires : goal.define_constructor-requires
 define_constructor-requires c =
-    subst (λ (t : Tables). IsMadeFor t.fields c.args.tables.now c.args.of.now.heads.items c.args.made.now)
+    subst (λ (t : Tables). IsMadeFor c.args.tables.now t c.args.of.now.heads.items c.args.made.now)
     (begins_as c.args.known.now c.begin.new.known false c.in_ok-begin.ensures.step) c.requires
 
 pub returns-clause-kept : goal.returns-clause-kept
 returns-clause-kept c =
-    subst (λ (t : Tables). IfOk c.define_constructor.result (λ _. StaysMade t.fields c.args.tables.now c.args.of.now.heads.items c.args.made.now c.define_constructor.new.made))
+    subst (λ (t : Tables). IfOk c.define_constructor.result (λ _. StaysMade c.args.tables.now t c.args.of.now.heads.items c.args.made.now c.define_constructor.new.made))
     (sym (begins_as c.args.known.now c.begin.new.known false c.in_ok-begin.ensures.step)) c.define_constructor.ensures.kept

@@ -10,11 +10,11 @@ use Rattle.sl_spec.specs.Unfolded.{placed}
 use Rattle.sl_bind.proofs.items.take_constructors.Goals as goal
 
 pub constructors-init : goal.constructors-init
-constructors-init c = (refl, none_made c.args.progress.now.known.tables.fields c.args.whole.now.tables c.args.all.now _ c.new-made.ensures c.requires)
+constructors-init c = (refl, none_made c.args.whole.now.tables c.args.progress.now.known.tables c.args.all.now _ c.new-made.ensures c.requires)
 
 pub take_constructor-requires : goal.take_constructor-requires
 take_constructor-requires c =
-    made_for_one c.constructors.progress.known.tables.fields c.args.whole.now.tables c.args.all.now c.constructors.index c.index-all-index.result c.constructors-test.true c.index-all-index.is
+    made_for_one c.args.whole.now.tables c.constructors.progress.known.tables c.args.all.now c.constructors.index c.index-all-index.result c.constructors-test.true c.index-all-index.is
     c.constructors.made c.constructors.invariant.1
 
 pub returns-in_err-take_constructor : goal.returns-in_err-take_constructor
@@ -35,7 +35,7 @@ constructors-preserved c =
     let before = c.constructors.progress in
     let below = c.constructors-test.true in
     let is = c.in_ok-take_constructor.ensures.gives in
-    let made = made_behind_one before.known.tables.fields w.tables all i u below c.index-all-index.is c.constructors.made c.take_constructor.new.made c.in_ok-take_constructor.ensures.kept c.constructors.invariant.1 in (
+    let made = made_behind_one w.tables before.known.tables all i u below c.index-all-index.is c.constructors.made c.take_constructor.new.made c.in_ok-take_constructor.ensures.kept c.constructors.invariant.1 in (
       run_goes (placed_step w) c.args.progress.now (map constructor_item all) before c.take_constructor.new.progress i
           (constructor_item u) (below_map constructor_item all i below)
           (seen_map constructor_item all i u below c.index-all-index.is) is c.constructors.invariant.0,

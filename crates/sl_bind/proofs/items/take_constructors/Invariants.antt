@@ -6,4 +6,4 @@ use Rattle.sl_bind.proofs.items.take_constructors.Given as goal
 
 abbrev pub invariant-constructors : goal.invariant-constructors
 invariant-constructors l = IsRun (placed_step l.whole) l.initial.progress (map constructor_item l.all) l.progress l.index
-    × IsMadeForAll l.progress.known.tables.fields l.whole.tables l.all l.made
+    × IsMadeForAll l.whole.tables l.progress.known.tables l.all l.made
