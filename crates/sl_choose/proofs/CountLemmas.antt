@@ -1,18 +1,15 @@
 -- How many entries each side of bits has, and when a split helps and fits.
-use Rattle.std.proofs.Common.{◌≡◌, ◌↔◌, ℕ, zero, suc, ◌+◌, ◌-◌, ◌<◌, ◌≤◌, List, [], ◌∷◌, length, get_or, take, Option, Some, None, Bool, true, false, cond, not, ◌&&◌, IsPermutation, arith, sym, ◌∙◌, ap, refl, subst, eq-eqb, eqb-true}
+use Rattle.std.proofs.Common.{◌≡◌, ◌↔◌, ◌⊎◌, inl, inr, ℕ, zero, suc, ◌+◌, ◌<◌, ◌≤◌, List, [], ◌∷◌, length, get_or, take, Bool, true, false, cond, not, ◌&&◌, IsPermutation, arith, sym, ◌∙◌, ap, refl, eq-eqb, eqb-true}
 use Rattle.std.specs.Int.Bits.{and_zero_r}
-use Rattle.std.specs.Prelude.{Contains, MatchOption, bit_and, count_by}
+use Rattle.std.specs.Prelude.{Contains, bit_and, count_by}
 use Rattle.std.proofs.lemmas.Nat.{and_xor_apart}
 use Rattle.std.proofs.lemmas.Bool.{and_from, and_left, and_parts, and_right, false_from_ne_true, false≢true, not-false, not_from_false, not_from_true}
 use Rattle.std.proofs.lemmas.List.Sums.{count_by-le-length, sum_by-cons, sum_by_more}
 use Rattle.std.proofs.lemmas.List.Sorted.{length_permutation, sum_by-IsPermutation}
-use Rattle.std.proofs.lemmas.Option.{same_Some}
 use Rattle.sl_cube.specs.declared.Cube.{Cube}
 use Rattle.sl_cube.specs.declared.Point.{Point}
 use Rattle.sl_choose.specs.declared.Entry.{Entry}
 use Rattle.sl_choose.specs.declared.shared.Shared.{Shared}
-use Rattle.sl_choose.specs.declared.splits.Best.{Best}
-use Rattle.sl_choose.specs.Best.{IsBest}
 use Rattle.sl_choose.specs.Shared.{HasNone, IsShared, cleared}
 use Rattle.sl_choose.specs.Sides.{Covers, HasNoForced, IsForced, SetsNone, byte_bit, context_bit, fixes, has_count, lacks_count, may_have, may_lack}
 use Rattle.sl_choose.specs.Splits.{IsSplit, IsUnsplit}
@@ -193,26 +190,8 @@ pub lack_is : (bits : Point) (c : Cube) (b : Bool) → (b ≡ true) ↔ SetsNone
 lack_is bits c true is = sym (lack_true bits c (is.0 refl))
 lack_is bits c false is = sym (lack_false bits c (λ none. false≢true (is.1 none)))
 
--- ---- the best bits
+-- ---- splits by what cubes have in common
 
-pub best_of : (entries : List Entry) (room low high larger before : ℕ) (bits : Point) → low ≡ lacks_count bits entries → high ≡ has_count bits entries
-    → low ≤ larger → high ≤ larger → larger < before → before ≤ length entries → high ≤ room - low → low ≤ room → IsBest entries room (record { bits = Some bits; larger = larger })
-best_of entries room low high larger before bits low_is high_is below_low below_high better most fits within =
-    let split : IsSplit entries bits room = record {
-      low_fewer = omega (arith, low_is, below_low, better, most);
-      high_fewer = omega (arith, high_is, below_high, better, most);
-      fit = omega (arith, low_is, high_is, fits, within);
-    } in
-    record {
-      some = λ other e. subst (λ (b : Point). IsSplit entries b room) (same_Some bits other e) split;
-      most = omega (arith, better, most);
-      none = λ e. absurd cc;
-    }
-
-pub wished_from : (entries : List Entry) (room : ℕ) (best : Best) → IsBest entries room best → (best.bits ≡ None → IsUnsplit entries room)
-    → MatchOption best.bits (IsUnsplit entries room) (λ bits. IsSplit entries bits room)
-wished_from entries room best is none = by best.bits refl
-  where
-    by : (found : Option Point) → best.bits ≡ found → MatchOption found (IsUnsplit entries room) (λ bits. IsSplit entries bits room)
-    by None e = none e
-    by (Some bits) e = is.some bits e
+pub same_splits : (entries : List Entry) (s : Shared) (bits : Point) (room : ℕ) → IsShared entries s → HasNone s.some bits ⊎ HasNone s.clear bits → IsSplit entries bits room → ⊥
+same_splits entries s bits room shared (inl none) = none_set_splits entries s bits room shared none
+same_splits entries s bits room shared (inr none) = none_clear_splits entries s bits room shared none

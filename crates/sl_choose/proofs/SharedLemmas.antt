@@ -1,13 +1,13 @@
 -- What the cubes of some first entries have in common.
-use Rattle.std.proofs.Common.{◌≡◌, ◌≢◌, inl, inr, ℕ, ◌+◌, ◌-◌, ◌<◌, ◌≤◌, ◌^◌, List, length, get_or, below_more, min, max, bit_and, bit_or, arith, sym, ◌∙◌, ap, subst}
+use Rattle.std.proofs.Common.{◌≡◌, ◌≢◌, ◌⊎◌, inl, inr, ℕ, ◌+◌, ◌-◌, ◌<◌, ◌≤◌, ◌^◌, List, length, get_or, below_more, min, max, bit_and, bit_or, arith, sym, ◌∙◌, ap, subst}
 use mir.Val.{bits as width_of}
-use Rattle.std.specs.Int.{Width, bit_at, trailing_zeros}
+use Rattle.std.specs.Int.{Width, bit_at, bit_not, trailing_zeros}
 use Rattle.std.specs.Int.Bits.{and_zero_l, and_zero_r}
 use Rattle.std.specs.List.{HoldsAt}
 use Rattle.std.specs.Prelude.{Contains}
 use Rattle.std.proofs.Math.Pow.{pow-lt}
-use Rattle.std.proofs.lemmas.Nat.{and-not, and_assoc, and_comm, and_le_l}
-use Rattle.std.proofs.lemmas.Nat.Bits.{bit_at_and, bit_at_or, bit_at-lt, bit_at-pow_other, bit_at-pow_same, bit_at-trailing_zeros, bit_at-zero, same_from_bits}
+use Rattle.std.proofs.lemmas.Nat.{and-not, and_assoc, and_comm, and_le_l, trailing_le}
+use Rattle.std.proofs.lemmas.Nat.Bits.{bit_at_and, bit_at_not, bit_at_or, bit_at-lt, bit_at-pow_other, bit_at-pow_same, bit_at-trailing_zeros, bit_at-zero, same_from_bits}
 use Rattle.std.proofs.lemmas.Bool.{cases_lt}
 use Rattle.std.proofs.lemmas.List.Elements.{at_read}
 use Rattle.sl_cube.specs.Points.{InRange}
@@ -174,14 +174,33 @@ bit_out n k out = same_from_bits _ _ (λ i.
       ]
     ])
 
--- Below the least bit that all cubes fix and some cube fixes to 1 no cubes differ.
-pub none_below : (w : Width) (f s k : ℕ) → f < 2 ^ width_of w → k < trailing_zeros w (bit_and f s) → bit_and f (2 ^ k) ≡ 2 ^ k → (bit_and s (2 ^ k) ≡ 0 → ⊥) → ⊥
-none_below w f s k within below fixed some =
-    let less : bit_and f s ≤ f = and_le_l f s in
-    let out : bit_at (bit_and f s) k ≡ 0 = first_open w (bit_and f s) k (omega (arith, less, within)) below in
-    let both : min (bit_at f k) (bit_at s k) ≡ 0 = sym (bit_at_and f s k) ∙ out in
+open_not : (w : Width) (n k : ℕ) → n < 2 ^ width_of w → k < width_of w → bit_and n (2 ^ k) ≡ 0 → bit_at (bit_not w n) k ≡ 1
+open_not w n k within below out =
+    let one : bit_at (2 ^ k) k ≡ 1 = bit_at-pow_same k in
+    let both : min (bit_at n k) (bit_at (2 ^ k) k) ≡ 0 = sym (bit_at_and n (2 ^ k) k) ∙ ap (λ x. bit_at x k) out ∙ bit_at-zero k in
+    omega (arith, one, both, bit_at-lt n k, bit_at_not w n k within below)
+
+-- Below the least bit that all cubes fix, some cube fixes to 1, and not all do, no cubes differ.
+pub none_below : (w : Width) (f s a k : ℕ) → f < 2 ^ width_of w → a < 2 ^ width_of w → k < trailing_zeros w (bit_and (bit_and f s) (bit_not w a))
+    → bit_and f (2 ^ k) ≡ 2 ^ k → (bit_and s (2 ^ k) ≡ 0 → ⊥) → bit_and a (2 ^ k) ≡ 0 → ⊥
+none_below w f s a k within all_within below fixed some all =
+    let less : bit_and (bit_and f s) (bit_not w a) ≤ f = omega (arith, and_le_l (bit_and f s) (bit_not w a), and_le_l f s) in
+    let out : bit_at (bit_and (bit_and f s) (bit_not w a)) k ≡ 0 = first_open w (bit_and (bit_and f s) (bit_not w a)) k (omega (arith, less, within)) below in
+    let both : min (min (bit_at f k) (bit_at s k)) (bit_at (bit_not w a) k) ≡ 0 =
+    ap (λ x. min x (bit_at (bit_not w a) k)) (sym (bit_at_and f s k)) ∙ sym (bit_at_and (bit_and f s) (bit_not w a) k) ∙ out in
     let has : bit_at f k ≡ 1 = bit_in f k fixed in
-    some (bit_out s k (let small = bit_at-lt s k in omega (arith, both, has, small)))
+    let clear : bit_at (bit_not w a) k ≡ 1 = open_not w a k all_within (omega (arith, below, trailing_le (width_of w) (bit_and (bit_and f s) (bit_not w a)))) all in
+    some (bit_out s k (omega (arith, both, has, clear, bit_at-lt s k)))
+
+-- Below the least bit that some cube fixes to 1 and some cube fixes to 0 there is no such bit.
+pub same_below : (w : Width) (s c k : ℕ) → s < 2 ^ width_of w → k < trailing_zeros w (bit_and s c) → (bit_and s (2 ^ k) ≡ 0) ⊎ (bit_and c (2 ^ k) ≡ 0)
+same_below w s c k within below =
+    let out : bit_at (bit_and s c) k ≡ 0 = first_open w (bit_and s c) k (omega (arith, and_le_l s c, within)) below in
+    let both : min (bit_at s k) (bit_at c k) ≡ 0 = sym (bit_at_and s c k) ∙ out in
+    elim (cases_lt 0 (bit_at s k)) [
+      | inl some ↦ inr (bit_out c k (omega (arith, both, some)))
+      | inr none ↦ inl (bit_out s k (omega (arith, none)))
+    ]
 
 bit_fits : (k w : ℕ) → k < w → 2 ^ k < 2 ^ w
 bit_fits k w below = pow-lt below

@@ -8,4 +8,3 @@ pub mod Laws
 pub mod Picked
 pub mod Added
 pub mod Splits
-pub mod Best

@@ -1,5 +1,5 @@
 -- step: what the cubes of entries have in common, and what it tells of bits.
-use Rattle.std.specs.Prelude.{◌≡◌, ℕ, ◌<◌, List, Contains, bit_and, bit_or, bit_xor}
+use Rattle.std.specs.Prelude.{◌≡◌, ℕ, ◌<◌, ◌⊎◌, List, Contains, bit_and, bit_or, bit_xor}
 use Rattle.sl_cube.specs.Points.{InRange}
 use Rattle.sl_cube.specs.declared.Cube.{Cube}
 use Rattle.sl_cube.specs.declared.Point.{Point}
@@ -40,3 +40,7 @@ pub record MayDiffer (s : Shared) (bits : Point) : Type 0 where
 -- In no bit before this one two cubes may differ.
 abbrev pub HasNoneBefore : (ℕ → Point) → Shared → ℕ → Type 0
 HasNoneBefore bit s n = (k : ℕ) → k < n → MayDiffer s (bit k) → ⊥
+
+-- Each bit before this one is fixed to 1 by no cube, or to 0 by none.
+abbrev pub AreSameBefore : (ℕ → Point) → Shared → ℕ → Type 0
+AreSameBefore bit s n = (k : ℕ) → k < n → HasNone s.some (bit k) ⊎ HasNone s.clear (bit k)

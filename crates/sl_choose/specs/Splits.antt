@@ -11,10 +11,16 @@ pub record IsSplit (entries : List Entry) (bits : Point) (room : ℕ) : Type 0 w
   pub high_fewer : has_count bits entries < length entries
   pub fit : lacks_count bits entries + has_count bits entries ≤ room
 
+abbrev pub IsUnsplitByte : List Entry → ℕ → ℕ → Type 0
+IsUnsplitByte entries room n = (k : ℕ) → k < n → IsSplit entries (byte_bit k) room → ⊥
+
+abbrev pub IsUnsplitContext : List Entry → ℕ → ℕ → Type 0
+IsUnsplitContext entries room n = (k : ℕ) → k < n → IsSplit entries (context_bit k) room → ⊥
+
 -- No bit splits the entries within the room.
 pub record IsUnsplit (entries : List Entry) (room : ℕ) : Type 0 where
-  pub bytes : (k : ℕ) → k < 128 → IsSplit entries (byte_bit k) room → ⊥
-  pub context : (k : ℕ) → k < 64 → IsSplit entries (context_bit k) room → ⊥
+  pub bytes : IsUnsplitByte entries room 128
+  pub context : IsUnsplitContext entries room 64
 
 -- The entry is in a leaf of the tree.
 abbrev pub HasEntry : Node → Entry → Type 0

@@ -43,7 +43,7 @@ impl Chooser {
         let entries = entries_of(alloc, ctors, sets)?;
         let ranks = ranks_of(alloc, sets)?;
         let cubes = entries.len();
-        let root = grow(alloc, &ranks, &entries, 4 * cubes)?;
+        let root = grow(alloc, &ranks, entries, 4 * cubes)?;
         Ok(Chooser { root, cubes })
     }
 

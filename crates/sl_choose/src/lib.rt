@@ -2,8 +2,10 @@
 #![tactic(auto)]
 
 mod chooser;
+mod counts;
 mod entries;
 pub mod laws;
+mod likely;
 mod order;
 mod precedence;
 mod ranks;

@@ -1,7 +1,8 @@
 //! What the cubes of entries have in common.
 
 ghost use Rattle.std.specs.Prelude.{◌≡◌, ◌↔◌, ◌-◌, ◌^◌, ◌≤◌, IsTrue};
-ghost use Rattle.sl_choose.specs.Shared.{HasAll, HasNone, HasNoneBefore, IsShared, Joins, MayDiffer};
+ghost use Rattle.sl_choose.specs.Shared.{AreSameBefore, HasAll, HasNone, HasNoneBefore, IsShared, Joins};
+ghost use Rattle.sl_choose.specs.Shared.{MayDiffer};
 ghost use Rattle.sl_choose.specs.Sides.{byte_bit, context_bit};
 
 use super::Entry;
@@ -106,7 +107,7 @@ pub fn first_byte_bit(shared: &Shared) -> u32
     ensures none { HasNoneBefore byte_bit shared.now result }
     ensures most { result ≤ 128 }
 {
-    (shared.fixed.bytes & shared.some.bytes).trailing_zeros()
+    (shared.fixed.bytes & shared.some.bytes & !shared.all.bytes).trailing_zeros()
 }
 
 /// The same of the bits of the context.
@@ -114,5 +115,28 @@ pub fn first_context_bit(shared: &Shared) -> u32
     ensures none { HasNoneBefore context_bit shared.now result }
     ensures most { result ≤ 64 }
 {
-    (shared.fixed.context & shared.some.context).trailing_zeros()
+    (shared.fixed.context & shared.some.context & !shared.all.context).trailing_zeros()
+}
+
+/// The bits that some cube fixes to 0 and some cube fixes to 1.
+pub fn open_bits(shared: &Shared) -> Point {
+    Point {
+        bytes: shared.some.bytes & shared.clear.bytes,
+        context: shared.some.context & shared.clear.context,
+    }
+}
+
+/// The least place of a bit of the bytes that some cube fixes to 0 and some cube fixes to 1; 128
+/// where there is none.
+pub fn first_open_byte(shared: &Shared) -> u32
+    ensures { AreSameBefore byte_bit shared.now result }
+{
+    (shared.some.bytes & shared.clear.bytes).trailing_zeros()
+}
+
+/// The same of the bits of the context; 64 where there is none.
+pub fn first_open_context(shared: &Shared) -> u32
+    ensures { AreSameBefore context_bit shared.now result }
+{
+    (shared.some.context & shared.clear.context).trailing_zeros()
 }

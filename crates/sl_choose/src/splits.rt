@@ -1,13 +1,14 @@
 //! The bit at which entries are split.
 
-ghost use Rattle.std.specs.Prelude.{◌≡◌, ◌+◌, ◌-◌, ◌^◌, ◌<◌, ◌≤◌, ◌↔◌, MatchOption, None, cond, length};
-ghost use Rattle.sl_choose.specs.Best.{IsBest, IsUnsplitByte, IsUnsplitContext};
+ghost use Rattle.std.specs.Prelude.{◌≡◌, ◌+◌, ◌-◌, ◌^◌, ◌<◌, ◌≤◌, ◌↔◌, IsTrue, MatchOption};
+ghost use Rattle.std.specs.Prelude.{cond, length};
 ghost use Rattle.sl_choose.specs.Shared.{IsShared};
 ghost use Rattle.sl_choose.specs.Sides.{has_count, lacks_count, may_have, may_lack};
-ghost use Rattle.sl_choose.specs.Splits.{IsSplit, IsUnsplit};
+ghost use Rattle.sl_choose.specs.Splits.{IsSplit, IsUnsplit, IsUnsplitByte, IsUnsplitContext};
 
 use super::Entry;
-use super::shared::{Shared, has_none, shared_by};
+use super::likely::likely;
+use super::shared::{Shared, first_open_byte, first_open_context, has_none, shared_by};
 use super::sides::{covers, forced, sets_none};
 use sl_cube::{Cube, Point};
 
@@ -16,14 +17,6 @@ use sl_cube::{Cube, Point};
 struct SideLengths {
     low: usize,
     high: usize,
-}
-
-/// The bits that were found to split the entries best, and how many entries the larger side has: all
-/// entries, where none were found.
-#[derive(Clone, Copy, Debug)]
-struct Best {
-    bits: Option<Point>,
-    larger: usize,
 }
 
 /// Whether the cube may have a point with none of the bits.
@@ -66,89 +59,77 @@ fn lengths(entries: &[Entry], bits: &Point) -> SideLengths
     SideLengths { low, high }
 }
 
-/// The better of the best bits so far and these: those whose larger side has fewer entries. They
-/// count only where both sides fit the room.
-fn better(shared: &Shared, entries: &[Entry], room: usize, best: Best, bits: Point) -> Best
+/// Whether each side of the bits has fewer entries, and both fit the room.
+fn splits(shared: &Shared, entries: &[Entry], room: usize, bits: &Point) -> bool
     requires shared { IsShared entries.now shared.now }
     requires fits { length entries.now ≤ room }
-    requires best { IsBest entries.now room best }
-    ensures best { IsBest entries.now room result }
-    ensures none { result.bits ≡ None → best.bits ≡ None }
-    ensures unsplit { result.bits ≡ None → IsSplit entries.now bits room → ⊥ }
+    ensures { IsTrue result ↔ IsSplit entries.now bits.now room }
 {
-    if has_none(&shared.some, &bits) {
-        return best;
+    if has_none(&shared.some, bits) {
+        return false;
     }
-    if has_none(&shared.clear, &bits) {
-        return best;
+    if has_none(&shared.clear, bits) {
+        return false;
     }
-    let sides = lengths(entries, &bits);
-    let larger = sides.low.max(sides.high);
-    if larger >= best.larger {
-        return best;
-    }
-    if sides.high > room - sides.low {
-        return best;
-    }
-    Best {
-        bits: Some(bits),
-        larger,
-    }
+    let sides = lengths(entries, bits);
+    let fewer = sides.low.max(sides.high) < entries.len();
+    fewer && sides.high <= room - sides.low
 }
 
-/// The better of the best bits so far and each bit of the bytes.
-fn of_bytes(shared: &Shared, entries: &[Entry], room: usize, before: Best) -> Best
+/// The least bit of the bytes that splits the entries.
+fn first_byte(shared: &Shared, entries: &[Entry], room: usize) -> Option<Point>
     requires shared { IsShared entries.now shared.now }
     requires fits { length entries.now ≤ room }
-    requires best { IsBest entries.now room before }
-    ensures best { IsBest entries.now room result }
-    ensures none { result.bits ≡ None → before.bits ≡ None }
-    ensures unsplit { result.bits ≡ None → IsUnsplitByte entries.now room 128 }
+    ensures { MatchOption result (IsUnsplitByte entries.now room 128)
+        (λ bits. IsSplit entries.now bits room) }
 {
-    let mut best = before;
-    for place in 0..128u32 {
+    for place in first_open_byte(shared)..128 {
         let bits = Point {
             bytes: 1 << place,
             context: 0,
         };
-        best = better(shared, entries, room, best, bits);
+        if splits(shared, entries, room, &bits) {
+            return Some(bits);
+        }
     }
-    best
+    None
 }
 
-/// The better of the best bits so far and each bit of the context.
-fn of_context(shared: &Shared, entries: &[Entry], room: usize, before: Best) -> Best
+/// The least bit of the context that splits the entries.
+fn first_context(shared: &Shared, entries: &[Entry], room: usize) -> Option<Point>
     requires shared { IsShared entries.now shared.now }
     requires fits { length entries.now ≤ room }
-    requires best { IsBest entries.now room before }
-    ensures best { IsBest entries.now room result }
-    ensures none { result.bits ≡ None → before.bits ≡ None }
-    ensures unsplit { result.bits ≡ None → IsUnsplitContext entries.now room 64 }
+    ensures { MatchOption result (IsUnsplitContext entries.now room 64)
+        (λ bits. IsSplit entries.now bits room) }
 {
-    let mut best = before;
-    for place in 0..64u32 {
+    for place in first_open_context(shared)..64 {
         let bits = Point {
             bytes: 0,
             context: 1 << place,
         };
-        best = better(shared, entries, room, best, bits);
+        if splits(shared, entries, room, &bits) {
+            return Some(bits);
+        }
     }
-    best
+    None
 }
 
-/// The bit that splits the entries best, of those whose sides fit the room.
+/// A bit that splits the entries: the best by the counts of all bits at once, if that one does. Else
+/// each is tried, which shows that none does, once for each leaf.
 fn wished(shared: &Shared, entries: &[Entry], room: usize) -> Option<Point>
     requires shared { IsShared entries.now shared.now }
     requires fits { length entries.now ≤ room }
     ensures { MatchOption result (IsUnsplit entries.now room) (λ bits. IsSplit entries.now bits room) }
 {
-    let none = Best {
-        bits: None,
-        larger: entries.len(),
+    let best = likely(shared, entries, room);
+    if splits(shared, entries, room, &best) {
+        return Some(best);
+    }
+    let byte = first_byte(shared, entries, room);
+    let Some(bits) = byte else {
+        return first_context(shared, entries, room);
     };
-    let best = of_bytes(shared, entries, room, none);
-    let found = of_context(shared, entries, room, best);
-    found.bits
+    Some(bits)
 }
 
 /// The bit to split at: one that all cubes fix and in which two differ, else the one that splits

@@ -51,26 +51,27 @@ fn share(low: usize, high: usize, spare: usize) -> usize
 pub fn grow(
     alloc: Global,
     ranks: &[usize],
-    entries: &[Entry],
+    entries: Vec<Entry>,
     room: usize,
 ) -> Result<Node, AllocError>
-    requires { length entries.now ≤ room }
+    requires { length entries.items ≤ room }
     ensures size { IfOk result (λ node. entries_in node ≤ room) }
     ensures grown { IfOk result (λ node. IsGrown node room) }
-    ensures all { IfOk result (λ node. (e : Entry) → Contains entries.now e → HasEntry node e) }
+    ensures all { IfOk result (λ node. (e : Entry) → Contains entries.items e → HasEntry node e) }
     ensures tree { IfOk result (λ node. (sets : List CubeSet) → AreRanks sets ranks.now
-        → (p : Point) → IsTreeOf sets node entries.now p) }
+        → (p : Point) → IsTreeOf sets node entries.items p) }
 {
-    let Some(bits) = chosen(entries, room) else {
-        let all = leaf(alloc, ranks, entries, room)?;
+    let Some(bits) = chosen(&entries, room) else {
+        let all = leaf(alloc, ranks, &entries, room)?;
         return Ok(all);
     };
-    let both = sides(alloc, entries, &bits)?;
+    let both = sides(alloc, &entries, &bits)?;
+    drop(entries);
     let low = both.low.len();
     let high = both.high.len();
     let low_room = low + share(low, high, room - low - high);
-    let below = grow(alloc, ranks, &both.low, low_room)?;
-    let above = grow(alloc, ranks, &both.high, room - low_room)?;
+    let below = grow(alloc, ranks, both.low, low_room)?;
+    let above = grow(alloc, ranks, both.high, room - low_room)?;
     let node = test(alloc, bits, below, above)?;
     Ok(node)
 }

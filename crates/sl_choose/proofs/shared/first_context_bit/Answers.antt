@@ -9,7 +9,8 @@ pub returns-clause-none : goal.returns-clause-none
 returns-clause-none c =
     let s = c.args.shared.now in
     let within : s.fixed.context < 2 ^ 64 = search rules in
-    λ k below may. none_below w64 s.fixed.context s.some.context k within below may.fixed.1 (λ none. may.some (and_zero_r _, none))
+    let all_within : s.all.context < 2 ^ 64 = search rules in
+    λ k below may. none_below w64 s.fixed.context s.some.context s.all.context k within all_within below may.fixed.1 (λ none. may.some (and_zero_r _, none)) may.all.1
 
 pub returns-clause-most : goal.returns-clause-most
 returns-clause-most c = trailing_le 64 _

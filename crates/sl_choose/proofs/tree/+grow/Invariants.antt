@@ -2,4 +2,4 @@ use Rattle.std.proofs.Common.{length}
 use Rattle.sl_choose.proofs.tree.+grow.Given as goal
 
 abbrev pub decreases-grow : goal.decreases-grow
-decreases-grow l = length l.entries.now
+decreases-grow l = length l.entries.items

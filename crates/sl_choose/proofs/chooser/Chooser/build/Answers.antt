@@ -7,6 +7,6 @@ returns c = record {
   entries = c.in_ok-entries.entries.items;
   are_given = c.in_ok-entries.ensures.given;
   tree =
-      let tree = rw c.deref-2.ensures.value at (rw c.deref.ensures.value at c.in_ok-root.ensures.tree) in
+      let tree = rw c.deref.ensures.value at c.in_ok-root.ensures.tree in
       tree c.args.sets.now c.in_ok-ranks.ensures;
 }
