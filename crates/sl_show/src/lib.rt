@@ -4,6 +4,7 @@
 mod displays;
 mod entries;
 mod fields;
+mod lengths;
 mod making;
 mod numbers;
 mod spans;

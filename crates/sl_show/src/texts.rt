@@ -15,6 +15,7 @@ ghost use Rattle.sl_show.specs.Texts.{field_text, first_text, lengths_of, shown_
 
 use crate::entries::{extent_among, parted, skip, value_of};
 use crate::fields::push_field;
+use crate::lengths::text_length;
 use crate::numbers::push_number;
 use crate::spans::{Span, Spans};
 use crate::templates::{Part, Template};
@@ -31,7 +32,7 @@ pub struct Instruction<'i> {
 }
 
 /// The parts of a constructor, and whether the text of an operand is among them more than once.
-fn parts_of(templates: &[Template], constructor: CtorId) -> (&[Part], bool)
+pub(crate) fn parts_of(templates: &[Template], constructor: CtorId) -> (&[Part], bool)
     ensures { result.0.now ≡ parts_of (slice_get templates.now constructor) }
 {
     match templates.get(constructor.0 as usize) {
@@ -41,7 +42,7 @@ fn parts_of(templates: &[Template], constructor: CtorId) -> (&[Part], bool)
 }
 
 /// Appends a field of a node with these operands.
-fn push_field_at(
+pub(crate) fn push_field_at(
     t: &Tables,
     bytes: &[u8],
     node: &Entry,
@@ -244,6 +245,24 @@ fn push_parts_once(
     Ok(())
 }
 
+/// Makes room for the text of a decode where a node shows an operand more than once. Such a text may
+/// be longer than any memory, and so it ends here, before any of it is made.
+fn make_room(
+    t: &Tables,
+    templates: &[Template],
+    of: Instruction<'_>,
+    nodes: &[Entry],
+    out: &mut Vec<u8>,
+) -> Result<(), AllocError>
+    ensures { out.new.items ≡ out.old.items }
+{
+    if nodes.iter().any(|node| parts_of(templates, node.ctor).1) {
+        let length = text_length(*out.allocator(), t, templates, of, nodes)?;
+        out.reserve(length)?;
+    }
+    Ok(())
+}
+
 /// Appends the text of a decode, by its nodes and the values of their action names.
 pub fn push_text(
     t: &Tables,
@@ -258,6 +277,7 @@ pub fn push_text(
         → out.new.items ≡ out.old.items
         ++ shown_text t.now constructors of.entry.bytes.now f) }
 {
+    make_room(t, templates, of, nodes, out)?;
     push_first(t, templates, of, nodes, out)?;
     Ok(())
 }
