@@ -1,6 +1,12 @@
+pub mod BlockLemmas
+pub mod LeafLemmas
 pub mod LookLemmas
+pub mod MadeLemmas
 pub mod MaskLemmas
 pub mod MeaningLemmas
 pub mod PatternLemmas
 pub mod PlanLemmas
 pub mod RunLemmas
+pub mod SameLemmas
+pub mod TiedLemmas
+pub mod WholeLemmas

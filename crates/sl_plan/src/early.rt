@@ -12,8 +12,8 @@ ghost use Rattle.sl_plan.specs.Extents.{leaves_at};
 ghost use Rattle.sl_plan.specs.Steps.{early_step, maybe};
 
 use crate::expressions::compile;
+use crate::joined::JoinedLeaves;
 use crate::kinds::kind_of;
-use crate::leaves::Leaf;
 use crate::steps::{add, context_field};
 use crate::values::Value;
 use sl_actions::ActionRef;
@@ -57,7 +57,7 @@ fn set_of(
     alloc: Global,
     t: &Tables,
     operands: &[Operand],
-    leaves: &[Leaf],
+    leaves: &JoinedLeaves,
     name: &[u8],
     e: &Expr,
 ) -> Result<Option<Early>, AllocError>
@@ -91,7 +91,7 @@ fn early_of(
     alloc: Global,
     t: &Tables,
     operands: &[Operand],
-    leaves: &[Leaf],
+    leaves: &JoinedLeaves,
     action: &Action,
 ) -> Result<Option<Early>, AllocError>
     ensures { IfOk result (λ o. (s : Site) (c : Changed) → maybe (early_step t.now s) o c
@@ -114,7 +114,7 @@ pub(crate) fn early_steps(
     alloc: Global,
     t: &Tables,
     operands: &[Operand],
-    leaves: &[Leaf],
+    leaves: &JoinedLeaves,
     actions: &[ActionRef],
 ) -> Result<Vec<Early>, AllocError>
     ensures { IfOk result (λ v. (s : Site) (c : Changed) → in_turn (early_step t.now s) v.items c

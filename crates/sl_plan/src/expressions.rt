@@ -11,8 +11,8 @@ ghost use Rattle.sl_plan.specs.Values.{value_in};
 ghost use Rattle.sl_spec.specs.declared.tables.Tables.{Tables as TablesOf};
 
 use crate::extents::Extent;
+use crate::joined::{JoinedLeaves, place_of};
 use crate::kinds::kind_of;
-use crate::leaves::{Leaf, place_of};
 use crate::values::Value;
 use sl_ast::expressions::{BinaryOp, Expr, PrefixOp};
 use sl_ast::patterns::Address;
@@ -38,7 +38,7 @@ fn read_name(
     alloc: Global,
     t: &Tables,
     operands: &[Operand],
-    leaves: &[Leaf],
+    leaves: &JoinedLeaves,
     name: &[u8],
 ) -> Result<Value, AllocError>
     ensures { IfOk result (λ v. (s : Site) → value_in t.now s v
@@ -90,7 +90,7 @@ pub fn compile(
     alloc: Global,
     t: &Tables,
     operands: &[Operand],
-    leaves: &[Leaf],
+    leaves: &JoinedLeaves,
     e: &Expr,
 ) -> Result<Value, AllocError>
     ensures { IfOk result (λ v. (s : Site) → value_in t.now s v ≡ expression_value s.ctor
@@ -127,7 +127,7 @@ pub fn address(
     alloc: Global,
     t: &Tables,
     operands: &[Operand],
-    leaves: &[Leaf],
+    leaves: &JoinedLeaves,
     of: &Address,
 ) -> Result<Value, AllocError>
     ensures { IfOk result (λ v. (s : Site) → value_in t.now s v ≡ address_value

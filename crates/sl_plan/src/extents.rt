@@ -1,6 +1,6 @@
 //! Numbers of bytes by the lengths of operands.
 
-ghost use Rattle.std.specs.Prelude.{◌≡◌, ◌+◌, ◌-◌, ◌^◌, ℕ, List, IfOk, max, min};
+ghost use Rattle.std.specs.Prelude.{◌≡◌, ◌+◌, ◌-◌, ◌^◌, ℕ, List, IfOk, IsTrue, max, min};
 ghost use Rattle.sl_plan.specs.Extents.{extent};
 
 use std::alloc::{AllocError, Global};
@@ -54,6 +54,17 @@ pub fn again(alloc: Global, e: &Extent) -> Result<Extent, AllocError>
             let left = Box::new(alloc, again(alloc, a)?)?;
             Ok(Extent::Greater(left, Box::new(alloc, again(alloc, b)?)?))
         }
+    }
+}
+
+/// Whether both are the same number, or the length of the same operand.
+pub(crate) fn is_same(a: &Extent, b: &Extent) -> bool
+    ensures { IsTrue result → (lengths : List ℕ) → extent a.now lengths ≡ extent b.now lengths }
+{
+    match (a, b) {
+        (Extent::Fixed(n), Extent::Fixed(m)) => *n == *m,
+        (Extent::Operand(n), Extent::Operand(m)) => *n == *m,
+        _ => false,
     }
 }
 

@@ -15,6 +15,7 @@ ghost use Rattle.sl_plan.specs.Values.{site_of};
 use crate::expressions::{address, compile};
 use crate::extents::{Extent, again, extent_of};
 use crate::fields::{is_always_shown, shown};
+use crate::joined::JoinedLeaves;
 use crate::kinds::kind_of;
 use crate::leaves::Leaf;
 use crate::steps::{add, context_field};
@@ -104,7 +105,7 @@ fn name_of(
     alloc: Global,
     t: &Tables,
     operands: &[Operand],
-    leaves: &[Leaf],
+    leaves: &JoinedLeaves,
     name: &[u8],
     e: &Expr,
 ) -> Result<Option<Late>, AllocError>
@@ -126,7 +127,7 @@ fn commit_of(
     alloc: Global,
     t: &Tables,
     operands: &[Operand],
-    leaves: &[Leaf],
+    leaves: &JoinedLeaves,
     name: &[u8],
     to: &Address,
 ) -> Result<Option<Late>, AllocError>
@@ -149,7 +150,7 @@ fn late_of(
     alloc: Global,
     t: &Tables,
     operands: &[Operand],
-    leaves: &[Leaf],
+    leaves: &JoinedLeaves,
     action: &Action,
 ) -> Result<Option<Late>, AllocError>
     ensures { IfOk result (λ o. (s : Site) (c : Own) → maybe (late_step t.now s) o c
@@ -172,7 +173,7 @@ pub(crate) fn late_steps(
     alloc: Global,
     t: &Tables,
     operands: &[Operand],
-    leaves: &[Leaf],
+    leaves: &JoinedLeaves,
     actions: &[ActionRef],
 ) -> Result<Vec<Late>, AllocError>
     ensures { IfOk result (λ v. (s : Site) (c : Own) → in_turn (late_step t.now s) v.items c

@@ -1,8 +1,9 @@
 //! The names of a pattern with their places.
 
-ghost use Rattle.std.specs.Prelude.{◌≡◌, ℕ, List, option_map, IfOk};
-ghost use Rattle.sl_decoding.specs.Places.{bare_place, first_place, or_start};
-ghost use Rattle.sl_plan.specs.Extents.{extent, leaves_at};
+ghost use Rattle.std.specs.Prelude.{◌≡◌, ◌++◌, ◌∷◌, ℕ, List, option_map, IfOk, OnOk};
+ghost use Rattle.sl_decoding.specs.Places.{Leaf as LeafAt, bare_place, first_place};
+ghost use Rattle.sl_plan.specs.Extents.{extent, leaf_at, leaves_at};
+ghost use Rattle.sl_spec.specs.Tables.{Name};
 
 use crate::extents::{Extent, again};
 use std::alloc::{AllocError, Global};
@@ -16,7 +17,7 @@ pub struct Leaf<'a> {
 }
 
 /// The place of a name's first occurrence.
-fn first<'l>(leaves: &'l [Leaf], name: &[u8]) -> Option<&'l Extent>
+pub(crate) fn first_of<'l>(leaves: &'l [Leaf], name: &[u8]) -> Option<&'l Extent>
     ensures { (lengths : List ℕ) → option_map (λ e. extent e.now lengths) result
         ≡ first_place name.now (leaves_at lengths leaves.now) }
 {
@@ -28,26 +29,49 @@ fn first<'l>(leaves: &'l [Leaf], name: &[u8]) -> Option<&'l Extent>
     None
 }
 
-/// The place of a name's first occurrence, or the front where there is none.
-pub(crate) fn place_of(alloc: Global, leaves: &[Leaf], name: &[u8]) -> Result<Extent, AllocError>
-    ensures { IfOk result (λ r. (lengths : List ℕ) → extent r lengths
-        ≡ or_start (first_place name.now (leaves_at lengths leaves.now))) }
-{
-    match first(leaves, name) {
-        Some(place) => again(alloc, place),
-        None => Ok(Extent::Fixed(0)),
-    }
-}
-
-/// The place where a name stands alone, or the front where it doesn't.
-pub fn bare(alloc: Global, leaves: &[Leaf], name: &[u8]) -> Result<Extent, AllocError>
-    ensures { IfOk result (λ r. (lengths : List ℕ) → extent r lengths
-        ≡ or_start (bare_place name.now (leaves_at lengths leaves.now))) }
+/// The place where a name stands alone first.
+pub(crate) fn alone_of<'l>(leaves: &'l [Leaf], name: &[u8]) -> Option<&'l Extent>
+    ensures { (lengths : List ℕ) → option_map (λ e. extent e.now lengths) result
+        ≡ bare_place name.now (leaves_at lengths leaves.now) }
 {
     'leaves: for leaf in leaves {
         if leaf.alone && leaf.name == name {
-            return again(alloc, &leaf.place);
+            return Some(&leaf.place);
         }
     }
-    Ok(Extent::Fixed(0))
+    None
+}
+
+/// Adds a name that stands alone, unless it is there.
+fn add_alone<'a>(alloc: Global, leaf: &Leaf<'a>, all: &mut Vec<Leaf<'a>>) -> Result<(), AllocError>
+    ensures { OnOk result ((lengths : List ℕ) (name : Name) (rest : List LeafAt)
+        → bare_place name (leaves_at lengths all.new.items ++ rest)
+        ≡ bare_place name (leaves_at lengths all.old.items ++ leaf_at lengths leaf.now ∷ rest)) }
+{
+    if !leaf.alone {
+        return Ok(());
+    }
+    if alone_of(all.as_slice(), leaf.name).is_some() {
+        return Ok(());
+    }
+    let place = again(alloc, &leaf.place)?;
+    all.push(Leaf {
+        name: leaf.name,
+        alone: true,
+        place,
+    })?;
+    Ok(())
+}
+
+/// The names that stand alone, each once, with its first place.
+pub(crate) fn alone_in<'a>(alloc: Global, leaves: &[Leaf<'a>]) -> Result<Vec<Leaf<'a>>, AllocError>
+    ensures { IfOk result (λ v. (lengths : List ℕ) (name : Name)
+        → bare_place name (leaves_at lengths v.items)
+        ≡ bare_place name (leaves_at lengths leaves.now)) }
+{
+    let mut all = Vec::new(alloc);
+    'leaves: for index in 0..leaves.len() {
+        add_alone(alloc, &leaves[index], &mut all)?;
+    }
+    Ok(all)
 }

@@ -1,24 +1,28 @@
 //! The leaves and the lengths of patterns.
 
 ghost use Rattle.std.specs.Prelude.{◌≡◌, ◌++◌, ◌<◌, ◌^◌, ℕ, List, IfOk, OnOk, slice_get};
-ghost use Rattle.sl_ast.specs.Views.{constructor_of, pattern_of};
+ghost use Rattle.std.specs.Prelude.{None, Some};
+ghost use Rattle.sl_ast.specs.Views.{head_of, pattern_of};
 ghost use Rattle.sl_decoding.specs.Kinds.{kind_of};
-ghost use Rattle.sl_decoding.specs.Meanings.{leaves_by};
 ghost use Rattle.sl_decoding.specs.Places as spec;
 ghost use Rattle.sl_decoding.specs.Places.{covers, leaves, length_in, length_of, means_table};
 ghost use Rattle.sl_decoding.specs.Places.{next_slot, place_beside, slot_from};
 ghost use Rattle.sl_plan.specs.Extents.{extent, leaves_at};
-ghost use Rattle.sl_spec.specs.Unfolded.{heads_of, placed, under};
+ghost use Rattle.sl_plan.specs.Wholes.{AreLeavesOf};
+ghost use Rattle.sl_spec.specs.Tables.{Operand as OperandOf};
+ghost use Rattle.sl_spec.specs.declared.tables.Tables.{Tables as TablesOf};
 ghost use Rattle.sl_tables.specs.Lengths.{field_bytes, joined_bytes};
 
 use crate::extents::{Extent, again, greater, sum};
 use crate::fields::token_of;
 use crate::kinds::kind_of;
-use crate::leaves::Leaf;
-use sl_ast::constructors::Constructor;
+use crate::late::looks_of;
+use crate::leaves::{Leaf, alone_in};
+use crate::pattern_leaves::PatternLeaves;
+use sl_ast::constructors::Head;
 use sl_ast::patterns::{Pattern, PatternOp};
 use sl_decoding::Kind;
-use sl_spec::{Around, FieldId, Means, Operand, Tables, Unfolded};
+use sl_spec::{FieldId, Means, Operand, Tables};
 use std::alloc::{AllocError, Global};
 
 pub(crate) fn means_table(means: Means) -> bool
@@ -78,7 +82,7 @@ fn field_bytes(t: &Tables, id: FieldId) -> u64
 }
 
 /// How many bytes a name covers.
-fn covered(t: &Tables, operands: &[Operand], name: &[u8]) -> Result<Extent, AllocError>
+pub(crate) fn covered(t: &Tables, operands: &[Operand], name: &[u8]) -> Result<Extent, AllocError>
     ensures { IfOk result (λ r. (lengths : List ℕ) → extent r lengths
         ≡ covers t.now (kind_of t.now operands.now name.now)
         (length_of operands.now lengths name.now)) }
@@ -165,53 +169,50 @@ fn add_leaves<'a>(
     }
 }
 
-/// Adds the leaves of the patterns of blocks and of the constructor in them, and gives their length.
-#[tactic(auto, unfolding(sl_decoding::specs::Places::leaves))]
-pub(crate) fn add_all_leaves<'a>(
+/// What is made of a pattern.
+pub(crate) fn leaves_of_pattern<'a>(
     alloc: Global,
     t: &Tables,
     operands: &[Operand],
-    heads: &[Around<'_, 'a>],
-    own: &Constructor<'a>,
-    all: &mut Vec<Leaf<'a>>,
-) -> Result<Extent, AllocError>
-    ensures added { OnOk result ((lengths : List ℕ) → leaves_at lengths all.new.items
-        ≡ leaves_at lengths all.old.items ++ leaves t.now operands.now
-        (length_of operands.now lengths) 0
-        (under (heads_of heads.now) (constructor_of own.now)).pattern) }
-    ensures length { IfOk result (λ r. (lengths : List ℕ) → extent r lengths
-        ≡ length_in t.now operands.now (length_of operands.now lengths)
-        (under (heads_of heads.now) (constructor_of own.now)).pattern) }
+    pattern: &Pattern<'a>,
+) -> Result<PatternLeaves<'a>, AllocError>
+    ensures { IfOk result (AreLeavesOf t.now operands.now (Some (pattern_of pattern.now))) }
 {
-    let Some((first, rest)) = heads.split_first() else {
-        let length = add_leaves(alloc, t, operands, Extent::Fixed(0), &own.pattern, all)?;
-        return Ok(length);
-    };
-    let head = first.head;
-    let Some(pattern) = &head.pattern else {
-        let length = add_all_leaves(alloc, t, operands, rest, own, all)?;
-        return Ok(length);
-    };
-    let around = add_leaves(alloc, t, operands, Extent::Fixed(0), pattern, all)?;
-    let inside = add_all_leaves(alloc, t, operands, rest, own, all)?;
-    let length = greater(alloc, around, inside)?;
-    Ok(length)
+    let mut leaves = Vec::new(alloc);
+    let length = add_leaves(alloc, t, operands, Extent::Fixed(0), pattern, &mut leaves)?;
+    let alone = alone_in(alloc, leaves.as_slice())?;
+    let looks = looks_of(alloc, t, operands, leaves.as_slice())?;
+    Ok(PatternLeaves {
+        leaves,
+        alone,
+        looks,
+        length,
+    })
 }
 
-/// The names of a constructor's pattern with their places, where these are its operands. The only
-/// error is want of memory.
-pub fn leaves_of<'a>(
+/// What is made of no pattern.
+fn no_leaves<'a>(alloc: Global) -> PatternLeaves<'a>
+    ensures { (t : TablesOf) (os : List OperandOf) → AreLeavesOf t os None result }
+{
+    PatternLeaves {
+        leaves: Vec::new(alloc),
+        alone: Vec::new(alloc),
+        looks: Vec::new(alloc),
+        length: Extent::Fixed(0),
+    }
+}
+
+/// What is made of the pattern of a block, if it has one.
+pub(crate) fn leaves_of_head<'a>(
     alloc: Global,
     t: &Tables,
     operands: &[Operand],
-    of: &Unfolded<'_, 'a>,
-) -> Result<Vec<Leaf<'a>>, AllocError>
-    ensures { IfOk result (λ v. (lengths : List ℕ) → leaves_at lengths v.items
-        ≡ leaves_by t.now operands.now (placed of.now).1.pattern lengths) }
+    head: &Head<'a>,
+) -> Result<PatternLeaves<'a>, AllocError>
+    ensures { IfOk result (AreLeavesOf t.now operands.now (head_of head.now).pattern) }
 {
-    let heads = of.heads.as_slice();
-    let own = of.own;
-    let mut all = Vec::new(alloc);
-    add_all_leaves(alloc, t, operands, heads, own, &mut all)?;
-    Ok(all)
+    match &head.pattern {
+        Some(pattern) => leaves_of_pattern(alloc, t, operands, pattern),
+        None => Ok(no_leaves(alloc)),
+    }
 }

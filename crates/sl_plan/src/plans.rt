@@ -3,19 +3,28 @@
 ghost use Rattle.std.specs.Prelude.{◌≡◌, ◌++◌, ◌∷◌, [], ℕ, List, map, IfOk, OnOk};
 ghost use Rattle.sl_actions.specs.SeenActions.{seen_actions};
 ghost use Rattle.sl_ast.specs.Unfolding.{written};
+ghost use Rattle.sl_decoding.specs.Actions.{Own, look};
 ghost use Rattle.sl_decoding.specs.Meanings.{said, says, table_in};
+ghost use Rattle.sl_decoding.specs.Outcomes.{in_turn};
 ghost use Rattle.sl_decoding.specs.Places.{bare_place, or_start, table_operands};
+ghost use Rattle.sl_decoding.specs.Values.{Site};
+ghost use Rattle.sl_plan.specs.Blocks.{AreLeavesOfHead};
 ghost use Rattle.sl_plan.specs.Extents.{extent, leaves_at};
 ghost use Rattle.sl_plan.specs.Plans.{done, done_by, done_slot, said_by_leaves, slot_by};
+ghost use Rattle.sl_plan.specs.Steps.{look_step};
+ghost use Rattle.sl_plan.specs.Wholes.{IsWhole};
+ghost use Rattle.sl_spec.specs.Numbers.{AreMadeFor, AreNumbered, KeepsMade};
 ghost use Rattle.sl_spec.specs.Unfolded.{all_placed, placed};
 
+use crate::blocks::{BlockLeaves, whole_among, whole_anew};
 use crate::early::{Early, early_steps};
 use crate::extents::Extent;
-use crate::late::{Late, Look, late_steps, looks_of};
-use crate::leaves::{Leaf, bare};
-use crate::patterns::{add_all_leaves, means_table};
+use crate::joined::{JoinedLeaves, bare};
+use crate::late::{Late, Look, late_steps};
+use crate::patterns::means_table;
+use crate::whole::Whole;
 use sl_actions::{ActionRef, actions_of_unfolded};
-use sl_spec::{Ctor, Means, Operand, TableId, Tables, Unfolded};
+use sl_spec::{ByBlock, Ctor, Means, Operand, TableId, Tables, Unfolded};
 use std::alloc::{AllocError, Global};
 
 /// A table operand, and its place in bytes from the node's own.
@@ -49,7 +58,7 @@ fn table_in(operand: &Operand) -> TableId
 }
 
 /// The place of a table operand.
-fn place_in(alloc: Global, leaves: &[Leaf], operand: &Operand) -> Result<Extent, AllocError>
+fn place_in(alloc: Global, leaves: &JoinedLeaves, operand: &Operand) -> Result<Extent, AllocError>
     ensures { IfOk result (λ r. (lengths : List ℕ) → extent r lengths
         ≡ or_start (bare_place operand.now.name (leaves_at lengths leaves.now))) }
 {
@@ -57,7 +66,7 @@ fn place_in(alloc: Global, leaves: &[Leaf], operand: &Operand) -> Result<Extent,
     Ok(place)
 }
 
-fn slot_of(alloc: Global, leaves: &[Leaf], operand: &Operand) -> Result<Slot, AllocError>
+fn slot_of(alloc: Global, leaves: &JoinedLeaves, operand: &Operand) -> Result<Slot, AllocError>
     ensures { IfOk result (λ r. done_slot r
         ≡ slot_by (λ lengths. leaves_at lengths leaves.now) operand.now) }
 {
@@ -71,7 +80,7 @@ fn slot_of(alloc: Global, leaves: &[Leaf], operand: &Operand) -> Result<Slot, Al
 /// Adds an operand, if it is a table.
 fn add_slot(
     alloc: Global,
-    leaves: &[Leaf],
+    leaves: &JoinedLeaves,
     operand: &Operand,
     all: &mut Vec<Slot>,
 ) -> Result<(), AllocError>
@@ -87,7 +96,11 @@ fn add_slot(
 }
 
 /// The operands that are tables.
-fn slots_of(alloc: Global, operands: &[Operand], leaves: &[Leaf]) -> Result<Vec<Slot>, AllocError>
+fn slots_of(
+    alloc: Global,
+    operands: &[Operand],
+    leaves: &JoinedLeaves,
+) -> Result<Vec<Slot>, AllocError>
     ensures { IfOk result (λ v. map done_slot v.items
         ≡ map (slot_by (λ lengths. leaves_at lengths leaves.now))
         (table_operands operands.now)) }
@@ -99,30 +112,49 @@ fn slots_of(alloc: Global, operands: &[Operand], leaves: &[Leaf]) -> Result<Vec<
     Ok(all)
 }
 
-/// The steps of a constructor with these operands, leaves and actions, and of this length.
+/// The steps of a constructor with these operands and actions, by what is made of its pattern.
 fn plan_of(
     alloc: Global,
     t: &Tables,
     operands: &[Operand],
-    leaves: &[Leaf],
-    length: Extent,
+    whole: Whole,
     actions: &[ActionRef],
 ) -> Result<Plan, AllocError>
+    requires { (s : Site) (c : Own) → in_turn (look_step t.now s) whole.looks.items c
+        ≡ in_turn (look t.now operands.now s) (leaves_at s.lengths whole.leaves) c }
     ensures { IfOk result (λ r. done t.now r ≡ said_by_leaves t.now operands.now
-        (λ lengths. leaves_at lengths leaves.now) (λ lengths. extent length lengths)
+        (λ lengths. leaves_at lengths whole.entry.leaves)
+        (λ lengths. extent whole.entry.length lengths)
         (seen_actions actions.now)) }
 {
+    let leaves = &whole.leaves;
     let early = early_steps(alloc, t, operands, leaves, actions)?;
     let slots = slots_of(alloc, operands, leaves)?;
-    let looks = looks_of(alloc, t, operands, leaves)?;
     let late = late_steps(alloc, t, operands, leaves, actions)?;
     Ok(Plan {
         early,
         slots,
-        length,
-        looks,
+        length: whole.length,
+        looks: whole.looks,
         late,
     })
+}
+
+/// The plan of a constructor with these operands, by what is made of its pattern.
+fn plan_by(
+    alloc: Global,
+    t: &Tables,
+    operands: &[Operand],
+    of: &Unfolded,
+    whole: Whole,
+) -> Result<Plan, AllocError>
+    requires { IsWhole t.now operands.now (placed of.now).1.pattern whole }
+    ensures { IfOk result (λ r. done t.now r ≡ said t.now operands.now
+        (placed of.now).1.pattern (written (placed of.now).1.actions)) }
+{
+    let actions = actions_of_unfolded(alloc, of)?;
+    let plan = plan_of(alloc, t, operands, whole, actions.as_slice())?;
+    Ok(plan)
 }
 
 /// The plan of a constructor with these operands.
@@ -135,13 +167,8 @@ fn plan_with(
     ensures { IfOk result (λ r. done t.now r ≡ said t.now operands.now
         (placed of.now).1.pattern (written (placed of.now).1.actions)) }
 {
-    let heads = of.heads.as_slice();
-    let own = of.own;
-    let mut all = Vec::new(alloc);
-    let length = add_all_leaves(alloc, t, operands, heads, own, &mut all)?;
-    let actions = actions_of_unfolded(alloc, of)?;
-    let leaves = all.as_slice();
-    let plan = plan_of(alloc, t, operands, leaves, length, actions.as_slice())?;
+    let whole = whole_anew(alloc, t, operands, of)?;
+    let plan = plan_by(alloc, t, operands, of, whole)?;
     Ok(plan)
 }
 
@@ -155,21 +182,44 @@ pub fn make_plan(alloc: Global, t: &Tables, ctor: &Ctor, of: &Unfolded) -> Resul
     Ok(plan)
 }
 
-/// The plans of all constructors of a text. The only error is want of memory.
+/// The plan of a constructor with these operands, where what was made of blocks is taken.
+fn plan_among<'s, 'a>(
+    alloc: Global,
+    t: &Tables,
+    operands: &[Operand],
+    of: &Unfolded<'s, 'a>,
+    made: &mut ByBlock<BlockLeaves<'a>>,
+) -> Result<Plan, AllocError>
+    requires { AreMadeFor (AreLeavesOfHead t.now) of.now.heads.items made.old }
+    ensures plan { IfOk result (λ r. done t.now r ≡ said t.now operands.now
+        (placed of.now).1.pattern (written (placed of.now).1.actions)) }
+    ensures kept { IfOk result (λ _.
+        KeepsMade (AreLeavesOfHead t.now) of.now.heads.items made.old made.new) }
+{
+    let whole = whole_among(alloc, t, operands, of, made)?;
+    let plan = plan_by(alloc, t, operands, of, whole)?;
+    Ok(plan)
+}
+
+/// The plans of all constructors of a text. The names of a block's pattern are gone over once for
+/// all constructors inside. The only error is want of memory.
 pub fn make_plans(
     alloc: Global,
     t: &Tables,
     constructors: &[Unfolded],
 ) -> Result<Vec<Plan>, AllocError>
+    requires { AreNumbered constructors.now }
     ensures { IfOk result (λ v. (number : ℕ) → done_by t.now v.items number
         ≡ says t.now (all_placed constructors.now) number) }
 {
+    let mut made = ByBlock::new(alloc);
     let mut all = Vec::new(alloc);
     'constructors: for index in 0..constructors.len() {
         let Some(ctor) = t.constructors.get(index) else {
             return Ok(all);
         };
-        let plan = make_plan(alloc, t, ctor, &constructors[index])?;
+        let operands = ctor.operands.as_slice();
+        let plan = plan_among(alloc, t, operands, &constructors[index], &mut made)?;
         all.push(plan)?;
     }
     Ok(all)

@@ -12,8 +12,8 @@ pub returns : goal.returns
 returns c =
     let t = c.args.t.now in
     let os = c.args.operands.now in
-    let ls = c.args.leaves.now in
+    let ls = c.args.whole.leaves in
     meanings_alike _ _ _ _ _ _ _ _ (λ s x. c.in_ok-early.ensures s x) c.in_ok-slots.ensures (λ lengths. refl)
-    (λ s x. ap (λ r. r >>= in_turn (late_step t s) c.in_ok-late.late.items) (c.in_ok-looks.ensures s x)
+    (λ s x. ap (λ r. r >>= in_turn (late_step t s) c.in_ok-late.late.items) (c.requires s x)
     ∙ bind_alike (in_turn (look t os s) (leaves_at s.lengths ls) x) (in_turn (late_step t s) c.in_ok-late.late.items)
     (in_turn (tell t os (leaves_at s.lengths ls) s) (seen_actions c.args.actions.now)) (c.in_ok-late.ensures s))
