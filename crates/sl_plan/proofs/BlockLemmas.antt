@@ -1,8 +1,5 @@
 -- What was made of a block, as it is kept and taken.
 use Rattle.std.proofs.Common.{◌≡◌, ℕ, List, [], ◌∷◌, Option, None, Some, sym, subst}
-use Rattle.std.specs.declared.alloc.Global.{Global}
-use Rattle.std.specs.declared.rc.Rc.{Rc}
-use Rattle.std.specs.declared.vec.Vec.{Vec}
 use Rattle.sl_ast.specs.Trees.{Head}
 use Rattle.sl_ast.specs.Views.{head_of}
 use Rattle.sl_plan.specs.Blocks.{AreLeavesOfHead, AreTied, IsTaken, MayTake}

@@ -1,9 +1,8 @@
 -- Where names stand in rows of names.
-use Rattle.std.proofs.Common.{◌≡◌, ℕ, ◌+◌, ◌<◌, ◌≤◌, Bool, true, false, cond, List, [], ◌∷◌, ◌++◌, map, length, get_or, drop, Option, None, Some, refl, sym, ap, ◌∙◌, append_assoc}
+use Rattle.std.proofs.Common.{◌≡◌, ℕ, ◌+◌, ◌<◌, ◌≤◌, Bool, true, false, cond, List, [], ◌∷◌, ◌++◌, length, get_or, drop, Option, None, Some, refl, sym, ap, ◌∙◌}
 use Rattle.std.proofs.lemmas.List.{drop_more, map-append}
 use Rattle.std.proofs.Math.ListN.{drop_of_length-le}
 use Rattle.std.proofs.lemmas.Slice.Eq.{bytes_eq-Decides}
-use Rattle.std.specs.List.{flat_map}
 use Rattle.std.specs.Option.{option_map, option_or}
 use Rattle.std.specs.Prelude.{is_some}
 use Rattle.std.specs.Str.{bytes_eq}
@@ -12,7 +11,6 @@ use Rattle.std.specs.declared.rc.Rc.{Rc}
 use Rattle.sl_decoding.specs.Places.{Leaf, bare_place, first_place, leaf}
 use Rattle.sl_plan.specs.Extents.{leaf_at, leaves_at}
 use Rattle.sl_plan.specs.Joined.{all_leaves}
-use Rattle.sl_plan.specs.declared.leaves.Leaf as l
 use Rattle.sl_plan.specs.declared.pattern_leaves.PatternLeaves.{PatternLeaves}
 use Rattle.sl_spec.specs.Tables.{Name}
 

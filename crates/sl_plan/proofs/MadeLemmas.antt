@@ -1,5 +1,5 @@
 -- What was made of the blocks round constructors.
-use Rattle.std.proofs.Common.{◌≡◌, ℕ, zero, suc, ◌+◌, ◌<◌, List, [], ◌∷◌, length, get_or, Option, Some, sym, subst, arith}
+use Rattle.std.proofs.Common.{◌≡◌, ℕ, zero, suc, ◌<◌, List, [], ◌∷◌, length, get_or, sym, subst, arith}
 use Rattle.sl_ast.specs.Trees.{Head}
 use Rattle.sl_constructors.proofs.MadeLemmas.{none_made}
 use Rattle.sl_spec.specs.Numbers.{AreMade, AreMadeFor, AreNumbered, AreTold, AreToldOf, KeepsMade}

@@ -1,16 +1,14 @@
 -- What is made of a pattern is the same for all operands among which its names stand for the same.
-use Rattle.std.proofs.Common.{◌≡◌, ℕ, ◌+◌, true, false, List, [], ◌∷◌, ◌++◌, map, Option, None, Some, Result, refl, sym, ap, subst, ◌∙◌}
+use Rattle.std.proofs.Common.{◌≡◌, ℕ, true, false, List, [], ◌∷◌, ◌++◌, Option, None, Some, refl, ap, subst, ◌∙◌}
 use Rattle.std.specs.List.{AllByRecursion}
 use Rattle.sl_ast.specs.Trees.{Pattern, bare, constraint, group, ellipsis, joined}
-use Rattle.sl_ast.specs.declared.patterns.PatternOp.{PatternOp}
 use Rattle.sl_decoding.specs.Actions.{Own, look, look_kind}
-use Rattle.sl_decoding.specs.Kinds.{kind_of}
 use Rattle.sl_decoding.specs.Outcomes.{◌>>=◌, in_turn}
-use Rattle.sl_decoding.specs.Places.{Leaf, covers, leaf, leaves, length_in, length_of, place_beside}
+use Rattle.sl_decoding.specs.Places.{Leaf, leaf, leaves, length_in, length_of, place_beside}
 use Rattle.sl_decoding.specs.Values.{Site}
 use Rattle.sl_plan.specs.Blocks.{IsSame}
-use Rattle.sl_plan.specs.Extents.{leaf_at, leaves_at}
-use Rattle.sl_plan.specs.Wholes.{AreLeavesOf, leaves_if_written, length_if_written}
+use Rattle.sl_plan.specs.Extents.{leaves_at}
+use Rattle.sl_plan.specs.Wholes.{AreLeavesOf}
 use Rattle.sl_plan.specs.declared.leaves.Leaf as l
 use Rattle.sl_plan.specs.declared.pattern_leaves.PatternLeaves.{PatternLeaves}
 use Rattle.sl_plan.proofs.RunLemmas.{bind_alike}

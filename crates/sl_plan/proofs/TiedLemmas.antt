@@ -1,12 +1,12 @@
 -- Names that hang on the operands, and names that don't.
-use Rattle.std.proofs.Common.{◌≡◌, ◌==◌, ℕ, ◌+◌, ◌<◌, ◌≤◌, ◌&&◌, ◌||◌, Bool, true, false, cond, List, [], ◌∷◌, ◌++◌, length, get_or, drop, Option, None, Some, refl, sym, ap, subst, ◌∙◌}
+use Rattle.std.proofs.Common.{◌≡◌, ℕ, ◌+◌, ◌<◌, ◌≤◌, ◌||◌, Bool, true, false, cond, List, [], ◌∷◌, ◌++◌, length, get_or, drop, Option, None, Some, refl, sym, ap, subst, ◌∙◌}
 use Rattle.std.proofs.lemmas.Bool.{and_parts}
 use Rattle.std.proofs.lemmas.Bool.Decides.{Decides-eqb}
 use Rattle.std.specs.Prelude.{is_some, unwrap_or}
 use Rattle.std.proofs.lemmas.List.{drop_more}
 use Rattle.std.proofs.Math.ListN.{drop_of_length-le}
 use Rattle.std.proofs.lemmas.Slice.Eq.{bytes_eq-Decides}
-use Rattle.std.specs.List.{AllByRecursion, find, list_all, list_any}
+use Rattle.std.specs.List.{AllByRecursion, list_all, list_any}
 use Rattle.std.specs.Str.{bytes_eq}
 use Rattle.sl_decoding.specs.Kinds.{kind_by, kind_of, operand_kind}
 use Rattle.sl_decoding.specs.Places.{covers, length_of}
@@ -14,7 +14,7 @@ use Rattle.sl_decoding.specs.declared.kinds.Kind.{Kind}
 use Rattle.sl_decoding.specs.declared.kinds.Kind.TheVariants as k
 use Rattle.sl_plan.specs.Blocks.{ArePlain, IsSame, StandAsBefore, StandsAsBefore, TiesOne, is_plain, means_field}
 use Rattle.sl_plan.specs.declared.blocks.Tied.{Tied}
-use Rattle.sl_spec.specs.Named.{index_named, is_named, named}
+use Rattle.sl_spec.specs.Named.{index_named, named}
 use Rattle.sl_spec.specs.Tables.{Name, Operand}
 use Rattle.sl_spec.specs.declared.constructors.Means.{Means}
 use Rattle.sl_spec.specs.declared.constructors.Means.TheVariants as means

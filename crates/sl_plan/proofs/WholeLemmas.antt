@@ -1,14 +1,14 @@
 -- What is made of a whole pattern, part by part.
-use Rattle.std.proofs.Common.{◌≡◌, ℕ, zero, suc, ◌+◌, ◌<◌, ◌≤◌, List, [], ◌∷◌, ◌++◌, length, get_or, drop, map, max, Option, None, Some, Result, Ok, Err, refl, sym, ap, subst, ◌∙◌, append_assoc, append-nil, arith}
+use Rattle.std.proofs.Common.{◌≡◌, ℕ, ◌+◌, ◌<◌, ◌≤◌, List, [], ◌∷◌, ◌++◌, length, get_or, drop, max, Option, None, Some, Result, Ok, Err, refl, sym, ap, subst, ◌∙◌, append_assoc, append-nil, arith}
 use Rattle.std.proofs.lemmas.List.{drop_more, map-append}
 use Rattle.std.proofs.Math.ListN.{drop_of_length-le}
-use Rattle.sl_ast.specs.Trees.{Constructor, Head, Pattern}
+use Rattle.sl_ast.specs.Trees.{Constructor, Pattern}
 use Rattle.sl_ast.specs.Unfolding.{in_block}
 use Rattle.sl_ast.specs.Unfolding as u
 use Rattle.sl_ast.specs.Views.{head_of}
 use Rattle.sl_decoding.specs.Actions.{Own, look}
 use Rattle.sl_decoding.specs.Outcomes.{◌>>=◌, in_turn}
-use Rattle.sl_decoding.specs.Places.{Leaf, leaves, length_in, length_of}
+use Rattle.sl_decoding.specs.Places.{leaves}
 use Rattle.sl_decoding.specs.Values.{Site}
 use Rattle.sl_decoding.specs.declared.faults.Fault.{Fault}
 use Rattle.sl_plan.specs.Extents.{extent, leaf_at, leaves_at}

@@ -7,7 +7,6 @@ ghost use Rattle.std.specs.Str.{bytes_eq};
 ghost use Rattle.sl_ast.specs.Views.{head_of};
 ghost use Rattle.sl_decoding.specs.Kinds.{kind_of};
 ghost use Rattle.sl_decoding.specs.Meanings.{leaves_by};
-ghost use Rattle.sl_decoding.specs.Places.{slot_from};
 ghost use Rattle.sl_plan.specs.Blocks.{ArePlain, AreLeavesOfHead, AreTied, IsTaken, MayTake};
 ghost use Rattle.sl_plan.specs.Blocks.{StandAsBefore, StandsAsBefore, TiesOne, is_plain};
 ghost use Rattle.sl_plan.specs.Blocks.{means_field};

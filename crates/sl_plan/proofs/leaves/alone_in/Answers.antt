@@ -2,7 +2,7 @@ use Rattle.std.proofs.Common.{sym, ap, ◌∙◌, ◌≡◌, ◌+◌, ◌++◌, 
 use Rattle.std.proofs.lemmas.List.{drop_more}
 use Rattle.std.proofs.Math.ListN.{drop_of_length-le}
 use Rattle.sl_decoding.specs.Places.{bare_place}
-use Rattle.sl_plan.specs.Extents.{leaf_at, leaves_at}
+use Rattle.sl_plan.specs.Extents.{leaves_at}
 use Rattle.sl_plan.specs.declared.leaves.Leaf as l
 use Rattle.sl_plan.proofs.leaves.alone_in.Goals as goal
 
