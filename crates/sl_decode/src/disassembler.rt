@@ -8,6 +8,7 @@ ghost use Rattle.sl_decode.specs.Inputs.{input_of};
 ghost use Rattle.sl_decode.specs.Outcomes.{Gives};
 ghost use Rattle.sl_decode.specs.Walks.{walk_of, walked};
 ghost use Rattle.sl_decoding.specs.Decoding.{decoded, read};
+ghost use Rattle.sl_spec.specs.Numbers.{AreNumbered};
 ghost use Rattle.sl_spec.specs.Unfolded.{all_placed};
 ghost use Rattle.sl_spec.specs.declared.tables.Tables.{Tables as TablesOf};
 
@@ -65,6 +66,7 @@ impl<'t, 'a, C: Choose + Drop> Disassembler<'t, 'a, C> {
         constructors: &[Unfolded],
         choosers: C,
     ) -> Result<Self, AllocError>
+        requires { AreNumbered constructors.now }
         ensures stands { IfOk result (λ d. StandsFor d tables.now (all_placed constructors.now)) }
         ensures choosers { IfOk result (λ d. d.choosers ≡ choosers) }
     {

@@ -16,7 +16,7 @@ ghost use Rattle.sl_spec.specs.declared.tables.Tables.{Tables as TablesOf};
 use crate::templates::{Maker, Part, Template};
 use sl_ast::constructors::Shown;
 use sl_constructors::{blanks, is_blank, is_literal};
-use sl_plan::{Leaf, bare, operand_named, slot_number};
+use sl_plan::{JoinedLeaves, bare, operand_named, slot_number};
 use sl_spec::{Means, Operand};
 use std::alloc::{AllocError, Global};
 
@@ -49,7 +49,7 @@ fn add_operand(
     alloc: Global,
     maker: &mut Maker,
     operands: &[Operand],
-    leaves: &[Leaf],
+    leaves: &JoinedLeaves,
     name: &[u8],
     means: Means,
 ) -> Result<(), AllocError>
@@ -74,7 +74,7 @@ fn add_word(
     alloc: Global,
     maker: &mut Maker,
     operands: &[Operand],
-    leaves: &[Leaf],
+    leaves: &JoinedLeaves,
     word: &[u8],
 ) -> Result<(), AllocError>
     ensures { OnOk result ((t : TablesOf) (s : Spot) → made t s maker.new ≡ made t s maker.old
@@ -109,7 +109,7 @@ fn add_piece(
     alloc: Global,
     maker: &mut Maker,
     operands: &[Operand],
-    leaves: &[Leaf],
+    leaves: &JoinedLeaves,
     piece: &Shown,
 ) -> Result<(), AllocError>
     ensures { OnOk result ((t : TablesOf) (s : Spot) → made t s maker.new ≡ made t s maker.old
@@ -135,7 +135,7 @@ fn add_at(
     alloc: Global,
     maker: &mut Maker,
     operands: &[Operand],
-    leaves: &[Leaf],
+    leaves: &JoinedLeaves,
     display: &[Shown],
     index: usize,
 ) -> Result<(), AllocError>
@@ -159,7 +159,7 @@ fn add_rest(
     alloc: Global,
     maker: &mut Maker,
     operands: &[Operand],
-    leaves: &[Leaf],
+    leaves: &JoinedLeaves,
     display: &[Shown],
     from: usize,
 ) -> Result<(), AllocError>
@@ -199,7 +199,7 @@ fn add_display(
     alloc: Global,
     maker: &mut Maker,
     operands: &[Operand],
-    leaves: &[Leaf],
+    leaves: &JoinedLeaves,
     has_mnemonic: bool,
     display: &[Shown],
 ) -> Result<(), AllocError>
@@ -222,7 +222,7 @@ fn add_display(
 pub(crate) fn template_of(
     alloc: Global,
     operands: &[Operand],
-    leaves: &[Leaf],
+    leaves: &JoinedLeaves,
     has_mnemonic: bool,
     display: &[Shown],
 ) -> Result<Template, AllocError>

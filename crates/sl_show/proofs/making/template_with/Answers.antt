@@ -5,8 +5,6 @@ use Rattle.sl_ast.specs.declared.constructors.Shown.{Shown}
 use Rattle.sl_constructors.proofs.BlockLemmas.{display_in_blocks}
 use Rattle.sl_decoding.specs.Meanings.{leaves_by}
 use Rattle.sl_decoding.specs.Places.{Leaf}
-use Rattle.sl_plan.specs.Extents.{leaves_at}
-use Rattle.sl_plan.specs.declared.leaves.Leaf as l
 use Rattle.sl_show.specs.Pieces.{display_text}
 use Rattle.sl_show.specs.Texts.{word_text}
 use Rattle.sl_spec.specs.Unfolded.{heads_of, placed}
@@ -21,7 +19,6 @@ returns c s =
     let display = c.as_slice-display.result.now in
     let known = leaves_by t os (placed of).1.pattern s.lengths in
     c.in_ok-template.ensures t s
-    ∙ ap (λ (ls : List l.Leaf). display_text m (word_text t os (leaves_at s.lengths ls) s) (map piece_of display)) c.as_slice.ensures.value
-    ∙ ap (λ (ls : List Leaf). display_text m (word_text t os ls s) (map piece_of display)) (c.in_ok-leaves.ensures s.lengths)
+    ∙ ap (λ (ls : List Leaf). display_text m (word_text t os ls s) (map piece_of display)) (c.requires s.lengths)
     ∙ ap (λ (ds : List Shown). display_text m (word_text t os known s) (map piece_of ds)) c.as_slice-display.ensures.value
     ∙ ap (λ (ps : List Piece). display_text m (word_text t os known s) ps) (sym (display_in_blocks (heads_of of.heads.items) (constructor_of of.own.now)))
