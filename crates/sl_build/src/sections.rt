@@ -7,6 +7,7 @@ ghost use Rattle.sl_flat_sections.specs.FlatSections.{flat_sections};
 ghost use Rattle.sl_flat_sections.specs.Views.{scopes_view};
 ghost use Rattle.sl_instruction.specs.Instructions.{default_space, specification_of};
 ghost use Rattle.sl_sizing.specs.Sizings.{lists_of};
+ghost use Rattle.sl_spec.specs.Numbers.{AreNumbered};
 ghost use Rattle.sl_spec.specs.Unfolded.{all_placed};
 
 use crate::slots::{Slot, all_slots};
@@ -65,6 +66,7 @@ fn sections_of<'b, 's, 'a>(
     sizes: &'b [Vec<Size>],
     text: &Text<'s, 'a>,
 ) -> Result<Sections<'b, 'a>, AllocError>
+    requires { AreNumbered text.now.constructors.items }
     ensures { IfOk result (λ x. StandsFor x (record {
       tables = t.now;
       constructors = all_placed text.now.constructors.items;

@@ -1,4 +1,4 @@
-use Rattle.std.proofs.Common.{◌≡◌, List, map, refl, ap, ◌∙◌}
+use Rattle.std.proofs.Common.{◌≡◌, List, map, refl, sym, subst, ap, ◌∙◌}
 use Rattle.std.specs.Prelude.{slice_get}
 use Rattle.sl_build.proofs.StandLemmas.{all_flat}
 use Rattle.sl_build.proofs.TemplateLemmas.{templates_there}
@@ -9,9 +9,13 @@ use Rattle.sl_instruction.specs.Instructions.{is_unimpl}
 use Rattle.sl_instruction.specs.Operands.{given_by}
 use Rattle.sl_resolve.specs.declared.reach.Reach.{Reach}
 use Rattle.sl_sizing.specs.Sizings.{lists_of}
+use Rattle.sl_spec.specs.Numbers.{AreNumbered}
 use Rattle.sl_spec.specs.Unfolded.{all_placed}
 use Rattle.sl_spec.specs.declared.unfolded.Unfolded.{Unfolded}
 use Rattle.sl_build.proofs.sections.sections_of.Goals as goal
+
+pub all_slots-requires : goal.all_slots-requires
+all_slots-requires c = subst (λ (us : List Unfolded). AreNumbered us) (sym c.as_slice-constructors.ensures.value) c.requires
 
 pub returns : goal.returns
 returns c =

@@ -1,28 +1,41 @@
 use Rattle.std.proofs.Common.{sym, ◌∙◌, arith}
 use Rattle.std.proofs.lemmas.List.{length-map}
 use Rattle.sl_build.proofs.MakingLemmas.{given_here, none_first, none_past, out_of_constructors, out_of_written, slots_next}
+use Rattle.sl_plan.proofs.MadeLemmas.{keeps_of, made_for, none_of}
+use Rattle.sl_plan.specs.Blocks.{AreLeavesOfHead}
 use Rattle.sl_spec.specs.Unfolded.{all_placed, placed}
 use Rattle.sl_build.proofs.slots.all_slots.Goals as goal
 
 pub constructors-init : goal.constructors-init
-constructors-init c = none_first c.args.t.now (all_placed c.args.constructors.now) c.new-all.result.items c.new-all.ensures.items
+constructors-init c = (
+  none_first c.args.t.now (all_placed c.args.constructors.now) c.new-all.result.items c.new-all.ensures.items,
+  none_of (AreLeavesOfHead c.args.t.now) c.args.constructors.now c.new-made.result c.new-made.ensures c.requires,
+)
+
+pub constructor_slots-requires : goal.constructor_slots-requires
+constructor_slots-requires c =
+    made_for (AreLeavesOfHead c.args.t.now) c.args.constructors.now c.constructors.index c.index-constructors-index.result c.constructors-test.true c.index-constructors-index.is
+    c.constructors.made c.constructors.invariant.1
 
 pub constructors-preserved : goal.constructors-preserved
 constructors-preserved c =
     let t = c.args.t.now in
-    let us = c.args.constructors.now in
-    slots_next t (all_placed us) c.constructors.all.items c.constructors.index c.constructors.invariant c.in_ok-slots.slots c.push.new.self.items c.in_ok-push.ensures.items
-    (λ bytes n lengths. c.in_ok-slots.ensures bytes n lengths
-    ∙ given_here t us c.constructors.index c.in-Some.ctor.now c.index-constructors-index.result bytes n lengths (sym c.in-Some.ensures) c.constructors-test.true c.index-constructors-index.is)
+    let us = c.args.constructors.now in (
+      slots_next t (all_placed us) c.constructors.all.items c.constructors.index c.constructors.invariant.0 c.in_ok-slots.slots c.push.new.self.items c.in_ok-push.ensures.items
+          (λ bytes n lengths. c.in_ok-slots.ensures.slots bytes n lengths
+          ∙ given_here t us c.constructors.index c.in-Some.ctor.now c.index-constructors-index.result bytes n lengths (sym c.in-Some.ensures) c.constructors-test.true c.index-constructors-index.is),
+      keeps_of (AreLeavesOfHead t) us c.constructors.index c.index-constructors-index.result c.constructors-test.true c.index-constructors-index.is c.constructors.made c.constructor_slots.new.made
+          c.in_ok-slots.ensures.kept c.constructors.invariant.1,
+    )
 
 pub returns-in_default : goal.returns-in_default
 returns-in_default c =
     let t = c.args.t.now in
     let us = c.args.constructors.now in
-    out_of_constructors t (all_placed us) c.constructors.all.items c.constructors.index c.constructors.invariant (none_past t.constructors c.constructors.index (sym c.in_default.ensures))
+    out_of_constructors t (all_placed us) c.constructors.all.items c.constructors.index c.constructors.invariant.0 (none_past t.constructors c.constructors.index (sym c.in_default.ensures))
 
 pub returns : goal.returns
 returns c =
     let t = c.args.t.now in
     let us = c.args.constructors.now in
-    out_of_written t (all_placed us) c.constructors.all.items c.constructors.index c.constructors.invariant (omega (arith, length-map us placed, c.constructors-test.false))
+    out_of_written t (all_placed us) c.constructors.all.items c.constructors.index c.constructors.invariant.0 (omega (arith, length-map us placed, c.constructors-test.false))

@@ -1,6 +1,8 @@
+use Rattle.sl_plan.proofs.MadeLemmas.{AreMadeOf}
+use Rattle.sl_plan.specs.Blocks.{AreLeavesOfHead}
 use Rattle.sl_spec.specs.Unfolded.{all_placed}
 use Rattle.sl_build.proofs.MakingLemmas.{AreFirst}
 use Rattle.sl_build.proofs.slots.all_slots.Given as goal
 
 abbrev pub invariant-constructors : goal.invariant-constructors
-invariant-constructors l = AreFirst l.t (all_placed l.constructors) l.all.items l.index
+invariant-constructors l = AreFirst l.t (all_placed l.constructors) l.all.items l.index × AreMadeOf (AreLeavesOfHead l.t) l.constructors l.made

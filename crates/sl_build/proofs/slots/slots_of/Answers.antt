@@ -1,14 +1,11 @@
 use Rattle.std.proofs.Common.{List, map, ap, ◌∙◌}
 use Rattle.sl_decoding.specs.Places.{Leaf}
 use Rattle.sl_instruction.specs.Operands.{given_reference}
-use Rattle.sl_plan.specs.Extents.{leaves_at}
-use Rattle.sl_plan.specs.declared.leaves.Leaf as l
 use Rattle.sl_build.proofs.slots.slots_of.Goals as goal
 
-pub returns : goal.returns
-returns c bytes n lengths =
+pub returns-clause-slots : goal.returns-clause-slots
+returns-clause-slots c bytes n lengths =
     let t = c.args.t.now in
     let os = c.args.operands.now in
     c.in_ok-slots.ensures t bytes n lengths
-    ∙ ap (λ (ls : List l.Leaf). map (λ o. given_reference t bytes n (leaves_at lengths ls) o.name o.means) os) c.as_slice.ensures.value
-    ∙ ap (λ (ls : List Leaf). map (λ o. given_reference t bytes n ls o.name o.means) os) (c.in_ok-leaves.ensures lengths)
+    ∙ ap (λ (ls : List Leaf). map (λ o. given_reference t bytes n ls o.name o.means) os) (c.in_ok-leaves.ensures.leaves lengths)

@@ -11,6 +11,9 @@ use Rattle.sl_sizing.specs.Sizings.{lists_of}
 use Rattle.sl_spec.specs.Unfolded.{all_placed, constructors_in}
 use Rattle.sl_build.proofs.sections.Sections.new.Goals as goal
 
+pub sections_of-requires : goal.sections_of-requires
+sections_of-requires c = c.in_ok-text.ensures.numbered
+
 pub returns : goal.returns
 returns c =
     let bound = c.args.bound.now in
