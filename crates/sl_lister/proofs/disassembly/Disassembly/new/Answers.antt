@@ -12,9 +12,16 @@ use Rattle.sl_decode.specs.Disassemblers as decode
 use Rattle.sl_lister.proofs.AcceptedLemmas.{accepted}
 use Rattle.sl_show.specs.Templates.{AreTemplates}
 use Rattle.sl_sound.specs.Soundness.{AreSetsOf}
+use Rattle.sl_spec.specs.Numbers.{AreNumbered}
 use Rattle.sl_spec.specs.Unfolded.{all_placed}
 use Rattle.sl_spec.specs.declared.unfolded.Unfolded.{Unfolded}
 use Rattle.sl_lister.proofs.disassembly.Disassembly.new.Goals as goal
+
+pub new-requires-2 : goal.new-requires-2
+new-requires-2 c = subst (λ (us : List Unfolded). AreNumbered us) (sym c.as_slice-3.ensures.value) c.in_ok-constructors.ensures.numbered
+
+pub make_templates-requires : goal.make_templates-requires
+make_templates-requires c = subst (λ (us : List Unfolded). AreNumbered us) (sym c.as_slice-4.ensures.value) c.in_ok-constructors.ensures.numbered
 
 pub returns : goal.returns
 returns c =
