@@ -259,6 +259,15 @@ def listed_named_heads(size):
     return {**named_heads(size), "i": bytes(64)}
 
 
+def listed_table_heads(size):
+    """So many constructors in sixteen blocks, each with a pattern of 127 constraints and a table."""
+    head = "with : t%d & " + " & ".join(["b>=0"] * 127) + " {\n"
+    front = SPACE % 4 + "define token c (32) code=(8,31) b=(0,3);\n"
+    tables = "".join('t%d: "o" is b>=0 {}\n' % n for n in range(16))
+    lines = "".join(":o%d is code=%d {}\n" % (n, n) for n in range(size))
+    return {"s": front + tables + "".join(head % n for n in range(16)) + lines + "}\n" * 16, "i": bytes(64)}
+
+
 def acting_heads(size):
     """So many constructors in sixteen blocks, each with a pattern of 128 constraints, the outermost with an action."""
     text = heads(size)["s"].replace(" {\n", " [ m = 1; ] {\n", 1)
@@ -286,6 +295,10 @@ def head_actions(size):
     front = MACHINE + "define register offset=0x40 size=4 c;\ndefine context c m=(0,7);\ndefine token w (32) code=(0,31);\n"
     lines = "".join(":o%d is code=%d {}\n" % (n, n) for n in range(size))
     return {"s": front + "with : [ %s ] {\n" % ("m = 1; " * size) + lines + "}\n"}
+
+
+def listed_head_actions(size):
+    return {**head_actions(size), "i": bytes(64)}
 
 
 def wide_sets(size):
@@ -441,11 +454,15 @@ KINDS = (
     Hostile("constructors in 16 blocks of 128 constraints", "constructors", powers(256, 65535), "65,535", heads, lambda n: ok(1, n)),
     Hostile("constructors in 16 blocks of 127 constraints and an operand", "constructors", powers(256, 65535), "65,535", named_heads, lambda n: ok(1, n)),
     Hostile("the same, listed", "constructors", powers(256, 65535), "65,535", listed_named_heads, lambda n: (DONE, "00000000: 00000000 o0\n"), LIST),
+    Hostile("constructors in 16 blocks of 127 constraints and a table, listed", "constructors", powers(256, 65535), "65,535", listed_table_heads,
+            lambda n: (DONE, "00000000: 00000000 o0\n"), LIST),
     Hostile("constructors in 16 blocks of 128 constraints and one action", "constructors", powers(256, 65535), "65,535", acting_heads, lambda n: ok(1, n)),
     Hostile("tables of one constructor in 16 blocks of 128 constraints", "tables", powers(256, 65534), "65,534", head_tables, lambda n: ok(n + 1, n + 1)),
     Hostile("constructors in a block of 1,024 cubes and 15 others", "constructors", powers(16, 65535), "65,535", wide_heads, lambda n: ok(1, n)),
     Hostile("actions in the head of a block round constructors", "of each", powers(2000, 65535), "65,535, and 2,000,000 actions",
             head_actions, lambda n: ok(1, n)),
+    Hostile("the same actions, listed", "of each", powers(500, 65535), "65,535, and 2,000,000 actions",
+            listed_head_actions, lambda n: (DONE, "00000000: 00000000 o0\n"), LIST),
     Hostile("constructors of 1,024 cubes", "constructors", powers(64, 65535), "65,535", wide_sets, lambda n: ok(1, n)),
     Hostile("the same, 131,072 instructions listed", "constructors", powers(64, 65535), "65,535", listed_wide_sets,
             lambda n: (DONE, "00000000: "), LIST),
