@@ -1,14 +1,12 @@
 -- The first index at which a test passes, by the first element and by the last.
 use Rattle.std.proofs.Common.{◌≡◌, ◌+◌, ℕ, suc, Bool, true, false, cond, not, ◌||◌, List, [], ◌∷◌, ◌++◌, length, Option, Some, None, is_some, option_map, refl, sym, ap, ap₂, ◌∙◌, arith, nat_lt}
-use Rattle.std.specs.BTreeMap.{BTreeMap, UpdatesBy}
-use Rattle.std.specs.Global.{Vec}
 use Rattle.std.specs.Cmp.Lexicographic.{bytes_decides, nat_list_eq_equiv}
 use Rattle.std.specs.List.{list_any, position, position_or_len}
 use Rattle.std.specs.Option.{option_or}
 use Rattle.std.specs.Str.{bytes_eq}
-use Rattle.sl_index.specs.Found.{AreFound}
+use Rattle.sl_index.specs.Found.{AreBytes, AreFound, found}
 use Rattle.sl_index.specs.Names.{index_in, is_in}
-use Rattle.sl_index.proofs.KeyLemmas.{at_bytes, at_key, key_cmp}
+use Rattle.sl_index.specs.declared.by_name.ByName.{ByName}
 
 shifted : (k : ℕ) (b : Bool) → cond b (Some (1 + k)) None ≡ option_map suc (cond b (Some k) None)
 shifted k true = let e : 1 + k ≡ suc k = omega arith in ap Some e
@@ -79,11 +77,10 @@ index_after names added name fresh = position_last (λ n. bytes_eq name n) names
         let other : bytes_eq name added ≡ false = nat_list_eq_equiv.symm name added ∙ h in
         rw other (at_end (index_in names name))
 
--- what a map finds once a name that wasn't there is added with the index of the end
-pub found_after : (m n : BTreeMap (Vec ℕ) ℕ) (names : List (List ℕ)) (added : List ℕ) (key : Vec ℕ) (i : ℕ) → AreFound m.entries names → is_in names added ≡ false → key.items ≡ added → i ≡ length names
-    → UpdatesBy key_cmp (key_cmp key) m n (Some i) → AreFound n.entries (names ++ added ∷ [])
-found_after m n names added key i found fresh same is updates name =
-    at_key key.items m n (Some i) updates name
-    ∙ ap₂ (λ (bs : List ℕ) (j : ℕ). cond (bytes_eq bs name) (Some j) (at_bytes m name)) same is
-    ∙ ap (cond (bytes_eq added name) (Some (length names))) (found name)
+-- what is found once a name that wasn't there has the index of the end
+pub found_after : (old new : ByName) (names : List (List ℕ)) (added : List ℕ) (i : ℕ) → AreFound old names → is_in names added ≡ false → i ≡ length names
+    → ((name : List ℕ) → AreBytes name → found new name ≡ cond (bytes_eq added name) (Some i) (found old name)) → AreFound new (names ++ added ∷ [])
+found_after old new names added i are fresh is after name bytes =
+    after name bytes
+    ∙ ap₂ (λ (j : ℕ) (rest : Option ℕ). cond (bytes_eq added name) (Some j) rest) is (are name bytes)
     ∙ sym (index_after names added name fresh)

@@ -1,2 +1,4 @@
+pub mod ByNameLemmas
+pub mod DigitLemmas
 pub mod IndexLemmas
 pub mod KeyLemmas

@@ -2,6 +2,7 @@
 //! the names are.
 #![tactic(auto)]
 
+mod by_name;
 mod names;
 
 pub use names::NameIndex;

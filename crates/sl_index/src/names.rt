@@ -4,19 +4,15 @@ ghost use Rattle.std.specs.Prelude.{◌≡◌, ◌∷◌, [], ◌++◌, OnOk, On
 ghost use Rattle.std.specs.Prelude.{length, option_map, slice_get};
 ghost use Rattle.sl_index.specs.Names.{index_in, is_in};
 
+use crate::by_name::ByName;
 use std::alloc::{AllocError, Global};
-use std::collections::BTreeMap;
 use std::marker::Model;
 
 /// Names, each once, in the order in which they were added. Contracts see the list of them.
-///
-/// They are found in a tree in the order of their bytes, since whoever writes the names can make
-/// any of them meet in a table with a hash that is known. The tree has bytes of its own: with keys
-/// that borrow, an index could not be lent for a shorter time than theirs.
 #[derive(Debug, Drop)]
 pub struct NameIndex<'a> {
     names: Vec<&'a [u8]>,
-    by_name: BTreeMap<Vec<u8>, usize>,
+    by_name: ByName,
 }
 
 impl<'a> Model for NameIndex<'a> {
@@ -27,7 +23,7 @@ impl<'a> Model for NameIndex<'a> {
 
     ghost view = { λ s. map (λ name. name.now) s.names.items };
 
-    ghost invariant = { λ s. AreFound s.by_name.entries (map (λ name. name.now) s.names.items) };
+    ghost invariant = { λ s. AreFound s.by_name (map (λ name. name.now) s.names.items) };
 }
 
 impl<'a> NameIndex<'a> {
@@ -36,7 +32,7 @@ impl<'a> NameIndex<'a> {
     {
         NameIndex {
             names: Vec::new(alloc),
-            by_name: BTreeMap::new(alloc),
+            by_name: ByName::new(alloc),
         }
     }
 
@@ -44,7 +40,7 @@ impl<'a> NameIndex<'a> {
     pub fn find(&self, name: &[u8]) -> Option<usize>
         ensures { result ≡ index_in self.now name.now }
     {
-        self.by_name.get(name).copied()
+        self.by_name.find(name)
     }
 
     /// Whether the name is there.
@@ -75,11 +71,11 @@ impl<'a> NameIndex<'a> {
         ensures kept { OnErr result (self.new ≡ self.old) }
     {
         let index = self.names.len();
-        let key = Vec::from_slice(*self.names.allocator(), name)?;
+        let alloc = *self.names.allocator();
         self.names.push(name)?;
-        match self.by_name.insert(key, index) {
-            Ok(_) => Ok(()),
-            Err(_) => {
+        match self.by_name.add(alloc, name, index) {
+            Ok(()) => Ok(()),
+            Err(AllocError) => {
                 let _name = self.names.pop();
                 Err(AllocError)
             }

@@ -12,6 +12,5 @@ invariant_of-self-in-Ok c =
     let long : c.len-index.result ≡ length old = search rules in
     let is = long ∙ sym (length-map old (λ k. k.now)) in
     let names = ap (map (λ k. k.now)) c.in_ok-push.ensures.items ∙ map_push (λ k. k.now) old c.args.name in
-    subst (AreFound c.insert.new.self.entries) (sym names)
-    (found_after c.self.inside.by_name c.insert.new.self (map (λ k. k.now) old) c.args.name.now c.in_ok-key.key c.len-index.result c.self.invariant fresh c.in_ok-key.ensures.items is
-    c.in-Ok.ensures.updates)
+    subst (AreFound c.add.new.self) (sym names)
+    (found_after c.self.inside.by_name c.add.new.self (map (λ k. k.now) old) c.args.name.now c.len-index.result c.self.invariant fresh is c.in-Ok.ensures.added)
