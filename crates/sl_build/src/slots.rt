@@ -26,14 +26,14 @@ pub(crate) enum Slot {
     Action(u32),
 }
 
-fn slot_of(alloc: Global, leaves: &JoinedLeaves, operand: &Operand) -> Result<Slot, AllocError>
+fn slot_of(leaves: &JoinedLeaves, operand: &Operand) -> Result<Slot, AllocError>
     ensures { IfOk result (λ slot. (t : TablesOf) (bytes : List ℕ) (n : Node) (lengths : List ℕ)
         → slot_reference t bytes n lengths slot ≡ given_reference t bytes n
         (leaves_at lengths leaves.now) operand.now.name operand.now.means) }
 {
     match operand.means {
         Means::Field(id) => {
-            let place = bare(alloc, leaves, operand.name)?;
+            let place = bare(leaves, operand.name)?;
             Ok(Slot::Field(id, place))
         }
         Means::Table(_) => Ok(Slot::Table),
@@ -54,7 +54,7 @@ fn slots_by(
 {
     let mut slots = Vec::new(alloc);
     'operands: for index in 0..operands.len() {
-        let slot = slot_of(alloc, leaves, &operands[index])?;
+        let slot = slot_of(leaves, &operands[index])?;
         slots.push(slot)?;
     }
     Ok(slots)

@@ -35,7 +35,6 @@ fn read_field(t: &Tables, id: FieldId, place: Extent) -> Value
 
 /// What a name gives.
 fn read_name(
-    alloc: Global,
     t: &Tables,
     operands: &[Operand],
     leaves: &JoinedLeaves,
@@ -46,7 +45,7 @@ fn read_name(
 {
     match kind_of(t, operands, name)? {
         Kind::Field(id) => {
-            let place = place_of(alloc, leaves, name)?;
+            let place = place_of(leaves, name)?;
             Ok(read_field(t, id, place))
         }
         Kind::Action(number) => Ok(Value::Named(number)),
@@ -99,7 +98,7 @@ pub fn compile(
     match e {
         Expr::Integer(n) => Ok(Value::Number(literal(*n))),
         Expr::Name(name) => {
-            let value = read_name(alloc, t, operands, leaves, name)?;
+            let value = read_name(t, operands, leaves, name)?;
             Ok(value)
         }
         Expr::Paren(inner) => compile(alloc, t, operands, leaves, inner),
@@ -124,7 +123,6 @@ pub fn compile(
 
 /// What the address of a commit comes to.
 pub fn address(
-    alloc: Global,
     t: &Tables,
     operands: &[Operand],
     leaves: &JoinedLeaves,
@@ -136,7 +134,7 @@ pub fn address(
 {
     match of {
         Address::Name(name) => {
-            let value = read_name(alloc, t, operands, leaves, name)?;
+            let value = read_name(t, operands, leaves, name)?;
             Ok(value)
         }
         Address::Integer(n) => Ok(Value::Number(literal(*n))),

@@ -4,16 +4,17 @@ ghost use Rattle.std.specs.Prelude.{◌≡◌, ◌+◌, ◌-◌, ◌^◌, ℕ, L
 ghost use Rattle.sl_plan.specs.Extents.{extent};
 
 use std::alloc::{AllocError, Global};
+use std::rc::Rc;
 
 /// A number of bytes, by the lengths of the table operands of a node. An operand that has no length
-/// yet counts as 0.
+/// yet counts as 0. Its parts are shared, so that no copy costs more than one node.
 #[derive(Drop)]
 pub enum Extent {
     Fixed(u64),
     /// The length of the operand of this number among the table operands.
     Operand(usize),
-    Sum(Box<Extent>, Box<Extent>),
-    Greater(Box<Extent>, Box<Extent>),
+    Sum(Rc<Extent>, Rc<Extent>),
+    Greater(Rc<Extent>, Rc<Extent>),
 }
 
 /// What it comes to, whatever it is; 2^64 - 1 stands for all that is more.
@@ -40,19 +41,19 @@ pub fn extent_of(e: &Extent, lengths: &[u32]) -> u64
 }
 
 /// The same once more.
-pub fn again(alloc: Global, e: &Extent) -> Result<Extent, AllocError>
+pub fn again(e: &Extent) -> Result<Extent, AllocError>
     ensures { IfOk result (λ r. (lengths : List ℕ) → extent r lengths ≡ extent e.now lengths) }
 {
     match e {
         Extent::Fixed(n) => Ok(Extent::Fixed(*n)),
         Extent::Operand(index) => Ok(Extent::Operand(*index)),
         Extent::Sum(a, b) => {
-            let left = Box::new(alloc, again(alloc, a)?)?;
-            Ok(Extent::Sum(left, Box::new(alloc, again(alloc, b)?)?))
+            let left = a.clone()?;
+            Ok(Extent::Sum(left, b.clone()?))
         }
         Extent::Greater(a, b) => {
-            let left = Box::new(alloc, again(alloc, a)?)?;
-            Ok(Extent::Greater(left, Box::new(alloc, again(alloc, b)?)?))
+            let left = a.clone()?;
+            Ok(Extent::Greater(left, b.clone()?))
         }
     }
 }
@@ -78,8 +79,8 @@ pub fn sum(alloc: Global, a: Extent, b: Extent) -> Result<Extent, AllocError>
             return Ok(Extent::Fixed(total));
         }
     }
-    let left = Box::new(alloc, a)?;
-    Ok(Extent::Sum(left, Box::new(alloc, b)?))
+    let left = Rc::new(alloc, a)?;
+    Ok(Extent::Sum(left, Rc::new(alloc, b)?))
 }
 
 /// The greater of both.
@@ -90,6 +91,6 @@ pub fn greater(alloc: Global, a: Extent, b: Extent) -> Result<Extent, AllocError
     if let (Extent::Fixed(n), Extent::Fixed(m)) = (&a, &b) {
         return Ok(Extent::Fixed((*n).max(*m)));
     }
-    let left = Box::new(alloc, a)?;
-    Ok(Extent::Greater(left, Box::new(alloc, b)?))
+    let left = Rc::new(alloc, a)?;
+    Ok(Extent::Greater(left, Rc::new(alloc, b)?))
 }

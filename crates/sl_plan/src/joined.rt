@@ -78,27 +78,23 @@ impl<'a> JoinedLeaves<'a> {
 }
 
 /// The place of a name's first occurrence, or the front where there is none.
-pub(crate) fn place_of(
-    alloc: Global,
-    leaves: &JoinedLeaves,
-    name: &[u8],
-) -> Result<Extent, AllocError>
+pub(crate) fn place_of(leaves: &JoinedLeaves, name: &[u8]) -> Result<Extent, AllocError>
     ensures { IfOk result (λ r. (lengths : List ℕ) → extent r lengths
         ≡ or_start (first_place name.now (leaves_at lengths leaves.now))) }
 {
     match first_in(leaves.patterns.as_slice(), name) {
-        Some(place) => again(alloc, place),
+        Some(place) => again(place),
         None => Ok(Extent::Fixed(0)),
     }
 }
 
 /// The place where a name stands alone, or the front where it doesn't.
-pub fn bare(alloc: Global, leaves: &JoinedLeaves, name: &[u8]) -> Result<Extent, AllocError>
+pub fn bare(leaves: &JoinedLeaves, name: &[u8]) -> Result<Extent, AllocError>
     ensures { IfOk result (λ r. (lengths : List ℕ) → extent r lengths
         ≡ or_start (bare_place name.now (leaves_at lengths leaves.now))) }
 {
     match alone_in(leaves.patterns.as_slice(), name) {
-        Some(place) => again(alloc, place),
+        Some(place) => again(place),
         None => Ok(Extent::Fixed(0)),
     }
 }

@@ -55,7 +55,6 @@ pub fn look_up(t: &Tables, scope: &Scope, look: &Look) -> Result<(), Fault>
 
 /// The look-up of a leaf; none where it never fails.
 fn look_of(
-    alloc: Global,
     t: &Tables,
     operands: &[Operand],
     leaf: &Leaf,
@@ -71,7 +70,7 @@ fn look_of(
             if is_always_shown(t, field) {
                 return Ok(None);
             }
-            let place = again(alloc, &leaf.place)?;
+            let place = again(&leaf.place)?;
             Ok(Some(Look { field, place }))
         }
         Kind::Table(_) => Ok(None),
@@ -94,7 +93,7 @@ pub(crate) fn looks_of(
 {
     let mut all = Vec::new(alloc);
     'leaves: for leaf in leaves {
-        let step = look_of(alloc, t, operands, leaf)?;
+        let step = look_of(t, operands, leaf)?;
         add(step, &mut all)?;
     }
     Ok(all)
@@ -124,7 +123,6 @@ fn name_of(
 
 /// The commit of a field of the context.
 fn commit_of(
-    alloc: Global,
     t: &Tables,
     operands: &[Operand],
     leaves: &JoinedLeaves,
@@ -138,7 +136,7 @@ fn commit_of(
 {
     match context_field(t, kind_of(t, operands, name)?) {
         Some(_) => {
-            let value = address(alloc, t, operands, leaves, to)?;
+            let value = address(t, operands, leaves, to)?;
             Ok(Some(Late::Commit(value)))
         }
         None => Ok(None),
@@ -162,7 +160,7 @@ fn late_of(
             Ok(step)
         }
         Action::GlobalSet(to, name) => {
-            let step = commit_of(alloc, t, operands, leaves, name, to)?;
+            let step = commit_of(t, operands, leaves, name, to)?;
             Ok(step)
         }
     }

@@ -43,7 +43,7 @@ pub(crate) fn alone_of<'l>(leaves: &'l [Leaf], name: &[u8]) -> Option<&'l Extent
 }
 
 /// Adds a name that stands alone, unless it is there.
-fn add_alone<'a>(alloc: Global, leaf: &Leaf<'a>, all: &mut Vec<Leaf<'a>>) -> Result<(), AllocError>
+fn add_alone<'a>(leaf: &Leaf<'a>, all: &mut Vec<Leaf<'a>>) -> Result<(), AllocError>
     ensures { OnOk result ((lengths : List ℕ) (name : Name) (rest : List LeafAt)
         → bare_place name (leaves_at lengths all.new.items ++ rest)
         ≡ bare_place name (leaves_at lengths all.old.items ++ leaf_at lengths leaf.now ∷ rest)) }
@@ -54,7 +54,7 @@ fn add_alone<'a>(alloc: Global, leaf: &Leaf<'a>, all: &mut Vec<Leaf<'a>>) -> Res
     if alone_of(all.as_slice(), leaf.name).is_some() {
         return Ok(());
     }
-    let place = again(alloc, &leaf.place)?;
+    let place = again(&leaf.place)?;
     all.push(Leaf {
         name: leaf.name,
         alone: true,
@@ -71,7 +71,7 @@ pub(crate) fn alone_in<'a>(alloc: Global, leaves: &[Leaf<'a>]) -> Result<Vec<Lea
 {
     let mut all = Vec::new(alloc);
     'leaves: for index in 0..leaves.len() {
-        add_alone(alloc, &leaves[index], &mut all)?;
+        add_alone(&leaves[index], &mut all)?;
     }
     Ok(all)
 }

@@ -103,7 +103,7 @@ fn beside(alloc: Global, op: PatternOp, at: Extent, left: &Extent) -> Result<Ext
         ≡ place_beside op (extent at lengths) (extent left.now lengths)) }
 {
     match op {
-        PatternOp::Then => sum(alloc, at, again(alloc, left)?),
+        PatternOp::Then => sum(alloc, at, again(left)?),
         PatternOp::And => Ok(at),
         PatternOp::Or => Ok(at),
     }
@@ -159,7 +159,7 @@ fn add_leaves<'a>(
         Pattern::Paren(inner) => add_leaves(alloc, t, operands, at, inner, all),
         Pattern::Ellipsis(inner) => add_leaves(alloc, t, operands, at, inner, all),
         Pattern::Joined(op, left, right) => {
-            let start = again(alloc, &at)?;
+            let start = again(&at)?;
             let first = add_leaves(alloc, t, operands, at, left, all)?;
             let next = beside(alloc, *op, start, &first)?;
             let second = add_leaves(alloc, t, operands, next, right, all)?;

@@ -58,19 +58,19 @@ fn table_in(operand: &Operand) -> TableId
 }
 
 /// The place of a table operand.
-fn place_in(alloc: Global, leaves: &JoinedLeaves, operand: &Operand) -> Result<Extent, AllocError>
+fn place_in(leaves: &JoinedLeaves, operand: &Operand) -> Result<Extent, AllocError>
     ensures { IfOk result (λ r. (lengths : List ℕ) → extent r lengths
         ≡ or_start (bare_place operand.now.name (leaves_at lengths leaves.now))) }
 {
-    let place = bare(alloc, leaves, operand.name)?;
+    let place = bare(leaves, operand.name)?;
     Ok(place)
 }
 
-fn slot_of(alloc: Global, leaves: &JoinedLeaves, operand: &Operand) -> Result<Slot, AllocError>
+fn slot_of(leaves: &JoinedLeaves, operand: &Operand) -> Result<Slot, AllocError>
     ensures { IfOk result (λ r. done_slot r
         ≡ slot_by (λ lengths. leaves_at lengths leaves.now) operand.now) }
 {
-    let place = place_in(alloc, leaves, operand)?;
+    let place = place_in(leaves, operand)?;
     Ok(Slot {
         table: table_in(operand),
         place,
@@ -79,7 +79,6 @@ fn slot_of(alloc: Global, leaves: &JoinedLeaves, operand: &Operand) -> Result<Sl
 
 /// Adds an operand, if it is a table.
 fn add_slot(
-    alloc: Global,
     leaves: &JoinedLeaves,
     operand: &Operand,
     all: &mut Vec<Slot>,
@@ -89,7 +88,7 @@ fn add_slot(
         (table_operands (operand.now ∷ []))) }
 {
     if means_table(operand.means) {
-        let slot = slot_of(alloc, leaves, operand)?;
+        let slot = slot_of(leaves, operand)?;
         all.push(slot)?;
     }
     Ok(())
@@ -107,7 +106,7 @@ fn slots_of(
 {
     let mut all = Vec::new(alloc);
     'operands: for index in 0..operands.len() {
-        add_slot(alloc, leaves, &operands[index], &mut all)?;
+        add_slot(leaves, &operands[index], &mut all)?;
     }
     Ok(all)
 }

@@ -24,11 +24,11 @@ pub(crate) struct Whole<'a> {
 }
 
 /// The same once more.
-fn look_again(alloc: Global, look: &Look) -> Result<Look, AllocError>
+fn look_again(look: &Look) -> Result<Look, AllocError>
     ensures { IfOk result (λ r. (t : TablesOf) (s : Site) (c : Own)
         → look_step t s r c ≡ look_step t s look.now c) }
 {
-    let place = again(alloc, &look.place)?;
+    let place = again(&look.place)?;
     Ok(Look {
         field: look.field,
         place,
@@ -36,13 +36,13 @@ fn look_again(alloc: Global, look: &Look) -> Result<Look, AllocError>
 }
 
 /// Adds look-ups.
-fn add_looks(alloc: Global, looks: &[Look], all: &mut Vec<Look>) -> Result<(), AllocError>
+fn add_looks(looks: &[Look], all: &mut Vec<Look>) -> Result<(), AllocError>
     ensures { OnOk result ((t : TablesOf) (s : Site) (c : Own)
         → in_turn (look_step t s) all.new.items c
         ≡ in_turn (look_step t s) (all.old.items ++ looks.now) c) }
 {
     'looks: for index in 0..looks.len() {
-        let look = look_again(alloc, &looks[index])?;
+        let look = look_again(&looks[index])?;
         all.push(look)?;
     }
     Ok(())
@@ -66,8 +66,8 @@ impl<'a> Whole<'a> {
     {
         let mut leaves = self.leaves;
         let mut looks = self.looks;
-        add_looks(alloc, its.looks.as_slice(), &mut looks)?;
-        let beside = again(alloc, &its.length)?;
+        add_looks(its.looks.as_slice(), &mut looks)?;
+        let beside = again(&its.length)?;
         let length = greater(alloc, self.length, beside)?;
         leaves.add(its)?;
         Ok(Whole {

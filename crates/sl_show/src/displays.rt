@@ -58,7 +58,7 @@ fn add_operand(
 {
     match means {
         Means::Field(id) => {
-            let place = bare(alloc, leaves, name)?;
+            let place = bare(leaves, name)?;
             maker.add(alloc, Part::Field(id, place))
         }
         Means::Table(_) => match slot_number(operands, name) {
