@@ -370,6 +370,15 @@ def late_fields(size):
     return {"s": front + ":x is %s [ %s ] {}\n" % (" & ".join("%s>=0" % name for name in names), "m = f127; " * size)}
 
 
+def late_names(size):
+    """A constructor in sixteen blocks, each with a pattern of 127 fields, and so many actions that name the last of them all."""
+    names = ["f%d" % n for n in range(16 * 127)]
+    front = MACHINE + "define register offset=0x40 size=4 c;\ndefine context c m=(0,7);\ndefine token w (8) op=(0,7) %s;\n" % " ".join(
+        "%s=(0,7)" % name for name in names)
+    heads = "".join("with : %s {\n" % " & ".join("%s>=0" % name for name in names[first:first + 127]) for first in range(0, len(names), 127))
+    return {"s": front + heads + ":x is op=16 [ %s ] {}\n" % ("m = %s; " % names[-1] * size) + "}\n" * 16, "i": b"\x10"}
+
+
 def loop(size):
     """One instruction that jumps 65,536 times over so many statements."""
     body = "<top> %s goto <top>;" % ("X = X + 1; " * size)
@@ -477,6 +486,8 @@ KINDS = (
     Hostile("labels of one section, p-code", "labels", powers(512, 4680), "4,681", labels, lambda n: (DONE, "00000000: 10 x\n"), ("pcode", "s", "i")),
     Hostile("constructors that call one macro with 4,600 labels", "constructors", powers(16, 65535), "65,535", many_labels, lambda n: ok(1, n)),
     Hostile("actions that name the last of 128 fields", "actions", powers(10000, 1600000), "1,600,000", late_fields, always_ok),
+    Hostile("actions that name the last of 2,032 fields in sixteen blocks, listed", "actions", powers(10000, 1300000), "1,300,000", late_names,
+            lambda n: (DONE, "00000000: 10 x\n"), LIST),
     Hostile("65,536 jumps over statements, one step", "statements", powers(64, 10920), "10,921", loop,
             lambda n: (STOPPED, "steps 0\n"), ("run", "s", "i")),
     Hostile("reads through 1,000 pointers, checked", "reads", powers(16, 14000), "about 14,000", pointers, lambda n: ok(1001, 1001)),

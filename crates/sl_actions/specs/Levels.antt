@@ -102,6 +102,13 @@ StaysJudged all t s more j k = (outer : (Name → Bool) → Bool) (before : List
     → IsJudged all t s (λ f. outer f || list_any f j.early_names.names) before j
     → IsJudged all t s (λ f. outer f || list_any f k.early_names.names) (before ++ more) k
 
+-- rule 23 inside levels and a pattern with these names behind a table
+abbrev pub early_inside : List Level → List Name → Pending → Pending
+early_inside levels behind_table outer = record {
+  holds = outer.holds && not (any_unwanted levels (is_among behind_table));
+  names = [];
+}
+
 -- It is known inside levels and a pattern with these names, where j is known at the innermost of
 -- the levels.
 pub record IsBegun (levels : List Level) (names : PatternNames) (j k : Judged) : Type 0 where
@@ -109,12 +116,7 @@ pub record IsBegun (levels : List Level) (names : PatternNames) (j k : Judged) :
   pub new_left : k.new_left ≡ j.new_left
   pub known_names : (f : Name → Bool) → all_stand k.known_names f
       ≡ all_stand j.known_names (λ n. is_among names.anywhere n || f n)
-  pub early_names : k.early_names
-      ≡ record {
-        holds = j.early_names.holds
-            && not (any_unwanted levels (is_among names.behind_table));
-        names = [];
-      }
+  pub early_names : k.early_names ≡ early_inside levels names.behind_table j.early_names
   pub context_field : k.context_field ≡ j.context_field
   pub address : (f : Name → Bool) → all_stand k.address f
       ≡ all_stand j.address (λ n. is_among names.bare n || f n)

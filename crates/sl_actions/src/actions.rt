@@ -4,7 +4,7 @@ ghost use Rattle.std.specs.Prelude.{◌≡◌, [], IfOk, OnOk, fold};
 ghost use Rattle.sl_ast.specs.Views.{action_of, actions_of};
 ghost use Rattle.sl_actions.specs.ActionNames.{with_name};
 ghost use Rattle.sl_actions.specs.Blocks.{IsInside};
-ghost use Rattle.sl_actions.specs.Levels.{IsBegun, IsWith, StaysJudged, innermost};
+ghost use Rattle.sl_actions.specs.Levels.{IsBegun, IsWith, StaysJudged, early_inside, innermost};
 ghost use Rattle.sl_actions.specs.SeenActions.{seen_written};
 ghost use Rattle.sl_actions.specs.Stands.{stands_of};
 
@@ -32,6 +32,22 @@ fn copied<'a>(alloc: Global, names: &NameSet<'a>) -> Result<NameSet<'a>, AllocEr
     Ok(copy)
 }
 
+/// Rule 23 inside these levels, where this is known of it at the innermost one, before any action
+/// inside a pattern with these names behind a table.
+fn early_inside<'a>(
+    alloc: Global,
+    around: &[Level<'a>],
+    outer: &Pending<'a>,
+    behind_table: &NameSet<'a>,
+) -> Pending<'a>
+    ensures { result ≡ early_inside around.now behind_table.now outer.now }
+{
+    Pending {
+        holds: outer.holds && !any_unwanted(around, behind_table),
+        names: NameSet::new(alloc),
+    }
+}
+
 /// What is known inside these levels, where this is known at the innermost one, before any action
 /// inside a pattern with these names.
 fn begun_inside<'a>(
@@ -42,13 +58,11 @@ fn begun_inside<'a>(
 ) -> Result<Judged<'a>, AllocError>
     ensures { IfOk result (IsBegun around.now names.now outer.now) }
 {
-    let mut early_names = Pending::new(alloc);
-    early_names.holds = outer.early_names.holds && !any_unwanted(around, &names.behind_table);
     Ok(Judged {
         given: copied(alloc, &outer.given)?,
         new_left: outer.new_left,
         known_names: left_inside(alloc, &outer.known_names, &names.anywhere)?,
-        early_names,
+        early_names: early_inside(alloc, around, &outer.early_names, &names.behind_table),
         context_field: outer.context_field,
         address: left_inside(alloc, &outer.address, &names.bare)?,
     })
