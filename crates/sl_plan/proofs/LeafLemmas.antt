@@ -1,5 +1,5 @@
 -- Where names stand in rows of names.
-use Rattle.std.proofs.Common.{◌≡◌, ℕ, ◌+◌, ◌<◌, ◌≤◌, Bool, true, false, cond, List, [], ◌∷◌, ◌++◌, length, get_or, drop, Option, None, Some, refl, sym, ap, ◌∙◌}
+use Rattle.std.proofs.Common.{◌≡◌, ℕ, ◌+◌, ◌<◌, ◌≤◌, Bool, true, false, cond, List, [], ◌∷◌, ◌++◌, length, get_or, drop, append-nil, Option, None, Some, refl, sym, ap, ◌∙◌}
 use Rattle.std.proofs.lemmas.List.{drop_more, map-append}
 use Rattle.std.proofs.Math.ListN.{drop_of_length-le}
 use Rattle.std.proofs.lemmas.Slice.Eq.{bytes_eq-Decides}
@@ -11,6 +11,7 @@ use Rattle.std.specs.declared.rc.Rc.{Rc}
 use Rattle.sl_decoding.specs.Places.{Leaf, bare_place, first_place, leaf}
 use Rattle.sl_plan.specs.Extents.{leaf_at, leaves_at}
 use Rattle.sl_plan.specs.Joined.{all_leaves}
+use Rattle.sl_plan.specs.declared.leaves.Leaf as l
 use Rattle.sl_plan.specs.declared.pattern_leaves.PatternLeaves.{PatternLeaves}
 use Rattle.sl_spec.specs.Tables.{Name}
 
@@ -87,23 +88,42 @@ skipped n m b at (Some e) y is there = refl
 skipped n m false at None y is there = refl
 skipped n m true at None y is there = absurd (cc ((there ((bytes_eq-Decides n m).0 is)).1))
 
-there_already : (m n : Name) (xs rest : List Leaf) (at e : ℕ) → bare_place n xs ≡ Some e
-    → bare_place m (xs ++ rest) ≡ bare_place m (xs ++ leaf n true at ∷ rest)
-there_already m n xs rest at e there =
-    bare_append m xs rest
-    ∙ skipped n m (bytes_eq n m) at (bare_place m xs) (bare_place m rest) refl
-    (λ same. (e, ap (λ k. bare_place k xs) (sym same) ∙ there))
-    ∙ sym (bare_append m xs (leaf n true at ∷ rest))
+module _ (place : Name → List Leaf → Option ℕ)
+    (append : (m : Name) (xs ys : List Leaf) → place m (xs ++ ys) ≡ option_or (place m xs) (place m ys)) where
+  pub there_already : (m n : Name) (x : Leaf) (xs rest : List Leaf) (at e : ℕ)
+      → place m (x ∷ rest) ≡ cond (bytes_eq n m) (Some at) (place m rest) → place n xs ≡ Some e
+      → place m (xs ++ rest) ≡ place m (xs ++ x ∷ rest)
+  there_already m n x xs rest at e front there =
+      append m xs rest
+      ∙ skipped n m (bytes_eq n m) at (place m xs) (place m rest) refl
+      (λ same. (e, ap (λ k. place k xs) (sym same) ∙ there))
+      ∙ sym (append m xs (x ∷ rest) ∙ ap (option_or (place m xs)) front)
 
 pub there_too : {A : Type 0} (m n : Name) (b : Bool) (xs rest : List Leaf) (at : ℕ) (o : Option A) (f : A → ℕ)
     → b ≡ true → is_some o ≡ true → option_map f o ≡ bare_place n xs
     → bare_place m (xs ++ rest) ≡ bare_place m (xs ++ leaf n b at ∷ rest)
 there_too m n false xs rest at o f holds some found = absurd (cc holds)
 there_too m n true xs rest at None f holds some found = absurd (cc some)
-there_too m n true xs rest at (Some a) f holds some found = there_already m n xs rest at (f a) (sym found)
+there_too m n true xs rest at (Some a) f holds some found =
+    there_already bare_place bare_append m n (leaf n true at) xs rest at (f a) refl (sym found)
 
 pub not_alone : (m n : Name) (b : Bool) (xs rest : List Leaf) (at : ℕ) → b ≡ false
     → bare_place m (xs ++ rest) ≡ bare_place m (xs ++ leaf n b at ∷ rest)
 not_alone m n true xs rest at fails = absurd (cc fails)
 not_alone m n false xs rest at fails =
     bare_append m xs rest ∙ sym (bare_append m xs (leaf n false at ∷ rest))
+
+-- ---- rows that are made one by one
+
+module _ (place : List Leaf → Option ℕ) (lengths : List ℕ) (ls : List l.Leaf) (i : ℕ) (whole : Option ℕ) where
+  pub one_added : (x : l.Leaf) (made more : List Leaf) → i < length ls → x ≡ get_or ls i x
+      → place (more ++ leaves_at lengths (drop (i + 1) ls)) ≡ place (made ++ leaf_at lengths x ∷ leaves_at lengths (drop (i + 1) ls))
+      → place (made ++ leaves_at lengths (drop i ls)) ≡ whole
+      → place (more ++ leaves_at lengths (drop (i + 1) ls)) ≡ whole
+  one_added x made more below is added so_far =
+      let cut : drop i ls ≡ x ∷ drop (i + 1) ls = drop_more ls i x below ∙ ap (λ (y : l.Leaf). y ∷ drop (i + 1) ls) (sym is) in
+      added ∙ sym (ap (λ ys. place (made ++ leaves_at lengths ys)) cut) ∙ so_far
+
+  pub all_added : (made : List Leaf) → length ls ≤ i → place (made ++ leaves_at lengths (drop i ls)) ≡ whole → place made ≡ whole
+  all_added made end so_far =
+      ap place (sym (append-nil made)) ∙ sym (ap (λ ys. place (made ++ leaves_at lengths ys)) (drop_of_length-le ls end)) ∙ so_far

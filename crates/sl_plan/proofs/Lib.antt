@@ -1,4 +1,5 @@
 pub mod BlockLemmas
+pub mod FirstLemmas
 pub mod LeafLemmas
 pub mod LookLemmas
 pub mod MadeLemmas

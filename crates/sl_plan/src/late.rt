@@ -54,11 +54,7 @@ pub fn look_up(t: &Tables, scope: &Scope, look: &Look) -> Result<(), Fault>
 }
 
 /// The look-up of a leaf; none where it never fails.
-fn look_of(
-    t: &Tables,
-    operands: &[Operand],
-    leaf: &Leaf,
-) -> Result<Option<Look>, AllocError>
+fn look_of(t: &Tables, operands: &[Operand], leaf: &Leaf) -> Result<Option<Look>, AllocError>
     ensures { IfOk result (λ o. (s : Site) (c : Own) → maybe (look_step t.now s) o c
         ≡ look t.now operands.now s (leaf_at s.lengths leaf.now) c) }
 {

@@ -6,6 +6,7 @@ ghost use Rattle.sl_plan.specs.Extents.{extent, leaf_at, leaves_at};
 ghost use Rattle.sl_spec.specs.Tables.{Name};
 
 use crate::extents::{Extent, again};
+use sl_spec::{Entry, Named};
 use std::alloc::{AllocError, Global};
 
 /// A name in a pattern, whether it stands alone, and its place.
@@ -16,17 +17,55 @@ pub struct Leaf<'a> {
     pub place: Extent,
 }
 
-/// The place of a name's first occurrence.
-pub(crate) fn first_of<'l>(leaves: &'l [Leaf], name: &[u8]) -> Option<&'l Extent>
+impl<'a> Entry for Leaf<'a> {
+    ghost name_of = { λ x. x.name.now };
+}
+
+/// The place of a name's first occurrence, where each name has one.
+pub(crate) fn first_of<'l>(leaves: &'l Named<'_, Leaf<'_>>, name: &[u8]) -> Option<&'l Extent>
     ensures { (lengths : List ℕ) → option_map (λ e. extent e.now lengths) result
         ≡ first_place name.now (leaves_at lengths leaves.now) }
 {
-    'leaves: for leaf in leaves {
-        if leaf.name == name {
-            return Some(&leaf.place);
-        }
+    match leaves.get(name) {
+        Some(leaf) => Some(&leaf.place),
+        None => None,
     }
-    None
+}
+
+/// Adds a name, unless it is there.
+fn add_first<'a>(leaf: &Leaf<'a>, all: &mut Named<'a, Leaf<'a>>) -> Result<(), AllocError>
+    ensures { OnOk result ((lengths : List ℕ) (name : Name) (rest : List LeafAt)
+        → first_place name (leaves_at lengths all.new ++ rest)
+        ≡ first_place name (leaves_at lengths all.old ++ leaf_at lengths leaf.now ∷ rest)) }
+{
+    if all.has(leaf.name) {
+        return Ok(());
+    }
+    let place = again(&leaf.place)?;
+    all.add(
+        leaf.name,
+        Leaf {
+            name: leaf.name,
+            alone: leaf.alone,
+            place,
+        },
+    )?;
+    Ok(())
+}
+
+/// The names, each once, with its first place.
+pub(crate) fn firsts_in<'a>(
+    alloc: Global,
+    leaves: &[Leaf<'a>],
+) -> Result<Named<'a, Leaf<'a>>, AllocError>
+    ensures { IfOk result (λ v. (lengths : List ℕ) (name : Name)
+        → first_place name (leaves_at lengths v) ≡ first_place name (leaves_at lengths leaves.now)) }
+{
+    let mut all = Named::new(alloc);
+    'leaves: for index in 0..leaves.len() {
+        add_first(&leaves[index], &mut all)?;
+    }
+    Ok(all)
 }
 
 /// The place where a name stands alone first.

@@ -8,15 +8,21 @@ ghost use Rattle.sl_spec.specs.Tables.{Name};
 use crate::extents::Extent;
 use crate::late::Look;
 use crate::leaves::{Leaf, alone_of, first_of};
+use sl_spec::Named;
 
 /// The names of a pattern with their places, the look-ups of its bare fields, and its length.
 #[derive(Drop)]
 pub struct PatternLeaves<'a> {
     pub(crate) leaves: Vec<Leaf<'a>>,
+    /// The names, each once, with its first place.
+    pub(crate) firsts: Named<'a, Leaf<'a>>,
     /// The names that stand alone, each once, with its first place.
     pub(crate) alone: Vec<Leaf<'a>>,
     pub(crate) looks: Vec<Look>,
     pub(crate) length: Extent,
+    ghost stand_first: { (lengths : List ℕ) (name : Name)
+        → first_place name (leaves_at lengths firsts)
+        ≡ first_place name (leaves_at lengths leaves.items) },
     ghost stand_alone: { (lengths : List ℕ) (name : Name)
         → bare_place name (leaves_at lengths alone.items)
         ≡ bare_place name (leaves_at lengths leaves.items) },
@@ -28,7 +34,7 @@ impl PatternLeaves<'_> {
         ensures { (lengths : List ℕ) → option_map (λ e. extent e.now lengths) result
             ≡ first_place name.now (leaves_at lengths self.now.leaves.items) }
     {
-        first_of(self.leaves.as_slice(), name)
+        first_of(&self.firsts, name)
     }
 
     /// The place where a name stands alone first.

@@ -17,12 +17,12 @@ use crate::extents::{Extent, again, greater, sum};
 use crate::fields::token_of;
 use crate::kinds::kind_of;
 use crate::late::looks_of;
-use crate::leaves::{Leaf, alone_in};
+use crate::leaves::{Leaf, alone_in, firsts_in};
 use crate::pattern_leaves::PatternLeaves;
 use sl_ast::constructors::Head;
 use sl_ast::patterns::{Pattern, PatternOp};
 use sl_decoding::Kind;
-use sl_spec::{FieldId, Means, Operand, Tables};
+use sl_spec::{FieldId, Means, Named, Operand, Tables};
 use std::alloc::{AllocError, Global};
 
 pub(crate) fn means_table(means: Means) -> bool
@@ -180,10 +180,12 @@ pub(crate) fn leaves_of_pattern<'a>(
 {
     let mut leaves = Vec::new(alloc);
     let length = add_leaves(alloc, t, operands, Extent::Fixed(0), pattern, &mut leaves)?;
+    let firsts = firsts_in(alloc, leaves.as_slice())?;
     let alone = alone_in(alloc, leaves.as_slice())?;
     let looks = looks_of(alloc, t, operands, leaves.as_slice())?;
     Ok(PatternLeaves {
         leaves,
+        firsts,
         alone,
         looks,
         length,
@@ -196,6 +198,7 @@ fn no_leaves<'a>(alloc: Global) -> PatternLeaves<'a>
 {
     PatternLeaves {
         leaves: Vec::new(alloc),
+        firsts: Named::new(alloc),
         alone: Vec::new(alloc),
         looks: Vec::new(alloc),
         length: Extent::Fixed(0),

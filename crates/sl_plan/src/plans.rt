@@ -78,11 +78,7 @@ fn slot_of(leaves: &JoinedLeaves, operand: &Operand) -> Result<Slot, AllocError>
 }
 
 /// Adds an operand, if it is a table.
-fn add_slot(
-    leaves: &JoinedLeaves,
-    operand: &Operand,
-    all: &mut Vec<Slot>,
-) -> Result<(), AllocError>
+fn add_slot(leaves: &JoinedLeaves, operand: &Operand, all: &mut Vec<Slot>) -> Result<(), AllocError>
     ensures { OnOk result (map done_slot all.new.items ≡ map done_slot all.old.items
         ++ map (slot_by (λ lengths. leaves_at lengths leaves.now))
         (table_operands (operand.now ∷ []))) }
