@@ -28,11 +28,11 @@ use Rattle.sl_decoding.specs.declared.notes.Noted.{Noted}
 
 -- ---- a node at which nothing is left to do
 
-pub idle_late : (t : Tables) (p : Plan) (s : Site) (notes : List Noted) (commits : List Commit) → (p.looks.items ≡ []) × (p.late.items ≡ [])
+pub idle_late : (t : Tables) (p : Plan) (s : Site) (notes : List Noted) (commits : List Commit) → (p.looks.items ≡ []) × (p.late ≡ [])
     → told_of ((done t p).late s (own notes [] commits)) ≡ Ok (told [] commits)
 idle_late t p s notes commits idle =
     let c : Own = own notes [] commits in
-    ap (λ (ls : List Look). told_of (in_turn (look_step t s) ls c >>= in_turn (late_step t s) p.late.items)) idle.0
+    ap (λ (ls : List Look). told_of (in_turn (look_step t s) ls c >>= in_turn (late_step t s) p.late)) idle.0
     ∙ ap (λ (ls : List Late). told_of (in_turn (late_step t s) ls c)) idle.1
 
 -- ---- fronts of lists

@@ -2,4 +2,5 @@ pub mod BitLemmas
 pub mod ChoiceLemmas
 pub mod FinishLemmas
 pub mod ReadLemmas
+pub mod RowLemmas
 pub mod SproutLemmas

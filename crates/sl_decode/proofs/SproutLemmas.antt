@@ -170,7 +170,7 @@ module _ (grow : Grower) (ctor at : ℕ) (m : Meaning) (es : List Sprout) (ns : 
 module _ (t : Tables) (grow : Grower) (i : Input) (at context ctor : ℕ) (p : Plan)
     (es : List Sprout) (ns : List Noted) where
   abbrev pub acted : Result Changed Fault
-  acted = in_turn (early_step t (site_at i ctor at [] context 0)) p.early.items (changed context ns)
+  acted = in_turn (early_step t (site_at i ctor at [] context 0)) p.early (changed context ns)
 
   -- a node whose actions came to this
   pub opened_as : (ns1 : List Noted) (own : ℕ) (e0 : Sprout) → acted ≡ Ok (changed own ns1)
@@ -179,15 +179,15 @@ module _ (t : Tables) (grow : Grower) (i : Input) (at context ctor : ℕ) (p : P
       (laid_grove (row (es ++ e0 ∷ []) ns1) (operands grow (map done_slot p.slots.items) at [] own)))
   opened_as ns1 own e0 h =
       changes_from grow ctor at (done t p) es ns ns1 own e0
-      (in_turn (early_step t (site_at i ctor at [] context 0)) p.early.items (changed context []))
-      (sym (from_none t (site_at i ctor at [] context 0) p.early.items ns context) ∙ h)
+      (in_turn (early_step t (site_at i ctor at [] context 0)) p.early (changed context []))
+      (sym (from_none t (site_at i ctor at [] context 0) p.early ns context) ∙ h)
 
   pub opened_fails : (error : DecodeError) → Fails error acted
       → Fails error (laid (row es ns) (opened grow i at context (chosen ctor (done t p))))
   opened_fails error h =
       changes_fail grow ctor at (done t p) es ns error
-      (in_turn (early_step t (site_at i ctor at [] context 0)) p.early.items (changed context []))
-      (subst (Fails error) (from_none t (site_at i ctor at [] context 0) p.early.items ns context) h)
+      (in_turn (early_step t (site_at i ctor at [] context 0)) p.early (changed context []))
+      (subst (Fails error) (from_none t (site_at i ctor at [] context 0) p.early ns context) h)
 
 -- what is written in the end
 pub finished_so : (ctor at own len after : ℕ) (es N : List Sprout) (ns ns1 NS : List Noted) (place noted count : ℕ)

@@ -71,7 +71,7 @@ impl<C: Choose> Decode<'_, '_, C> {
         }
     }
 
-    /// All steps, from a context: the context behind them. Notes are added.
+    /// A row of steps, from a context: the context behind them. Notes are added.
     fn change(
         &self,
         ctor: CtorId,
@@ -103,10 +103,17 @@ impl<C: Choose> Decode<'_, '_, C> {
     ) -> Result<u64, DecodeError>
         ensures { Gives (λ x. changed x notes.new.items) result
             (in_turn (early_step self.now.tables.now
-            (site_at (input_of C.chosen self.now) ctor at [] context 0)) plan.now.early.items
+            (site_at (input_of C.chosen self.now) ctor at [] context 0)) plan.now.early
             (changed context notes.old.items)) }
     {
-        let own = self.change(ctor, at, plan.early.as_slice(), context, notes)?;
-        Ok(own)
+        let rows = plan.early.rows();
+        let mut now = context;
+        'rows: for index in 0..rows.len() {
+            match self.change(ctor, at, rows[index].as_slice(), now, notes) {
+                Ok(next) => now = next,
+                Err(error) => return Err(error),
+            }
+        }
+        Ok(now)
     }
 }

@@ -91,9 +91,9 @@ fn keep(
 
 /// Whether nothing is done at a node of the plan when the whole tree stands.
 fn is_idle(plan: &Plan) -> bool
-    ensures { IsTrue result → (plan.now.looks.items ≡ []) × (plan.now.late.items ≡ []) }
+    ensures { IsTrue result → (plan.now.looks.items ≡ []) × (plan.now.late ≡ []) }
 {
-    plan.looks.is_empty() && plan.late.is_empty()
+    plan.looks.is_empty() && plan.late.rows().is_empty()
 }
 
 impl<C: Choose> Decode<'_, '_, C> {
@@ -134,7 +134,7 @@ impl<C: Choose> Decode<'_, '_, C> {
         tell_all(
             self.tables,
             &scope,
-            plan.late.as_slice(),
+            &plan.late,
             node.notes,
             &mut room.values,
             commits,

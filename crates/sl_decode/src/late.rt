@@ -14,7 +14,7 @@ use crate::decode::value_of;
 use crate::outcomes::DecodeError;
 use sl_contexts::Commit;
 use sl_decoding::Noted;
-use sl_plan::{Late, Look, Scope, Value, look_up};
+use sl_plan::{Late, Look, Scope, Steps, Value, look_up};
 use sl_spec::Tables;
 
 /// The look-ups of a node.
@@ -99,11 +99,34 @@ fn tell_once<'n>(
     }
 }
 
+/// A row of steps: what is left of `notes`. Values and commits are added.
+fn tell_row<'n>(
+    t: &Tables,
+    scope: &Scope,
+    steps: &[Late],
+    notes: &'n [Noted],
+    values: &mut Vec<i64>,
+    commits: &mut Vec<Commit>,
+) -> Result<&'n [Noted], DecodeError>
+    ensures { Gives (λ left. own left.now values.new.items commits.new.items) result
+        (in_turn (late_step t.now (site_of scope.now)) steps.now
+        (own notes.now values.old.items commits.old.items)) }
+{
+    let mut rest = notes;
+    'steps: for index in 0..steps.len() {
+        match tell_once(t, scope, &steps[index], rest, values, commits) {
+            Ok(next) => rest = next,
+            Err(error) => return Err(error),
+        }
+    }
+    Ok(rest)
+}
+
 /// All steps. Values and commits are added.
 pub fn tell_all(
     t: &Tables,
     scope: &Scope,
-    steps: &[Late],
+    steps: &Steps<Late>,
     notes: &[Noted],
     values: &mut Vec<i64>,
     commits: &mut Vec<Commit>,
@@ -112,9 +135,10 @@ pub fn tell_all(
         (told_of (in_turn (late_step t.now (site_of scope.now)) steps.now
         (own notes.now values.old.items commits.old.items))) }
 {
+    let rows = steps.rows();
     let mut left = notes;
-    'steps: for index in 0..steps.len() {
-        match tell_once(t, scope, &steps[index], left, values, commits) {
+    'rows: for index in 0..rows.len() {
+        match tell_row(t, scope, rows[index].as_slice(), left, values, commits) {
             Ok(next) => left = next,
             Err(error) => return Err(error),
         }

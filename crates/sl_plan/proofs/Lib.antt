@@ -9,5 +9,7 @@ pub mod PatternLemmas
 pub mod PlanLemmas
 pub mod RunLemmas
 pub mod SameLemmas
+pub mod StepLemmas
 pub mod TiedLemmas
+pub mod UseLemmas
 pub mod WholeLemmas

@@ -37,12 +37,12 @@ module _ {X : Type 0} (P : X → Type 0) (xs : List X) where
   pub none_left : (Q : Type 0) (i : ℕ) → length xs ≤ i → IsLeft Q i → Q
   none_left Q i end left = left (subst (AllByRecursion P) (sym (drop_of_length-le xs end)) tt)
 
-all_push : {X : Type 0} (P : X → Type 0) (xs : List X) (x : X) → AllByRecursion P xs → P x
+pub all_push : {X : Type 0} (P : X → Type 0) (xs : List X) (x : X) → AllByRecursion P xs → P x
     → AllByRecursion P (xs ++ x ∷ [])
 all_push P [] x all its = (its, tt)
 all_push P (y ∷ ys) x all its = (all.0, all_push P ys x all.1 its)
 
-all_but_last : {X : Type 0} (P : X → Type 0) (xs : List X) (x : X) → AllByRecursion P (xs ++ x ∷ [])
+pub all_but_last : {X : Type 0} (P : X → Type 0) (xs : List X) (x : X) → AllByRecursion P (xs ++ x ∷ [])
     → AllByRecursion P xs × P x
 all_but_last P [] x all = (tt, all.0)
 all_but_last P (y ∷ ys) x all = let rest = all_but_last P ys x all.1 in ((all.0, rest.0), rest.1)

@@ -24,12 +24,12 @@ use Rattle.sl_spec.specs.declared.unfolded.Around.{Around}
 
 -- ---- steps, one behind the other
 
-bind_again : {A B C : Type 0} (r : Result A Fault) (f : A → Result B Fault) (g : B → Result C Fault)
+pub bind_again : {A B C : Type 0} (r : Result A Fault) (f : A → Result B Fault) (g : B → Result C Fault)
     → ((r >>= f) >>= g) ≡ (r >>= λ x. f x >>= g)
 bind_again (Ok x) f g = refl
 bind_again (Err fault) f g = refl
 
-turn_append : {A X : Type 0} (step : A → X → Result X Fault) (xs ys : List A) (x : X)
+pub turn_append : {A X : Type 0} (step : A → X → Result X Fault) (xs ys : List A) (x : X)
     → in_turn step (xs ++ ys) x ≡ (in_turn step xs x >>= in_turn step ys)
 turn_append step [] ys x = refl
 turn_append step (a ∷ as') ys x =

@@ -1,15 +1,19 @@
 -- view: what plans do.
-use Rattle.std.specs.Prelude.{ℕ, List, map, Option, option_map, slice_get}
-use Rattle.sl_ast.specs.Trees.{Action}
+use Rattle.std.specs.Prelude.{◌≡◌, ℕ, List, map, Option, option_map, slice_get}
+use Rattle.sl_ast.specs.Trees.{Action, Pattern}
 use Rattle.sl_decoding.specs.Actions.{act, look, tell}
-use Rattle.sl_decoding.specs.Meanings.{Meaning, slot, table_in}
+use Rattle.sl_decoding.specs.Meanings.{Meaning, said, slot, table_in}
 use Rattle.sl_decoding.specs.Meanings as m
 use Rattle.sl_decoding.specs.Outcomes.{◌>>=◌, in_turn}
 use Rattle.sl_decoding.specs.Places.{Leaf, bare_place, or_start, table_operands}
 use Rattle.sl_plan.specs.Extents.{extent}
+use Rattle.sl_plan.specs.Rights.{AreAllSteps}
 use Rattle.sl_plan.specs.Steps.{early_step, late_step, look_step}
+use Rattle.sl_plan.specs.Wholes.{IsWhole}
+use Rattle.sl_plan.specs.declared.block_steps.ActionSteps.{ActionSteps}
 use Rattle.sl_plan.specs.declared.plans.Plan.{Plan}
 use Rattle.sl_plan.specs.declared.plans.Slot.{Slot}
+use Rattle.sl_plan.specs.declared.whole.Whole.{Whole}
 use Rattle.sl_spec.specs.Tables.{Operand}
 use Rattle.sl_spec.specs.declared.tables.Tables.{Tables}
 
@@ -19,10 +23,10 @@ done_slot s = slot s.table (λ lengths. extent s.place lengths)
 -- what a plan does at the nodes of its constructor
 abbrev pub done : Tables → Plan → Meaning
 done t p = record {
-  early = λ s c. in_turn (early_step t s) p.early.items c;
+  early = λ s c. in_turn (early_step t s) p.early c;
   slots = map done_slot p.slots.items;
   length = λ lengths. extent p.length lengths;
-  late = λ s c. in_turn (look_step t s) p.looks.items c >>= in_turn (late_step t s) p.late.items;
+  late = λ s c. in_turn (look_step t s) p.looks.items c >>= in_turn (late_step t s) p.late;
 }
 
 -- what the plan of a constructor's number does
@@ -44,3 +48,8 @@ said_by_leaves t os leaves length as' = record {
   late = λ s c. in_turn (look t os s) (leaves s.lengths) c
       >>= in_turn (tell t os (leaves s.lengths) s) as';
 }
+
+-- A plan does what a pattern and actions say, whatever they are, of which these were made.
+abbrev pub DoesAll : List Operand → Whole → ActionSteps → Plan → Type 0
+DoesAll os whole steps plan = (t : Tables) (p : Pattern) (as' : List Action) → IsWhole t os p whole
+    → AreAllSteps t os whole.leaves as' steps → done t plan ≡ said t os p as'

@@ -1,8 +1,7 @@
 //! What is done at a node before its operands.
 
 ghost use Rattle.std.specs.Prelude.{◌≡◌, ◌+◌, ◌≤◌, ◌^◌, List, IfOk};
-ghost use Rattle.sl_actions.specs.SeenActions.{seen_actions};
-ghost use Rattle.sl_ast.specs.Views.{action_of, expression_of};
+ghost use Rattle.sl_ast.specs.Views.{action_of, actions_of, expression_of};
 ghost use Rattle.sl_decoding.specs.Actions.{Changed, act, add_note, mask_of, set_context};
 ghost use Rattle.sl_decoding.specs.Kinds.{context_field, kind_of};
 ghost use Rattle.sl_decoding.specs.Outcomes.{in_turn};
@@ -16,7 +15,6 @@ use crate::joined::JoinedLeaves;
 use crate::kinds::kind_of;
 use crate::steps::{add, context_field};
 use crate::values::Value;
-use sl_actions::ActionRef;
 use sl_ast::expressions::Expr;
 use sl_ast::patterns::Action;
 use sl_spec::{Field, Operand, Tables};
@@ -115,16 +113,15 @@ pub(crate) fn early_steps(
     t: &Tables,
     operands: &[Operand],
     leaves: &JoinedLeaves,
-    actions: &[ActionRef],
+    actions: &[Action],
 ) -> Result<Vec<Early>, AllocError>
     ensures { IfOk result (λ v. (s : Site) (c : Changed) → in_turn (early_step t.now s) v.items c
         ≡ in_turn (act t.now operands.now (leaves_at s.lengths leaves.now) s)
-        (seen_actions actions.now) c) }
+        (actions_of actions.now) c) }
 {
     let mut all = Vec::new(alloc);
     'actions: for index in 0..actions.len() {
-        let action = actions[index].action;
-        let step = early_of(alloc, t, operands, leaves, action)?;
+        let step = early_of(alloc, t, operands, leaves, &actions[index])?;
         add(step, &mut all)?;
     }
     Ok(all)

@@ -1,8 +1,7 @@
 //! What is done at a node when the whole tree stands.
 
 ghost use Rattle.std.specs.Prelude.{◌≡◌, ◌+◌, IfOk};
-ghost use Rattle.sl_actions.specs.SeenActions.{seen_actions};
-ghost use Rattle.sl_ast.specs.Views.{action_of, expression_of, operand_of_address};
+ghost use Rattle.sl_ast.specs.Views.{action_of, actions_of, expression_of, operand_of_address};
 ghost use Rattle.sl_decoding.specs.Actions.{Own, look, make_commit, set_name, tell};
 ghost use Rattle.sl_decoding.specs.Kinds.{context_field, kind_of};
 ghost use Rattle.sl_decoding.specs.Lookups.{shown};
@@ -20,7 +19,6 @@ use crate::kinds::kind_of;
 use crate::leaves::Leaf;
 use crate::steps::{add, context_field};
 use crate::values::{Scope, Value};
-use sl_actions::ActionRef;
 use sl_ast::expressions::Expr;
 use sl_ast::patterns::{Action, Address};
 use sl_decoding::{Fault, Kind};
@@ -168,16 +166,15 @@ pub(crate) fn late_steps(
     t: &Tables,
     operands: &[Operand],
     leaves: &JoinedLeaves,
-    actions: &[ActionRef],
+    actions: &[Action],
 ) -> Result<Vec<Late>, AllocError>
     ensures { IfOk result (λ v. (s : Site) (c : Own) → in_turn (late_step t.now s) v.items c
         ≡ in_turn (tell t.now operands.now (leaves_at s.lengths leaves.now) s)
-        (seen_actions actions.now) c) }
+        (actions_of actions.now) c) }
 {
     let mut all = Vec::new(alloc);
     'actions: for index in 0..actions.len() {
-        let action = actions[index].action;
-        let step = late_of(alloc, t, operands, leaves, action)?;
+        let step = late_of(alloc, t, operands, leaves, &actions[index])?;
         add(step, &mut all)?;
     }
     Ok(all)

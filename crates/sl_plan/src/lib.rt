@@ -1,6 +1,7 @@
 //! What the patterns and the actions of constructors come to at their nodes, made once.
 #![tactic(auto)]
 
+mod block_steps;
 mod blocks;
 mod early;
 mod expressions;
@@ -13,7 +14,9 @@ mod leaves;
 mod pattern_leaves;
 mod patterns;
 mod plans;
+mod rows;
 mod steps;
+mod uses;
 mod values;
 mod whole;
 
@@ -29,4 +32,5 @@ pub use leaves::Leaf;
 pub use pattern_leaves::PatternLeaves;
 pub use patterns::slot_number;
 pub use plans::{Plan, Slot, make_plan, make_plans};
+pub use rows::Steps;
 pub use values::{Scope, Value, reckon};

@@ -1,29 +1,25 @@
 //! What is done at the nodes of constructors.
 
 ghost use Rattle.std.specs.Prelude.{◌≡◌, ◌++◌, ◌∷◌, [], ℕ, List, map, IfOk, OnOk};
-ghost use Rattle.sl_actions.specs.SeenActions.{seen_actions};
 ghost use Rattle.sl_ast.specs.Unfolding.{written};
-ghost use Rattle.sl_decoding.specs.Actions.{Own, look};
 ghost use Rattle.sl_decoding.specs.Meanings.{said, says, table_in};
-ghost use Rattle.sl_decoding.specs.Outcomes.{in_turn};
 ghost use Rattle.sl_decoding.specs.Places.{bare_place, or_start, table_operands};
-ghost use Rattle.sl_decoding.specs.Values.{Site};
 ghost use Rattle.sl_plan.specs.Blocks.{AreLeavesOfHead};
 ghost use Rattle.sl_plan.specs.Extents.{extent, leaves_at};
-ghost use Rattle.sl_plan.specs.Plans.{done, done_by, done_slot, said_by_leaves, slot_by};
-ghost use Rattle.sl_plan.specs.Steps.{look_step};
-ghost use Rattle.sl_plan.specs.Wholes.{IsWhole};
+ghost use Rattle.sl_plan.specs.Plans.{DoesAll, done, done_by, done_slot, slot_by};
+ghost use Rattle.sl_plan.specs.Rights.{AreStepsOfHead};
 ghost use Rattle.sl_spec.specs.Numbers.{AreMadeFor, AreNumbered, KeepsMade};
 ghost use Rattle.sl_spec.specs.Unfolded.{all_placed, placed};
 
+use crate::block_steps::{ActionSteps, BlockSteps, steps_among, steps_anew};
 use crate::blocks::{BlockLeaves, whole_among, whole_anew};
-use crate::early::{Early, early_steps};
+use crate::early::Early;
 use crate::extents::Extent;
 use crate::joined::{JoinedLeaves, bare};
-use crate::late::{Late, Look, late_steps};
+use crate::late::{Late, Look};
 use crate::patterns::means_table;
+use crate::rows::Steps;
 use crate::whole::Whole;
-use sl_actions::{ActionRef, actions_of_unfolded};
 use sl_spec::{ByBlock, Ctor, Means, Operand, TableId, Tables, Unfolded};
 use std::alloc::{AllocError, Global};
 
@@ -39,11 +35,11 @@ pub struct Slot {
 /// tree stands the look-ups of bare fields and then the other actions.
 #[derive(Drop)]
 pub struct Plan {
-    pub early: Vec<Early>,
+    pub early: Steps<Early>,
     pub slots: Vec<Slot>,
     pub length: Extent,
     pub looks: Vec<Look>,
-    pub late: Vec<Late>,
+    pub late: Steps<Late>,
 }
 
 /// The table of a table operand.
@@ -107,49 +103,23 @@ fn slots_of(
     Ok(all)
 }
 
-/// The steps of a constructor with these operands and actions, by what is made of its pattern.
+/// The plan of a constructor with these operands, by what is made of its pattern and its actions.
 fn plan_of(
     alloc: Global,
-    t: &Tables,
     operands: &[Operand],
     whole: Whole,
-    actions: &[ActionRef],
+    steps: ActionSteps,
 ) -> Result<Plan, AllocError>
-    requires { (s : Site) (c : Own) → in_turn (look_step t.now s) whole.looks.items c
-        ≡ in_turn (look t.now operands.now s) (leaves_at s.lengths whole.leaves) c }
-    ensures { IfOk result (λ r. done t.now r ≡ said_by_leaves t.now operands.now
-        (λ lengths. leaves_at lengths whole.entry.leaves)
-        (λ lengths. extent whole.entry.length lengths)
-        (seen_actions actions.now)) }
+    ensures { IfOk result (DoesAll operands.now whole.entry steps) }
 {
-    let leaves = &whole.leaves;
-    let early = early_steps(alloc, t, operands, leaves, actions)?;
-    let slots = slots_of(alloc, operands, leaves)?;
-    let late = late_steps(alloc, t, operands, leaves, actions)?;
+    let slots = slots_of(alloc, operands, &whole.leaves)?;
     Ok(Plan {
-        early,
+        early: steps.early,
         slots,
         length: whole.length,
         looks: whole.looks,
-        late,
+        late: steps.late,
     })
-}
-
-/// The plan of a constructor with these operands, by what is made of its pattern.
-fn plan_by(
-    alloc: Global,
-    t: &Tables,
-    operands: &[Operand],
-    of: &Unfolded,
-    whole: Whole,
-) -> Result<Plan, AllocError>
-    requires { IsWhole t.now operands.now (placed of.now).1.pattern whole }
-    ensures { IfOk result (λ r. done t.now r ≡ said t.now operands.now
-        (placed of.now).1.pattern (written (placed of.now).1.actions)) }
-{
-    let actions = actions_of_unfolded(alloc, of)?;
-    let plan = plan_of(alloc, t, operands, whole, actions.as_slice())?;
-    Ok(plan)
 }
 
 /// The plan of a constructor with these operands.
@@ -163,7 +133,8 @@ fn plan_with(
         (placed of.now).1.pattern (written (placed of.now).1.actions)) }
 {
     let whole = whole_anew(alloc, t, operands, of)?;
-    let plan = plan_by(alloc, t, operands, of, whole)?;
+    let steps = steps_anew(alloc, t, operands, &whole.leaves, of)?;
+    let plan = plan_of(alloc, operands, whole, steps)?;
     Ok(plan)
 }
 
@@ -184,20 +155,25 @@ fn plan_among<'s, 'a>(
     operands: &[Operand],
     of: &Unfolded<'s, 'a>,
     made: &mut ByBlock<BlockLeaves<'a>>,
+    steps: &mut ByBlock<BlockSteps<'a>>,
 ) -> Result<Plan, AllocError>
-    requires { AreMadeFor (AreLeavesOfHead t.now) of.now.heads.items made.old }
+    requires leaves { AreMadeFor (AreLeavesOfHead t.now) of.now.heads.items made.old }
+    requires steps { AreMadeFor (AreStepsOfHead t.now) of.now.heads.items steps.old }
     ensures plan { IfOk result (λ r. done t.now r ≡ said t.now operands.now
         (placed of.now).1.pattern (written (placed of.now).1.actions)) }
-    ensures kept { IfOk result (λ _.
+    ensures leaves { IfOk result (λ _.
         KeepsMade (AreLeavesOfHead t.now) of.now.heads.items made.old made.new) }
+    ensures steps { IfOk result (λ _.
+        KeepsMade (AreStepsOfHead t.now) of.now.heads.items steps.old steps.new) }
 {
     let whole = whole_among(alloc, t, operands, of, made)?;
-    let plan = plan_by(alloc, t, operands, of, whole)?;
+    let actions = steps_among(alloc, t, operands, &whole.leaves, of, steps)?;
+    let plan = plan_of(alloc, operands, whole, actions)?;
     Ok(plan)
 }
 
-/// The plans of all constructors of a text. The names of a block's pattern are gone over once for
-/// all constructors inside. The only error is want of memory.
+/// The plans of all constructors of a text. The names of a block's pattern are gone over, and the
+/// steps of its actions are made, once for all constructors inside. The only error is want of memory.
 pub fn make_plans(
     alloc: Global,
     t: &Tables,
@@ -208,13 +184,21 @@ pub fn make_plans(
         ≡ says t.now (all_placed constructors.now) number) }
 {
     let mut made = ByBlock::new(alloc);
+    let mut steps = ByBlock::new(alloc);
     let mut all = Vec::new(alloc);
     'constructors: for index in 0..constructors.len() {
         let Some(ctor) = t.constructors.get(index) else {
             return Ok(all);
         };
         let operands = ctor.operands.as_slice();
-        let plan = plan_among(alloc, t, operands, &constructors[index], &mut made)?;
+        let plan = plan_among(
+            alloc,
+            t,
+            operands,
+            &constructors[index],
+            &mut made,
+            &mut steps,
+        )?;
         all.push(plan)?;
     }
     Ok(all)

@@ -1,5 +1,5 @@
 use Rattle.std.proofs.Common.{drop}
-use Rattle.sl_actions.specs.SeenActions.{seen_actions}
+use Rattle.sl_ast.specs.Views.{actions_of}
 use Rattle.sl_decoding.specs.Actions.{tell}
 use Rattle.sl_decoding.specs.Values.{Site}
 use Rattle.sl_plan.specs.Extents.{leaves_at}
@@ -8,4 +8,4 @@ use Rattle.sl_plan.proofs.RunLemmas.{IsFront}
 use Rattle.sl_plan.proofs.late.late_steps.Given as goal
 
 abbrev pub invariant-actions : goal.invariant-actions
-invariant-actions l = (s : Site) → IsFront (tell l.t l.operands (leaves_at s.lengths l.leaves) s) (late_step l.t s) (seen_actions l.actions) (seen_actions (drop l.index l.actions)) l.all.items
+invariant-actions l = (s : Site) → IsFront (tell l.t l.operands (leaves_at s.lengths l.leaves) s) (late_step l.t s) (actions_of l.actions) (actions_of (drop l.index l.actions)) l.all.items

@@ -2,6 +2,7 @@ use Rattle.std.proofs.Common.{List, ◌++◌, map, refl, sym, ap, ◌∙◌}
 use Rattle.sl_ast.specs.Unfolding.{written}
 use Rattle.sl_decoding.specs.Meanings.{said}
 use Rattle.sl_plan.specs.Blocks.{AreLeavesOfHead}
+use Rattle.sl_plan.specs.Rights.{AreStepsOfHead}
 use Rattle.sl_plan.specs.Plans.{done}
 use Rattle.sl_plan.specs.declared.plans.Plan.{Plan}
 use Rattle.sl_plan.proofs.MadeLemmas.{keeps_of, made_for, none_of}
@@ -16,12 +17,18 @@ constructors-init c =
     let us = c.args.constructors.now in (
       ap (λ (ps : List Plan). map (done t) ps ++ all_said t t.constructors (all_placed us)) c.new-all.ensures.items,
       none_of (AreLeavesOfHead t) us c.new-made.result c.new-made.ensures c.requires,
+      none_of (AreStepsOfHead t) us c.new-steps.result c.new-steps.ensures c.requires,
     )
 
-pub plan_among-requires : goal.plan_among-requires
-plan_among-requires c =
+pub plan_among-requires-clause-leaves : goal.plan_among-requires-clause-leaves
+plan_among-requires-clause-leaves c =
     made_for (AreLeavesOfHead c.args.t.now) c.args.constructors.now c.constructors.index c.index-constructors-index.result c.constructors-test.true c.index-constructors-index.is
     c.constructors.made c.constructors.invariant.1
+
+pub plan_among-requires-clause-steps : goal.plan_among-requires-clause-steps
+plan_among-requires-clause-steps c =
+    made_for (AreStepsOfHead c.args.t.now) c.args.constructors.now c.constructors.index c.index-constructors-index.result c.constructors-test.true c.index-constructors-index.is
+    c.constructors.steps c.constructors.invariant.2
 
 pub constructors-preserved : goal.constructors-preserved
 constructors-preserved c =
@@ -32,7 +39,8 @@ constructors-preserved c =
     let does = c.in_ok-plan.ensures.plan ∙ ap (λ (os : List Operand). said t os (placed u).1.pattern (written (placed u).1.actions)) same in (
       plan_next t t.constructors us c.constructors.index c.constructors.all.items c.in-Some.ctor.now u c.in_ok-plan.plan
           c.push.new.self.items (sym c.in-Some.ensures) c.constructors-test.true c.index-constructors-index.is c.in_ok-push.ensures.items does c.constructors.invariant.0,
-      keeps_of (AreLeavesOfHead t) us c.constructors.index u c.constructors-test.true c.index-constructors-index.is c.constructors.made c.plan_among.new.made c.in_ok-plan.ensures.kept c.constructors.invariant.1,
+      keeps_of (AreLeavesOfHead t) us c.constructors.index u c.constructors-test.true c.index-constructors-index.is c.constructors.made c.plan_among.new.made c.in_ok-plan.ensures.leaves c.constructors.invariant.1,
+      keeps_of (AreStepsOfHead t) us c.constructors.index u c.constructors-test.true c.index-constructors-index.is c.constructors.steps c.plan_among.new.steps c.in_ok-plan.ensures.steps c.constructors.invariant.2,
     )
 
 pub returns-in_default : goal.returns-in_default

@@ -1,7 +1,9 @@
 use Rattle.sl_plan.specs.Blocks.{AreLeavesOfHead}
+use Rattle.sl_plan.specs.Rights.{AreStepsOfHead}
 use Rattle.sl_plan.proofs.MadeLemmas.{AreMadeOf}
 use Rattle.sl_plan.proofs.PlanLemmas.{AreFirst}
 use Rattle.sl_plan.proofs.plans.make_plans.Given as goal
 
 abbrev pub invariant-constructors : goal.invariant-constructors
 invariant-constructors l = AreFirst l.t l.t.constructors l.constructors l.index l.all.items × AreMadeOf (AreLeavesOfHead l.t) l.constructors l.made
+    × AreMadeOf (AreStepsOfHead l.t) l.constructors l.steps

@@ -1,0 +1,13 @@
+use Rattle.std.proofs.Common.{◌≡◌, drop, []}
+use Rattle.sl_decode.specs.Inputs.{input_of}
+use Rattle.sl_decoding.specs.Actions.{changed}
+use Rattle.sl_decoding.specs.Decoding.{site_at}
+use Rattle.sl_decoding.specs.Outcomes.{in_turn}
+use Rattle.sl_plan.specs.Rows.{all_steps}
+use Rattle.sl_plan.specs.Steps.{early_step}
+use Rattle.sl_decode.proofs.decode.Decode.change_by.Given as goal
+
+abbrev pub invariant-rows : goal.invariant-rows
+invariant-rows g l =
+    in_turn (early_step l.self.tables.now (site_at (input_of g.C.Choose.chosen l.self) l.ctor l.at [] l.context 0)) (all_steps (drop l.index l.rows)) (changed l.now l.notes.items)
+    ≡ in_turn (early_step l.self.tables.now (site_at (input_of g.C.Choose.chosen l.self) l.ctor l.at [] l.context 0)) (all_steps l.rows) (changed l.context l.initial.notes.items)
