@@ -301,6 +301,13 @@ def listed_head_actions(size):
     return {**head_actions(size), "i": bytes(64)}
 
 
+def listed_far_commits(size):
+    """So many commits in the head of a block, at an address that stands behind a table, and as many constructors inside."""
+    front = MACHINE + "define register offset=0x40 size=4 c;\ndefine context c m=(0,7);\ndefine token w (32) code=(8,31) f=(0,3);\n"
+    lines = "".join(":o%d is a=0 ; code=%d {}\n" % (n, n) for n in range(size))
+    return {"s": front + 'e: "e" is a=0 {}\nwith : e ; f [ %s ] {\n' % ("globalset(f, m); " * size) + lines + "}\n", "i": bytes(64)}
+
+
 def wide_sets(size):
     """So many constructors of 1,024 cubes of which no two meet."""
     front = SPACE % 4 + "define token w (64) p=(0,7) q=(8,15) r=(16,31) code=(40,63);\n"
@@ -463,7 +470,7 @@ KINDS = (
     Hostile("constructors in 16 blocks of 128 constraints", "constructors", powers(256, 65535), "65,535", heads, lambda n: ok(1, n)),
     Hostile("constructors in 16 blocks of 127 constraints and an operand", "constructors", powers(256, 65535), "65,535", named_heads, lambda n: ok(1, n)),
     Hostile("the same, listed", "constructors", powers(256, 65535), "65,535", listed_named_heads, lambda n: (DONE, "00000000: 00000000 o0\n"), LIST),
-    Hostile("constructors in 16 blocks of 127 constraints and a table, listed", "constructors", powers(256, 65535), "65,535", listed_table_heads,
+    Hostile("constructors in 16 blocks of 127 constraints and a table, listed", "constructors", powers(256, 65519), "65,519", listed_table_heads,
             lambda n: (DONE, "00000000: 00000000 o0\n"), LIST),
     Hostile("constructors in 16 blocks of 128 constraints and one action", "constructors", powers(256, 65535), "65,535", acting_heads, lambda n: ok(1, n)),
     Hostile("tables of one constructor in 16 blocks of 128 constraints", "tables", powers(256, 65534), "65,534", head_tables, lambda n: ok(n + 1, n + 1)),
@@ -472,6 +479,8 @@ KINDS = (
             head_actions, lambda n: ok(1, n)),
     Hostile("the same actions, listed", "of each", powers(500, 65535), "65,535, and 2,000,000 actions",
             listed_head_actions, lambda n: (DONE, "00000000: 00000000 o0\n"), LIST),
+    Hostile("commits in a head at an address behind a table, and as many constructors, listed", "of each", powers(500, 65534), "65,534, and 900,000 commits",
+            listed_far_commits, lambda n: (DONE, "00000000: 0000000000 o0\n"), LIST),
     Hostile("constructors of 1,024 cubes", "constructors", powers(64, 65535), "65,535", wide_sets, lambda n: ok(1, n)),
     Hostile("the same, 131,072 instructions listed", "constructors", powers(64, 65535), "65,535", listed_wide_sets,
             lambda n: (DONE, "00000000: "), LIST),
