@@ -5,16 +5,8 @@ use Rattle.sl_ast.specs.Unfolding.{before, written}
 use Rattle.sl_rules.specs.Gathered.{gathered}
 use Rattle.sl_spec.specs.Unfolded.{under}
 
-abbrev pub one : Action → List Action
-one a = a ∷ []
-
 abbrev pub of_head : Head → List Action
 of_head h = written h.actions
-
-pub each_one : (as' : List Action) → gathered one as' ≡ as'
-unfolding gathered
-each_one [] = refl
-each_one (a ∷ as') = ap (λ (rest : List Action). a ∷ rest) (each_one as')
 
 written_before : (outer inner : Option (List Action)) → written (before outer inner) ≡ written outer ++ written inner
 written_before None inner = refl

@@ -9,9 +9,6 @@ mod pattern_names;
 mod pending;
 mod rules;
 mod set_names;
-mod written;
 
 pub use blocks::{ActionFacts, JudgedBlocks, judge_actions};
 pub use rules::is_global;
-pub use set_names::ActionRef;
-pub use written::actions_of_unfolded;

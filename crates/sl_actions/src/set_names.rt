@@ -10,12 +10,6 @@ use sl_rules::NameSet;
 use sl_spec::Tables;
 use std::alloc::AllocError;
 
-/// An action of a constructor or of a block round it.
-#[derive(Clone, Copy)]
-pub struct ActionRef<'s, 'a> {
-    pub action: &'s Action<'a>,
-}
-
 /// Whether a field of the context has this name.
 pub(crate) fn is_context_field(t: &Tables, name: &[u8]) -> bool
     ensures { result ≡ is_context_field t.now name.now }
