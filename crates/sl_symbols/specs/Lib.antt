@@ -1,3 +1,4 @@
+pub mod Lengths
 pub mod Marks
 pub mod Rows
 pub mod Symbols
