@@ -18,7 +18,7 @@ use Rattle.sl_instruction.specs.Instructions.{section_by}
 use Rattle.sl_instruction.specs.Operands.{action_reference, field_at, given_by}
 use Rattle.sl_meaning.specs.Nodes.{Section, frame_of}
 use Rattle.sl_meaning.specs.References.{Reference, Setting}
-use Rattle.sl_plan.specs.Extents.{extent}
+use Rattle.sl_leaves.specs.Extents.{extent}
 use Rattle.sl_show.specs.Entries.{Row, rows_of}
 use Rattle.sl_sizing.specs.Sizings.{lists_of}
 use Rattle.sl_spec.specs.declared.tables.Tables.{Tables}

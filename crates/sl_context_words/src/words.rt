@@ -10,7 +10,7 @@ ghost use Rattle.sl_decoding.specs.Actions.{mask_of, with_bits};
 ghost use Rattle.sl_operators.specs.Operators.{wrapped};
 ghost use Rattle.sl_request.specs.Views.{field as word_view};
 
-use sl_plan::{greatest, mask_in};
+use sl_fields::{greatest, mask_in};
 use sl_request::FieldValue;
 use sl_spec::{Field, Tables};
 

@@ -8,7 +8,7 @@ use Rattle.sl_decode.specs.Finishing.{roots, told, told_of}
 use Rattle.sl_decode.specs.Sprouts.{all_notes, sprout_of, sprouts}
 use Rattle.sl_decode.specs.declared.walk.Sprout.{Sprout}
 use Rattle.sl_decode.proofs.SproutLemmas.{length_sprouts}
-use Rattle.sl_plan.proofs.RunLemmas.{bind_alike}
+use Rattle.sl_leaves.proofs.RunLemmas.{bind_alike}
 use Rattle.sl_decoding.specs.Actions.{Own, own}
 use Rattle.sl_decoding.specs.Decoding.{Ended, Input, commits_in, commits_of, ended, finish}
 use Rattle.sl_decoding.specs.Decoding.{finish_node, trees_of, values_in}
@@ -19,9 +19,10 @@ use Rattle.sl_decoding.specs.declared.entries.Entry.{Entry}
 use Rattle.sl_decoding.specs.Values.{Site}
 use Rattle.sl_decoding.specs.declared.faults.Fault.{Fault}
 use Rattle.sl_plan.specs.Plans.{done}
-use Rattle.sl_plan.specs.Steps.{late_step, look_step}
+use Rattle.sl_leaves.specs.Looks.{look_step}
+use Rattle.sl_plan.specs.Steps.{late_step}
 use Rattle.sl_plan.specs.declared.late.Late.{Late}
-use Rattle.sl_plan.specs.declared.late.Look.{Look}
+use Rattle.sl_leaves.specs.declared.looks.Look.{Look}
 use Rattle.sl_plan.specs.declared.plans.Plan.{Plan}
 use Rattle.sl_spec.specs.declared.tables.Tables.{Tables}
 use Rattle.sl_decoding.specs.declared.notes.Noted.{Noted}

@@ -19,7 +19,7 @@ use Rattle.sl_decoding.specs.Values.{Site}
 use Rattle.sl_decoding.specs.declared.faults.Fault.{Fault}
 use Rattle.sl_decoding.specs.declared.faults.Fault.TheVariants.{NoConstructor}
 use Rattle.sl_decoding.specs.declared.notes.Noted.{Noted}
-use Rattle.sl_plan.specs.Extents.{extent}
+use Rattle.sl_leaves.specs.Extents.{extent}
 use Rattle.sl_plan.specs.Plans.{done, done_slot}
 use Rattle.sl_plan.specs.Steps.{early_step}
 use Rattle.sl_plan.specs.Values.{value_in}

@@ -7,7 +7,7 @@ ghost use Rattle.sl_decode.specs.declared.outcomes.DecodeError.TheVariants.{NoMe
 ghost use Rattle.sl_decoding.specs.Decoding as spec;
 ghost use Rattle.sl_decoding.specs.Outcomes.{or_fault};
 ghost use Rattle.sl_decoding.specs.declared.faults.Fault.TheVariants.{NoConstructor};
-ghost use Rattle.sl_plan.specs.Extents.{extent};
+ghost use Rattle.sl_leaves.specs.Extents.{extent};
 ghost use Rattle.sl_plan.specs.Plans.{done, done_by};
 ghost use Rattle.sl_plan.specs.Values.{site_of, value_in};
 
@@ -15,7 +15,8 @@ use crate::outcomes::DecodeError;
 use crate::points::point_at;
 use sl_cube::Point;
 use sl_decoding::Fault;
-use sl_plan::{Extent, Plan, Scope, Value, extent_of, reckon};
+use sl_leaves::{Extent, extent_of};
+use sl_plan::{Plan, Scope, Value, reckon};
 use sl_spec::{CtorId, TableId, Tables};
 
 /// Which constructor of a table is chosen at a point.

@@ -6,7 +6,7 @@ ghost use Rattle.sl_decode.specs.Outcomes.{Gives};
 ghost use Rattle.sl_decode.specs.Sprouts.{flat, laid, laid_grove, measured, row_of};
 ghost use Rattle.sl_decoding.specs.Decoding as spec;
 ghost use Rattle.sl_decoding.specs.Decoding.{operands};
-ghost use Rattle.sl_plan.specs.Extents.{extent};
+ghost use Rattle.sl_leaves.specs.Extents.{extent};
 ghost use Rattle.sl_plan.specs.Plans.{done_slot};
 
 use crate::decode::{Choose, Decode, length_of, place_behind};

@@ -1,15 +1,5 @@
-pub mod BlockLemmas
-pub mod FirstLemmas
-pub mod LeafLemmas
 pub mod LookLemmas
-pub mod MadeLemmas
-pub mod MaskLemmas
 pub mod MeaningLemmas
-pub mod PatternLemmas
 pub mod PlanLemmas
-pub mod RunLemmas
-pub mod SameLemmas
 pub mod StepLemmas
-pub mod TiedLemmas
 pub mod UseLemmas
-pub mod WholeLemmas

@@ -5,7 +5,7 @@ use Rattle.sl_decoding.specs.Outcomes.{or_fault}
 use Rattle.sl_decoding.specs.declared.faults.Fault.TheVariants.{NoEntry}
 use Rattle.sl_spec.specs.Attachments.{attached_to}
 use Rattle.sl_spec.specs.FieldValues.{bits_of, value_of}
-use Rattle.sl_plan.specs.Values.{own_if}
+use Rattle.sl_fields.specs.Fields.{own_if}
 use Rattle.sl_spec.specs.Tables.{Attached, Field}
 use Rattle.sl_spec.specs.declared.tables.Tables.{Tables}
 

@@ -12,16 +12,16 @@ use Rattle.sl_decoding.specs.Actions.{Changed, Own, act, tell}
 use Rattle.sl_decoding.specs.Outcomes.{◌>>=◌, in_turn}
 use Rattle.sl_decoding.specs.Values.{Site}
 use Rattle.sl_decoding.specs.declared.faults.Fault.{Fault}
-use Rattle.sl_plan.specs.Extents.{leaves_at}
+use Rattle.sl_leaves.specs.Extents.{leaves_at}
 use Rattle.sl_plan.specs.Rights.{AddsSteps, AreAllSteps, AreSteps, AreStepsOfHead, AreTaken, IsCopy}
 use Rattle.sl_plan.specs.Steps.{early_step, late_step}
 use Rattle.sl_plan.specs.Uses.{AreUses, IsSameAction}
 use Rattle.sl_plan.specs.declared.block_steps.ActionSteps.{ActionSteps}
 use Rattle.sl_plan.specs.declared.block_steps.BlockSteps.{BlockSteps}
 use Rattle.sl_plan.specs.declared.block_steps.SharedSteps.{SharedSteps}
-use Rattle.sl_plan.specs.declared.leaves.Leaf as l
-use Rattle.sl_plan.proofs.RunLemmas.{bind_alike}
-use Rattle.sl_plan.proofs.WholeLemmas.{bind_again, turn_append}
+use Rattle.sl_leaves.specs.declared.leaves.Leaf as l
+use Rattle.sl_leaves.proofs.RunLemmas.{bind_alike}
+use Rattle.sl_leaves.proofs.WholeLemmas.{bind_again, turn_append}
 use Rattle.sl_spec.proofs.MadeLemmas.{found_right}
 use Rattle.sl_spec.specs.Numbers.{AreMadeFor, made_of}
 use Rattle.sl_spec.specs.Tables.{Operand}

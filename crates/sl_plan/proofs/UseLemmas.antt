@@ -27,11 +27,11 @@ use Rattle.sl_decoding.specs.Places.{Leaf, first_place, or_start}
 use Rattle.sl_decoding.specs.Values.{Site, expression_value, operated, prefixed, reads, reads_kind}
 use Rattle.sl_decoding.specs.declared.kinds.Kind.{Kind}
 use Rattle.sl_decoding.specs.declared.kinds.Kind.TheVariants as k
-use Rattle.sl_plan.specs.Extents.{extent, leaves_at}
+use Rattle.sl_leaves.specs.Extents.{extent, leaves_at}
 use Rattle.sl_plan.specs.Uses.{IsSameAction, IsSameAddress, IsSameName, IsSameValue, ReadAsBefore, ReadsAsBefore, Uses, read_at}
-use Rattle.sl_plan.specs.declared.leaves.Leaf as l
+use Rattle.sl_leaves.specs.declared.leaves.Leaf as l
 use Rattle.sl_plan.specs.declared.uses.Used.{Used}
-use Rattle.sl_plan.proofs.TiedLemmas.{all_but_last, all_push}
+use Rattle.sl_leaves.proofs.TiedLemmas.{all_but_last, all_push}
 use Rattle.sl_spec.specs.FieldValues.{number_in, token_of}
 use Rattle.sl_spec.specs.Named.{has_name}
 use Rattle.sl_spec.specs.Tables.{Field, Name, Operand, Token}

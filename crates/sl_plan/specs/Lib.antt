@@ -1,10 +1,6 @@
-pub mod Blocks
-pub mod Extents
-pub mod Joined
 pub mod Plans
 pub mod Rights
 pub mod Rows
 pub mod Steps
 pub mod Uses
 pub mod Values
-pub mod Wholes

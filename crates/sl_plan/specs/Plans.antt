@@ -6,14 +6,15 @@ use Rattle.sl_decoding.specs.Meanings.{Meaning, said, slot, table_in}
 use Rattle.sl_decoding.specs.Meanings as m
 use Rattle.sl_decoding.specs.Outcomes.{◌>>=◌, in_turn}
 use Rattle.sl_decoding.specs.Places.{Leaf, bare_place, or_start, table_operands}
-use Rattle.sl_plan.specs.Extents.{extent}
+use Rattle.sl_leaves.specs.Extents.{extent}
 use Rattle.sl_plan.specs.Rights.{AreAllSteps}
-use Rattle.sl_plan.specs.Steps.{early_step, late_step, look_step}
-use Rattle.sl_plan.specs.Wholes.{IsWhole}
+use Rattle.sl_leaves.specs.Looks.{look_step}
+use Rattle.sl_plan.specs.Steps.{early_step, late_step}
+use Rattle.sl_leaves.specs.Wholes.{IsWhole}
 use Rattle.sl_plan.specs.declared.block_steps.ActionSteps.{ActionSteps}
 use Rattle.sl_plan.specs.declared.plans.Plan.{Plan}
 use Rattle.sl_plan.specs.declared.plans.Slot.{Slot}
-use Rattle.sl_plan.specs.declared.whole.Whole.{Whole}
+use Rattle.sl_leaves.specs.declared.whole.Whole.{Whole}
 use Rattle.sl_spec.specs.Tables.{Operand}
 use Rattle.sl_spec.specs.declared.tables.Tables.{Tables}
 

@@ -5,13 +5,13 @@ use Rattle.sl_ast.specs.Unfolding.{written}
 use Rattle.sl_decoding.specs.Actions.{Changed, Own, act, tell}
 use Rattle.sl_decoding.specs.Outcomes.{◌>>=◌, in_turn}
 use Rattle.sl_decoding.specs.Values.{Site}
-use Rattle.sl_plan.specs.Extents.{leaves_at}
+use Rattle.sl_leaves.specs.Extents.{leaves_at}
 use Rattle.sl_plan.specs.Steps.{early_step, late_step}
 use Rattle.sl_plan.specs.Uses.{ReadAsBefore}
 use Rattle.sl_plan.specs.declared.block_steps.ActionSteps.{ActionSteps}
 use Rattle.sl_plan.specs.declared.block_steps.BlockSteps.{BlockSteps}
 use Rattle.sl_plan.specs.declared.block_steps.SharedSteps.{SharedSteps}
-use Rattle.sl_plan.specs.declared.leaves.Leaf as l
+use Rattle.sl_leaves.specs.declared.leaves.Leaf as l
 use Rattle.sl_spec.specs.Tables.{Operand}
 use Rattle.sl_spec.specs.declared.tables.Tables.{Tables}
 

@@ -6,23 +6,14 @@ use Rattle.sl_decoding.specs.Lookups.{shown}
 use Rattle.sl_decoding.specs.Outcomes.{◌>>=◌}
 use Rattle.sl_decoding.specs.Values.{Site}
 use Rattle.sl_decoding.specs.declared.faults.Fault.{Fault}
-use Rattle.sl_plan.specs.Extents.{extent}
+use Rattle.sl_leaves.specs.Extents.{extent}
 use Rattle.sl_plan.specs.Values.{value_in}
 use Rattle.sl_plan.specs.declared.early.Early.{Early}
 use Rattle.sl_plan.specs.declared.early.Early.TheVariants.{Set, Note}
 use Rattle.sl_plan.specs.declared.late.Late.{Late}
 use Rattle.sl_plan.specs.declared.late.Late.TheVariants as l
-use Rattle.sl_plan.specs.declared.late.Look.{Look}
+use Rattle.sl_leaves.specs.declared.looks.Look.{Look}
 use Rattle.sl_spec.specs.declared.tables.Tables.{Tables}
-
--- a step that may be none
-abbrev pub maybe : {A X : Type 0} → (A → X → Result X Fault) → Option A → X → Result X Fault
-maybe step None x = Ok x
-maybe step (Some a) x = step a x
-
-abbrev pub items : {A : Type 0} → Option A → List A
-items None = []
-items (Some a) = a ∷ []
 
 abbrev pub early_step : Tables → Site → Early → Changed → Result Changed Fault
 early_step t s (Set low mask v) (changed context notes) =
@@ -30,10 +21,6 @@ early_step t s (Set low mask v) (changed context notes) =
     >>= λ n. Ok (changed (with_bits low mask context n) notes)
 early_step t s (Note mask flows) (changed context notes) =
     Ok (changed context (notes ++ note_of mask flows context ∷ []))
-
-abbrev pub look_step : Tables → Site → Look → Own → Result Own Fault
-look_step t s x c =
-    shown t x.field s.bytes (s.at + extent x.place s.lengths) s.context >>= λ found. Ok c
 
 abbrev pub late_step : Tables → Site → Late → Own → Result Own Fault
 late_step t s (l.Name v) (own notes values commits) =

@@ -13,8 +13,8 @@ use Rattle.sl_decoding.specs.Values.{Site, expression_value, reads, value_or_zer
 use Rattle.sl_decoding.specs.declared.faults.Fault.{Fault}
 use Rattle.sl_decoding.specs.declared.kinds.Kind.{Kind}
 use Rattle.sl_decoding.specs.declared.kinds.Kind.TheVariants as k
-use Rattle.sl_plan.specs.Extents.{extent, leaves_at}
-use Rattle.sl_plan.specs.declared.leaves.Leaf as l
+use Rattle.sl_leaves.specs.Extents.{extent, leaves_at}
+use Rattle.sl_leaves.specs.declared.leaves.Leaf as l
 use Rattle.sl_plan.specs.declared.uses.Used.{Used}
 use Rattle.sl_spec.specs.Tables.{Name, Operand}
 use Rattle.sl_spec.specs.declared.tables.Tables.{Tables}

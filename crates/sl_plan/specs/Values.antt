@@ -1,16 +1,15 @@
 -- view: values of actions, and what they hang on, as the program keeps them.
-use Rattle.std.specs.Prelude.{◌+◌, ℕ, ℤ, pos, List, Option, None, Some, Result, Ok, Err, slice_get}
+use Rattle.std.specs.Prelude.{◌+◌, ℤ, pos, Result, Ok, Err, slice_get}
 use Rattle.sl_operators.specs.Operators.{wrapped}
-use Rattle.sl_decoding.specs.Lookups.{given, number_at}
+use Rattle.sl_decoding.specs.Lookups.{given}
 use Rattle.sl_decoding.specs.Values.{Site, operated, prefixed, value_or_zero}
 use Rattle.sl_decoding.specs.declared.faults.Fault.{Fault}
 use Rattle.sl_decoding.specs.declared.faults.Fault.TheVariants.{ActionDivide}
-use Rattle.sl_plan.specs.Extents.{extent}
+use Rattle.sl_leaves.specs.Extents.{extent}
+use Rattle.sl_fields.specs.Fields.{own_if}
 use Rattle.sl_plan.specs.declared.values.Scope.{Scope}
 use Rattle.sl_plan.specs.declared.values.Value.{Value}
 use Rattle.sl_plan.specs.declared.values.Value.TheVariants as v
-use Rattle.sl_spec.specs.FieldValues.{value_of}
-use Rattle.sl_spec.specs.Tables.{Field}
 use Rattle.sl_spec.specs.declared.tables.Tables.{Tables}
 
 abbrev pub site_of : Scope → Site
@@ -24,11 +23,6 @@ site_of s = record {
   next = s.next;
   values = s.values.now;
 }
-
--- What a field gives by its own value, whatever is attached to it.
-abbrev pub own_if : Tables → Option Field → List ℕ → ℕ → ℕ → Result ℤ Fault
-own_if t None bytes at context = Ok (pos 0)
-own_if t (Some f) bytes at context = Ok (value_of f (number_at t f bytes at context))
 
 abbrev pub value_in : Tables → Site → Value → Result ℤ Fault
 value_in t s (v.Number n) = Ok n

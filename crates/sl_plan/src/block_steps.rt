@@ -10,12 +10,12 @@ ghost use Rattle.sl_spec.specs.Numbers.{AreMadeFor, KeepsMade};
 ghost use Rattle.sl_spec.specs.Unfolded.{placed};
 
 use crate::early::{Early, early_steps};
-use crate::joined::JoinedLeaves;
 use crate::late::{Late, late_steps};
 use crate::rows::Steps;
 use crate::uses::{Used, read_as_before, uses_in};
 use sl_ast::constructors::{Constructor, Head};
 use sl_ast::patterns::Action;
+use sl_leaves::JoinedLeaves;
 use sl_spec::{Around, ByBlock, Named, Operand, Tables, Unfolded};
 use std::alloc::{AllocError, Global};
 use std::rc::Rc;

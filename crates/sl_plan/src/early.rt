@@ -1,23 +1,23 @@
 //! What is done at a node before its operands.
 
-ghost use Rattle.std.specs.Prelude.{◌≡◌, ◌+◌, ◌≤◌, ◌^◌, List, IfOk};
+ghost use Rattle.std.specs.Prelude.{◌≡◌, List, IfOk};
 ghost use Rattle.sl_ast.specs.Views.{action_of, actions_of, expression_of};
-ghost use Rattle.sl_decoding.specs.Actions.{Changed, act, add_note, mask_of, set_context};
+ghost use Rattle.sl_decoding.specs.Actions.{Changed, act, add_note, set_context};
 ghost use Rattle.sl_decoding.specs.Kinds.{context_field, kind_of};
 ghost use Rattle.sl_decoding.specs.Outcomes.{in_turn};
 ghost use Rattle.sl_decoding.specs.Places.{Leaf as LeafAt};
 ghost use Rattle.sl_decoding.specs.Values.{Site};
-ghost use Rattle.sl_plan.specs.Extents.{leaves_at};
-ghost use Rattle.sl_plan.specs.Steps.{early_step, maybe};
+ghost use Rattle.sl_leaves.specs.Extents.{leaves_at};
+ghost use Rattle.sl_leaves.specs.Steps.{maybe};
+ghost use Rattle.sl_plan.specs.Steps.{early_step};
 
 use crate::expressions::compile;
-use crate::joined::JoinedLeaves;
-use crate::kinds::kind_of;
-use crate::steps::{add, context_field};
 use crate::values::Value;
 use sl_ast::expressions::Expr;
 use sl_ast::patterns::Action;
-use sl_spec::{Field, Operand, Tables};
+use sl_fields::{context_field, kind_of, mask_in};
+use sl_leaves::{JoinedLeaves, add_step};
+use sl_spec::{Operand, Tables};
 use std::alloc::{AllocError, Global};
 
 /// An action on a field of the context, or what a `globalset` notes.
@@ -27,27 +27,6 @@ pub enum Early {
     Set(u8, u64, Value),
     /// The bits of the mask are noted, and whether they flow.
     Note(u64, bool),
-}
-
-/// The greatest number of so many bits.
-pub fn greatest(width: u8) -> u64
-    requires some { 1 ≤ width }
-    requires most { width ≤ 64 }
-    ensures { result + 1 ≡ 2 ^ width }
-{
-    if width == 64 {
-        u64::MAX
-    } else {
-        (1u64 << width) - 1
-    }
-}
-
-/// The bits of a field in the context.
-#[tactic(auto, using(crate::proofs::MaskLemmas::mask_is))]
-pub fn mask_in(field: &Field) -> u64
-    ensures { result ≡ mask_of field.now }
-{
-    greatest(field.width()) << field.low
 }
 
 /// An action on a name.
@@ -122,7 +101,7 @@ pub(crate) fn early_steps(
     let mut all = Vec::new(alloc);
     'actions: for index in 0..actions.len() {
         let step = early_of(alloc, t, operands, leaves, &actions[index])?;
-        add(step, &mut all)?;
+        add_step(step, &mut all)?;
     }
     Ok(all)
 }

@@ -2,36 +2,25 @@
 
 ghost use Rattle.std.specs.Prelude.{◌≡◌, ◌+◌, IfOk};
 ghost use Rattle.sl_ast.specs.Views.{action_of, actions_of, expression_of, operand_of_address};
-ghost use Rattle.sl_decoding.specs.Actions.{Own, look, make_commit, set_name, tell};
+ghost use Rattle.sl_decoding.specs.Actions.{Own, make_commit, set_name, tell};
 ghost use Rattle.sl_decoding.specs.Kinds.{context_field, kind_of};
 ghost use Rattle.sl_decoding.specs.Lookups.{shown};
 ghost use Rattle.sl_decoding.specs.Outcomes.{in_turn};
 ghost use Rattle.sl_decoding.specs.Values.{Site};
-ghost use Rattle.sl_plan.specs.Extents.{extent, leaf_at, leaves_at};
-ghost use Rattle.sl_plan.specs.Steps.{late_step, look_step, maybe};
+ghost use Rattle.sl_leaves.specs.Extents.{extent, leaves_at};
+ghost use Rattle.sl_leaves.specs.Steps.{maybe};
+ghost use Rattle.sl_plan.specs.Steps.{late_step};
 ghost use Rattle.sl_plan.specs.Values.{site_of};
 
 use crate::expressions::{address, compile};
-use crate::extents::{Extent, again, extent_of};
-use crate::fields::{is_always_shown, shown};
-use crate::joined::JoinedLeaves;
-use crate::kinds::kind_of;
-use crate::leaves::Leaf;
-use crate::steps::{add, context_field};
 use crate::values::{Scope, Value};
 use sl_ast::expressions::Expr;
 use sl_ast::patterns::{Action, Address};
-use sl_decoding::{Fault, Kind};
-use sl_spec::{FieldId, Operand, Tables};
+use sl_decoding::Fault;
+use sl_fields::{context_field, kind_of, shown};
+use sl_leaves::{JoinedLeaves, Look, add_step, extent_of};
+use sl_spec::{Operand, Tables};
 use std::alloc::{AllocError, Global};
-
-/// A field that something is attached to and that stands alone: it has an entry. The place is that
-/// of its token, in bytes from the node's own.
-#[derive(Drop)]
-pub struct Look {
-    pub field: FieldId,
-    pub place: Extent,
-}
 
 /// What an action does when the whole tree stands.
 #[derive(Drop)]
@@ -49,48 +38,6 @@ pub fn look_up(t: &Tables, scope: &Scope, look: &Look) -> Result<(), Fault>
 {
     let at = u64::from(scope.at).saturating_add(extent_of(&look.place, scope.lengths));
     shown(t, look.field, scope.bytes, at, scope.context)
-}
-
-/// The look-up of a leaf; none where it never fails.
-fn look_of(t: &Tables, operands: &[Operand], leaf: &Leaf) -> Result<Option<Look>, AllocError>
-    ensures { IfOk result (λ o. (s : Site) (c : Own) → maybe (look_step t.now s) o c
-        ≡ look t.now operands.now s (leaf_at s.lengths leaf.now) c) }
-{
-    if !leaf.alone {
-        return Ok(None);
-    }
-    match kind_of(t, operands, leaf.name)? {
-        Kind::Field(field) => {
-            if is_always_shown(t, field) {
-                return Ok(None);
-            }
-            let place = again(&leaf.place)?;
-            Ok(Some(Look { field, place }))
-        }
-        Kind::Table(_) => Ok(None),
-        Kind::Action(_) => Ok(None),
-        Kind::Start => Ok(None),
-        Kind::Next => Ok(None),
-        Kind::Nothing => Ok(None),
-    }
-}
-
-/// The look-ups of a constructor.
-pub(crate) fn looks_of(
-    alloc: Global,
-    t: &Tables,
-    operands: &[Operand],
-    leaves: &[Leaf],
-) -> Result<Vec<Look>, AllocError>
-    ensures { IfOk result (λ v. (s : Site) (c : Own) → in_turn (look_step t.now s) v.items c
-        ≡ in_turn (look t.now operands.now s) (leaves_at s.lengths leaves.now) c) }
-{
-    let mut all = Vec::new(alloc);
-    'leaves: for leaf in leaves {
-        let step = look_of(t, operands, leaf)?;
-        add(step, &mut all)?;
-    }
-    Ok(all)
 }
 
 /// The value of a name that is no field of the context.
@@ -175,7 +122,7 @@ pub(crate) fn late_steps(
     let mut all = Vec::new(alloc);
     'actions: for index in 0..actions.len() {
         let step = late_of(alloc, t, operands, leaves, &actions[index])?;
-        add(step, &mut all)?;
+        add_step(step, &mut all)?;
     }
     Ok(all)
 }

@@ -4,22 +4,19 @@ ghost use Rattle.std.specs.Prelude.{◌≡◌, ◌++◌, ◌∷◌, [], ℕ, Lis
 ghost use Rattle.sl_ast.specs.Unfolding.{written};
 ghost use Rattle.sl_decoding.specs.Meanings.{said, says, table_in};
 ghost use Rattle.sl_decoding.specs.Places.{bare_place, or_start, table_operands};
-ghost use Rattle.sl_plan.specs.Blocks.{AreLeavesOfHead};
-ghost use Rattle.sl_plan.specs.Extents.{extent, leaves_at};
+ghost use Rattle.sl_leaves.specs.Blocks.{AreLeavesOfHead};
+ghost use Rattle.sl_leaves.specs.Extents.{extent, leaves_at};
 ghost use Rattle.sl_plan.specs.Plans.{DoesAll, done, done_by, done_slot, slot_by};
 ghost use Rattle.sl_plan.specs.Rights.{AreStepsOfHead};
 ghost use Rattle.sl_spec.specs.Numbers.{AreMadeFor, AreNumbered, KeepsMade};
 ghost use Rattle.sl_spec.specs.Unfolded.{all_placed, placed};
 
 use crate::block_steps::{ActionSteps, BlockSteps, steps_among, steps_anew};
-use crate::blocks::{BlockLeaves, whole_among, whole_anew};
 use crate::early::Early;
-use crate::extents::Extent;
-use crate::joined::{JoinedLeaves, bare};
-use crate::late::{Late, Look};
-use crate::patterns::means_table;
+use crate::late::Late;
 use crate::rows::Steps;
-use crate::whole::Whole;
+use sl_leaves::{BlockLeaves, Extent, JoinedLeaves, Look, Whole};
+use sl_leaves::{bare, means_table, whole_among, whole_anew};
 use sl_spec::{ByBlock, Ctor, Means, Operand, TableId, Tables, Unfolded};
 use std::alloc::{AllocError, Global};
 

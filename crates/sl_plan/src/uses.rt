@@ -6,17 +6,16 @@ ghost use Rattle.sl_ast.specs.Views.{action_of, expression_of, operand_of_addres
 ghost use Rattle.sl_decoding.specs.Kinds.{kind_of};
 ghost use Rattle.sl_decoding.specs.Lookups.{given};
 ghost use Rattle.sl_decoding.specs.Values.{Site, reads};
-ghost use Rattle.sl_plan.specs.Extents.{extent, leaves_at};
+ghost use Rattle.sl_leaves.specs.Extents.{extent, leaves_at};
 ghost use Rattle.sl_plan.specs.Uses.{AreUses, HasNoPlace, ReadAsBefore, ReadsAsBefore, Uses};
 ghost use Rattle.sl_plan.specs.Uses.{IsSameAction, IsSameAddress, IsSameName, IsSameValue};
 ghost use Rattle.sl_plan.specs.Uses.{read_at};
 
-use crate::extents::{Extent, is_same};
-use crate::joined::{JoinedLeaves, place_of};
-use crate::kinds::kind_of;
 use sl_ast::expressions::Expr;
 use sl_ast::patterns::{Action, Address};
 use sl_decoding::Kind;
+use sl_fields::kind_of;
+use sl_leaves::{Extent, JoinedLeaves, is_same, place_of};
 use sl_spec::{Entry, FieldId, Named, Operand, Tables};
 use std::alloc::{AllocError, Global};
 

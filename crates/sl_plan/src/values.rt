@@ -4,10 +4,10 @@ ghost use Rattle.std.specs.Prelude.{◌≡◌, Ok};
 ghost use Rattle.sl_decoding.specs.Values.{operated, prefixed};
 ghost use Rattle.sl_plan.specs.Values.{site_of, value_in};
 
-use crate::extents::{Extent, extent_of};
-use crate::fields::{given, own};
 use sl_ast::expressions::{BinaryOp, PrefixOp};
 use sl_decoding::Fault;
+use sl_fields::{given, own};
+use sl_leaves::{Extent, extent_of};
 use sl_operators::{literal, prefix_value, value_of};
 use sl_spec::{CtorId, FieldId, Tables};
 

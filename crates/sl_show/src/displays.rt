@@ -6,7 +6,7 @@ ghost use Rattle.std.specs.List.{flat_map};
 ghost use Rattle.sl_ast.specs.Views.{piece_of};
 ghost use Rattle.sl_constructors.specs.Displays.{behind, is_blank, is_literal};
 ghost use Rattle.sl_definitions.specs.Words.{unquoted};
-ghost use Rattle.sl_plan.specs.Extents.{leaves_at};
+ghost use Rattle.sl_leaves.specs.Extents.{leaves_at};
 ghost use Rattle.sl_show.specs.Pieces.{display_text, ends_blanks, front, literal_text};
 ghost use Rattle.sl_show.specs.Pieces.{is_passed, piece_text_by, pieces_text};
 ghost use Rattle.sl_show.specs.Templates.{made, parts_text};
@@ -16,7 +16,8 @@ ghost use Rattle.sl_spec.specs.declared.tables.Tables.{Tables as TablesOf};
 use crate::templates::{Maker, Part, Template};
 use sl_ast::constructors::Shown;
 use sl_constructors::{blanks, is_blank, is_literal};
-use sl_plan::{JoinedLeaves, bare, operand_named, slot_number};
+use sl_fields::operand_named;
+use sl_leaves::{JoinedLeaves, bare, slot_number};
 use sl_spec::{Means, Operand};
 use std::alloc::{AllocError, Global};
 

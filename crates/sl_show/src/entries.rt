@@ -4,12 +4,12 @@ ghost use Rattle.std.specs.Prelude.{◌≡◌, ◌-◌, ◌^◌, ◌<◌, ◌≤
 ghost use Rattle.std.specs.Prelude.{min, slice_get, slice_index};
 ghost use Rattle.sl_decoding.specs.Trees.{Node, Trees, tree};
 ghost use Rattle.sl_decoding.specs.Values.{value_or_zero};
-ghost use Rattle.sl_plan.specs.Extents.{extent};
+ghost use Rattle.sl_leaves.specs.Extents.{extent};
 ghost use Rattle.sl_show.specs.Entries.{from_tree, row_of, rows, rows_of};
 ghost use Rattle.sl_show.specs.Texts.{lengths_of};
 
 use sl_decoding::Entry;
-use sl_plan::Extent;
+use sl_leaves::Extent;
 
 /// So many of a list, and those behind them.
 fn divided<T>(xs: &[T], count: usize) -> (&[T], &[T])

@@ -6,7 +6,7 @@ ghost use Rattle.sl_ast.specs.Trees.{Constructor as ConstructorOf};
 ghost use Rattle.sl_ast.specs.Unfolding.{Placed};
 ghost use Rattle.sl_decoding.specs.Flat.{all_values, entries};
 ghost use Rattle.sl_decoding.specs.Trees.{Node, Trees};
-ghost use Rattle.sl_plan.specs.Extents.{extent};
+ghost use Rattle.sl_leaves.specs.Extents.{extent};
 ghost use Rattle.sl_show.specs.Entries.{row_of, rows, rows_of};
 ghost use Rattle.sl_show.specs.Spans.{AreTexts, AreWithin};
 ghost use Rattle.sl_show.specs.Templates.{AreTemplates, operand_texts, part_text};
@@ -20,7 +20,7 @@ use crate::numbers::push_number;
 use crate::spans::{Span, Spans};
 use crate::templates::{Part, Template};
 use sl_decoding::Entry;
-use sl_plan::Extent;
+use sl_leaves::Extent;
 use sl_spec::{CtorId, FieldId, Tables};
 use std::alloc::AllocError;
 

@@ -3,7 +3,7 @@ use Rattle.std.proofs.lemmas.List.{take_all}
 use Rattle.sl_build.specs.Views.{slot_reference}
 use Rattle.sl_instruction.specs.Operands.{given_reference}
 use Rattle.sl_meaning.specs.References.{Reference}
-use Rattle.sl_plan.specs.Extents.{leaves_at}
+use Rattle.sl_leaves.specs.Extents.{leaves_at}
 use Rattle.sl_spec.specs.Tables.{Operand}
 use Rattle.sl_tables.proofs.RowLemmas.{made_more}
 use Rattle.sl_build.proofs.slots.slots_by.Goals as goal

@@ -2,7 +2,7 @@ use Rattle.std.proofs.Common.{ap, sym, ◌∙◌}
 use Rattle.sl_ast.specs.Views.{action_of}
 use Rattle.sl_ast.specs.declared.patterns.Action.{Action}
 use Rattle.sl_decoding.specs.Actions.{act}
-use Rattle.sl_plan.specs.Extents.{leaves_at}
+use Rattle.sl_leaves.specs.Extents.{leaves_at}
 use Rattle.sl_plan.proofs.early.early_of.Goals as goal
 
 pub returns-in_ok-step-in-Assign : goal.returns-in_ok-step-in-Assign

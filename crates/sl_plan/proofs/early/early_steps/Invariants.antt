@@ -2,9 +2,9 @@ use Rattle.std.proofs.Common.{drop}
 use Rattle.sl_ast.specs.Views.{actions_of}
 use Rattle.sl_decoding.specs.Actions.{act}
 use Rattle.sl_decoding.specs.Values.{Site}
-use Rattle.sl_plan.specs.Extents.{leaves_at}
+use Rattle.sl_leaves.specs.Extents.{leaves_at}
 use Rattle.sl_plan.specs.Steps.{early_step}
-use Rattle.sl_plan.proofs.RunLemmas.{IsFront}
+use Rattle.sl_leaves.proofs.RunLemmas.{IsFront}
 use Rattle.sl_plan.proofs.early.early_steps.Given as goal
 
 abbrev pub invariant-actions : goal.invariant-actions

@@ -1,8 +1,8 @@
 use Rattle.sl_ast.specs.Views.{action_of, actions_of}
 use Rattle.sl_decoding.specs.Actions.{tell}
-use Rattle.sl_plan.specs.Extents.{leaves_at}
+use Rattle.sl_leaves.specs.Extents.{leaves_at}
 use Rattle.sl_plan.specs.Steps.{late_step}
-use Rattle.sl_plan.proofs.RunLemmas.{all_done, went_on_at}
+use Rattle.sl_leaves.proofs.RunLemmas.{all_done, went_on_at}
 use Rattle.sl_plan.proofs.late.late_steps.Goals as goal
 
 pub actions-preserved : goal.actions-preserved

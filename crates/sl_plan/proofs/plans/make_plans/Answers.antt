@@ -1,11 +1,11 @@
 use Rattle.std.proofs.Common.{List, ◌++◌, map, refl, sym, ap, ◌∙◌}
 use Rattle.sl_ast.specs.Unfolding.{written}
 use Rattle.sl_decoding.specs.Meanings.{said}
-use Rattle.sl_plan.specs.Blocks.{AreLeavesOfHead}
+use Rattle.sl_leaves.specs.Blocks.{AreLeavesOfHead}
 use Rattle.sl_plan.specs.Rights.{AreStepsOfHead}
 use Rattle.sl_plan.specs.Plans.{done}
 use Rattle.sl_plan.specs.declared.plans.Plan.{Plan}
-use Rattle.sl_plan.proofs.MadeLemmas.{keeps_of, made_for, none_of}
+use Rattle.sl_leaves.proofs.MadeLemmas.{keeps_of, made_for, none_of}
 use Rattle.sl_spec.specs.Tables.{Ctor, Operand}
 use Rattle.sl_spec.specs.Unfolded.{all_placed, placed}
 use Rattle.sl_plan.proofs.PlanLemmas.{all_made, all_said, out_of_constructors, out_of_written, plan_next}

@@ -1,6 +1,6 @@
-use Rattle.sl_plan.specs.Blocks.{AreLeavesOfHead}
+use Rattle.sl_leaves.specs.Blocks.{AreLeavesOfHead}
 use Rattle.sl_plan.specs.Rights.{AreStepsOfHead}
-use Rattle.sl_plan.proofs.MadeLemmas.{AreMadeOf}
+use Rattle.sl_leaves.proofs.MadeLemmas.{AreMadeOf}
 use Rattle.sl_plan.proofs.PlanLemmas.{AreFirst}
 use Rattle.sl_plan.proofs.plans.make_plans.Given as goal
 

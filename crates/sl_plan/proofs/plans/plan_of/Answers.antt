@@ -1,10 +1,10 @@
 use Rattle.std.proofs.Common.{ap, ◌∙◌, refl, sym}
 use Rattle.sl_decoding.specs.Actions.{look, tell}
 use Rattle.sl_decoding.specs.Outcomes.{◌>>=◌, in_turn}
-use Rattle.sl_plan.specs.Extents.{extent, leaves_at}
+use Rattle.sl_leaves.specs.Extents.{extent, leaves_at}
 use Rattle.sl_plan.specs.Steps.{late_step}
 use Rattle.sl_plan.proofs.MeaningLemmas.{meanings_alike, said_as}
-use Rattle.sl_plan.proofs.RunLemmas.{bind_alike}
+use Rattle.sl_leaves.proofs.RunLemmas.{bind_alike}
 use Rattle.sl_plan.proofs.plans.plan_of.Goals as goal
 
 pub returns : goal.returns

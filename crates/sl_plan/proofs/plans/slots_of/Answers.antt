@@ -1,5 +1,5 @@
 use Rattle.std.proofs.Common.{map, sym, ◌∙◌}
-use Rattle.sl_plan.specs.Extents.{leaves_at}
+use Rattle.sl_leaves.specs.Extents.{leaves_at}
 use Rattle.sl_plan.specs.Plans.{done_slot, slot_by}
 use Rattle.sl_plan.proofs.MeaningLemmas.{operand_next, operands_end}
 use Rattle.sl_plan.proofs.plans.slots_of.Goals as goal

@@ -1,6 +1,6 @@
 use Rattle.std.proofs.Common.{◌≡◌, ◌++◌, drop, map}
 use Rattle.sl_decoding.specs.Places.{table_operands}
-use Rattle.sl_plan.specs.Extents.{leaves_at}
+use Rattle.sl_leaves.specs.Extents.{leaves_at}
 use Rattle.sl_plan.specs.Plans.{done_slot, slot_by}
 use Rattle.sl_plan.proofs.plans.slots_of.Given as goal
 

@@ -1,6 +1,6 @@
 use Rattle.std.proofs.Common.{ap, sym, subst, ◌∙◌}
 use Rattle.sl_decoding.specs.Kinds.{kind_of}
-use Rattle.sl_plan.specs.Extents.{leaves_at}
+use Rattle.sl_leaves.specs.Extents.{leaves_at}
 use Rattle.sl_plan.specs.Uses.{HasNoPlace, read_at}
 use Rattle.sl_plan.proofs.UseLemmas.{read_there}
 use Rattle.sl_plan.proofs.uses.place_read.Goals as goal

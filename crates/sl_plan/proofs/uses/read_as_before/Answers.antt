@@ -1,7 +1,7 @@
 use Rattle.std.proofs.Common.{◌<◌, ◌≤◌, sym, subst}
 use Rattle.std.proofs.lemmas.Option.{get_or_from_slice_get}
 use Rattle.sl_plan.specs.Uses.{ReadAsBefore, ReadsAsBefore}
-use Rattle.sl_plan.proofs.TiedLemmas.{none_left, one_less}
+use Rattle.sl_leaves.proofs.TiedLemmas.{none_left, one_less}
 use Rattle.sl_plan.proofs.uses.read_as_before.Goals as goal
 
 pub used-init : goal.used-init

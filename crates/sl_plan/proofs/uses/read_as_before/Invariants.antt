@@ -1,5 +1,5 @@
 use Rattle.sl_plan.specs.Uses.{ReadAsBefore, ReadsAsBefore}
-use Rattle.sl_plan.proofs.TiedLemmas.{IsLeft}
+use Rattle.sl_leaves.proofs.TiedLemmas.{IsLeft}
 use Rattle.sl_plan.proofs.uses.read_as_before.Given as goal
 
 abbrev pub invariant-used : goal.invariant-used

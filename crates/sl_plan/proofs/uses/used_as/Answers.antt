@@ -1,5 +1,5 @@
 use Rattle.std.proofs.Common.{ap, sym, ◌∙◌}
-use Rattle.sl_plan.specs.Extents.{extent}
+use Rattle.sl_leaves.specs.Extents.{extent}
 use Rattle.sl_plan.specs.Uses.{read_at}
 use Rattle.sl_plan.proofs.uses.used_as.Goals as goal
 

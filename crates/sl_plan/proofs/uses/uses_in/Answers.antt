@@ -4,7 +4,7 @@ use Rattle.sl_ast.specs.Views.{action_of}
 use Rattle.sl_ast.specs.declared.patterns.Action as tree
 use Rattle.sl_plan.specs.Uses.{IsSameAction, ReadAsBefore}
 use Rattle.sl_plan.specs.declared.uses.Used.{Used}
-use Rattle.sl_plan.proofs.TiedLemmas.{none_left, one_less}
+use Rattle.sl_leaves.proofs.TiedLemmas.{none_left, one_less}
 use Rattle.sl_plan.proofs.uses.uses_in.Goals as goal
 
 pub actions-init : goal.actions-init

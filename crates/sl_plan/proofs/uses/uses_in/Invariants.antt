@@ -2,8 +2,8 @@ use Rattle.std.specs.Prelude.{List}
 use Rattle.std.specs.List.{AllByRecursion}
 use Rattle.sl_ast.specs.Views.{action_of}
 use Rattle.sl_plan.specs.Uses.{IsSameAction, ReadAsBefore}
-use Rattle.sl_plan.specs.declared.leaves.Leaf as l
-use Rattle.sl_plan.proofs.TiedLemmas.{IsLeft}
+use Rattle.sl_leaves.specs.declared.leaves.Leaf as l
+use Rattle.sl_leaves.proofs.TiedLemmas.{IsLeft}
 use Rattle.sl_spec.specs.Tables.{Operand}
 use Rattle.sl_plan.proofs.uses.uses_in.Given as goal
 

@@ -1,0 +1,47 @@
+//! What is made of one pattern.
+
+ghost use Rattle.std.specs.Prelude.{◌≡◌, ℕ, List, option_map};
+ghost use Rattle.sl_decoding.specs.Places.{bare_place, first_place};
+ghost use Rattle.sl_leaves.specs.Extents.{extent, leaves_at};
+ghost use Rattle.sl_spec.specs.Tables.{Name};
+
+use crate::extents::Extent;
+use crate::leaves::{Leaf, alone_of, first_of};
+use crate::looks::Look;
+use sl_spec::Named;
+
+/// The names of a pattern with their places, the look-ups of its bare fields, and its length.
+#[derive(Drop)]
+pub struct PatternLeaves<'a> {
+    pub(crate) leaves: Vec<Leaf<'a>>,
+    /// The names, each once, with its first place.
+    pub(crate) firsts: Named<'a, Leaf<'a>>,
+    /// The names that stand alone, each once, with its first place.
+    pub(crate) alone: Vec<Leaf<'a>>,
+    pub(crate) looks: Vec<Look>,
+    pub(crate) length: Extent,
+    ghost stand_first: { (lengths : List ℕ) (name : Name)
+        → first_place name (leaves_at lengths firsts)
+        ≡ first_place name (leaves_at lengths leaves.items) },
+    ghost stand_alone: { (lengths : List ℕ) (name : Name)
+        → bare_place name (leaves_at lengths alone.items)
+        ≡ bare_place name (leaves_at lengths leaves.items) },
+}
+
+impl PatternLeaves<'_> {
+    /// The place of a name's first occurrence.
+    pub(crate) fn first(&self, name: &[u8]) -> Option<&Extent>
+        ensures { (lengths : List ℕ) → option_map (λ e. extent e.now lengths) result
+            ≡ first_place name.now (leaves_at lengths self.now.leaves.items) }
+    {
+        first_of(&self.firsts, name)
+    }
+
+    /// The place where a name stands alone first.
+    pub(crate) fn alone(&self, name: &[u8]) -> Option<&Extent>
+        ensures { (lengths : List ℕ) → option_map (λ e. extent e.now lengths) result
+            ≡ bare_place name.now (leaves_at lengths self.now.leaves.items) }
+    {
+        alone_of(self.alone.as_slice(), name)
+    }
+}
