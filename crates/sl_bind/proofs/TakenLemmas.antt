@@ -24,11 +24,11 @@ use Rattle.sl_constructors.specs.Listed.{MeansTable}
 use Rattle.sl_constructors.specs.Operands.{action_operands, bare_names, bare_operand, is_epsilon, is_operand, meaning_by, operand_names}
 use Rattle.sl_constructors.specs.Steps.{constructor_step, demands, operands_of, with_ctor}
 use Rattle.sl_constructors.specs.WholeText.{table_name}
-use Rattle.sl_definitions.proofs.BoolLemmas.{and_parts, not_true, or_false}
-use Rattle.sl_definitions.proofs.FreshLemmas.{field_free}
 use Rattle.sl_definitions.specs.Beginning.{no_tables}
-use Rattle.sl_definitions.specs.NewNames.{is_defined, is_new, reserved_words}
 use Rattle.sl_parts.specs.Parts.{Part, parts_of}
+use Rattle.sl_registers.proofs.BoolLemmas.{and_parts, not_true, or_false}
+use Rattle.sl_registers.proofs.FreshLemmas.{field_free}
+use Rattle.sl_registers.specs.NewNames.{is_defined, is_new, reserved_words}
 use Rattle.sl_rules.proofs.ListLemmas.{any_map}
 use Rattle.sl_rules.specs.Names.{Name, is_among}
 use Rattle.sl_spec.specs.Named.{has_name, index_named}

@@ -12,8 +12,8 @@ use Rattle.sl_constructors.specs.Steps.{constructor_step}
 use Rattle.sl_constructors.specs.WholeText.{all_tables, table_name}
 use Rattle.sl_definitions.specs.Beginning.{begin, is_endian, no_tables}
 use Rattle.sl_definitions.specs.Items.{definition_step, taken, with_tables}
-use Rattle.sl_definitions.specs.NewNames.{is_new}
 use Rattle.sl_definitions.specs.declared.known.Known.{Known}
+use Rattle.sl_registers.specs.NewNames.{is_new}
 use Rattle.sl_rules.specs.Demands.{Demand, first_broken, run}
 use Rattle.sl_rules.specs.Names.{Name}
 use Rattle.sl_section_rules.specs.Macros.{Signature}

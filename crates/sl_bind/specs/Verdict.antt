@@ -9,8 +9,8 @@ use Rattle.sl_constructors.specs.Steps.{all_tables, constructor_step}
 use Rattle.sl_constructors.specs.WholeText.{table_name}
 use Rattle.sl_definitions.specs.Beginning.{begin, opening}
 use Rattle.sl_definitions.specs.Items.{definition_step, with_tables}
-use Rattle.sl_definitions.specs.NewNames.{is_new}
 use Rattle.sl_definitions.specs.declared.known.Known.{Known}
+use Rattle.sl_registers.specs.NewNames.{is_new}
 use Rattle.sl_rules.specs.Demands.{◌>>=◌, judged, run}
 use Rattle.sl_rules.specs.Names.{Name}
 use Rattle.sl_section_rules.specs.Macros.{Signature, signature_of, with_signature}

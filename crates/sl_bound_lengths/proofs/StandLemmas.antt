@@ -11,11 +11,11 @@ use Rattle.sl_bind.proofs.SideLemmas.{EachPair, pair_each, pair_more}
 use Rattle.sl_bind.proofs.WalkLemmas.{EachAdds, taken_adds, whole_text}
 use Rattle.sl_bind.specs.Verdict.{taken, with_macro}
 use Rattle.sl_constructors.specs.Steps.{constructor_step}
-use Rattle.sl_definitions.proofs.BoolLemmas.{and_parts, not_true}
 use Rattle.sl_definitions.specs.Beginning.{no_tables}
-use Rattle.sl_definitions.specs.NewNames.{is_defined, is_new, reserved_words}
 use Rattle.sl_lengths.proofs.NameLemmas.{Stands, constructor_stands, each_name, stands_more}
 use Rattle.sl_lengths.specs.Naming.{EachName}
+use Rattle.sl_registers.proofs.BoolLemmas.{and_parts, not_true}
+use Rattle.sl_registers.specs.NewNames.{is_defined, is_new, reserved_words}
 use Rattle.sl_rules.specs.Names.{is_among}
 use Rattle.sl_spec.specs.Named.{has_name}
 use Rattle.sl_spec.specs.Tables.{Ctor, Field, Table}

@@ -8,12 +8,12 @@ use Rattle.sl_ast.specs.declared.definitions.AttachKind.{AttachKind}
 use Rattle.sl_ast.specs.declared.definitions.AttachKind.TheVariants.{Variables, Names, Values}
 use Rattle.sl_bound_places.proofs.ListLemmas.{Each, at_position, each_made, each_more, each_none, found_at}
 use Rattle.sl_defined.specs.Defined.{AreAlike, BitsLie, HasBytes, RegisterLies}
-use Rattle.sl_definitions.proofs.BoolLemmas.{and_parts}
-use Rattle.sl_definitions.proofs.SpaceLemmas.{size_is_at_most_8, size_is_some}
 use Rattle.sl_definitions.specs.AttachRules.{are_like, are_members, first_register, given_entries, has_size, is_variable, register_entry}
-use Rattle.sl_definitions.specs.RegisterRules.{bit_range_of, ends_within, has_space_and_size, is_bit_range, is_skipped, laid, lies_in}
-use Rattle.sl_definitions.specs.SpaceRules.{has_size_and_type, space_of}
 use Rattle.sl_definitions.specs.Words.{word_bytes}
+use Rattle.sl_registers.proofs.BoolLemmas.{and_parts}
+use Rattle.sl_registers.proofs.SpaceLemmas.{size_is_at_most_8, size_is_some}
+use Rattle.sl_registers.specs.RegisterRules.{bit_range_of, ends_within, has_space_and_size, is_bit_range, is_skipped, laid, lies_in}
+use Rattle.sl_registers.specs.SpaceRules.{has_size_and_type, space_of}
 use Rattle.sl_rules.specs.Names.{Name}
 use Rattle.sl_spec.specs.Named.{has_name, index_named, is_named, named}
 use Rattle.sl_spec.specs.Tables as spec

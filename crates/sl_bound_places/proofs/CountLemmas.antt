@@ -15,12 +15,12 @@ use Rattle.sl_definitions.specs.AttachRules.{attach_demands}
 use Rattle.sl_definitions.specs.Beginning.{is_alignment, with_alignment, with_endian}
 use Rattle.sl_definitions.specs.FieldRules.{context_demands, token_demands}
 use Rattle.sl_definitions.specs.Items.{all_names, defined, taken, with_tables}
-use Rattle.sl_definitions.specs.NewNames.{are_new}
-use Rattle.sl_definitions.specs.RegisterRules.{bit_range_demands, register_demands}
-use Rattle.sl_definitions.specs.SpaceRules.{space_demands, space_of, with_space}
-use Rattle.sl_definitions.specs.UserOps.{userop_of, with_userops}
 use Rattle.sl_definitions.specs.declared.known.Known.{Known}
 use Rattle.sl_grammar.proofs.Keeps.{keeps_item}
+use Rattle.sl_registers.specs.NewNames.{are_new}
+use Rattle.sl_registers.specs.RegisterRules.{bit_range_demands, register_demands}
+use Rattle.sl_registers.specs.SpaceRules.{space_demands, space_of, with_space}
+use Rattle.sl_registers.specs.UserOps.{userop_of, with_userops}
 use Rattle.sl_rules.specs.Demands.{Demand, judged}
 use Rattle.sl_rules.specs.Names.{Name}
 use Rattle.sl_spec.specs.declared.tables.Tables.{Tables}

@@ -6,7 +6,7 @@ use Rattle.std.proofs.lemmas.Bool.{lt-ltb}
 use Rattle.std.proofs.lemmas.Grind.{common_steps}
 use Rattle.std.proofs.lemmas.List.Folds.{find_at}
 use Rattle.std.proofs.lemmas.Option.{slice_get_within}
-use Rattle.sl_definitions.proofs.BoolLemmas.{and_parts}
+use Rattle.sl_registers.proofs.BoolLemmas.{and_parts}
 
 -- Each of them has it.
 abbrev pub Each : {X : Type 0} → (X → Type 0) → List X → Type 0

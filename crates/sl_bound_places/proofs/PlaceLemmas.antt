@@ -15,10 +15,10 @@ use Rattle.sl_definitions.specs.AttachRules.{attach_step, are_members, are_open,
 use Rattle.sl_definitions.specs.Beginning.{is_alignment, no_tables, with_alignment, with_endian}
 use Rattle.sl_definitions.specs.FieldRules.{context_demands, token_demands}
 use Rattle.sl_definitions.specs.Items.{all_names, defined, taken, with_tables}
-use Rattle.sl_definitions.specs.NewNames.{are_new, is_new}
-use Rattle.sl_definitions.specs.RegisterRules.{bit_range_demands, bit_range_step, bit_range_names, bit_range_of, ends_within, given_names, has_space_and_size, is_bit_range, register_demands, with_bit_ranges}
-use Rattle.sl_definitions.specs.SpaceRules.{has_size_and_type, space_demands, space_of, with_space}
 use Rattle.sl_definitions.specs.declared.known.Known.{Known}
+use Rattle.sl_registers.specs.NewNames.{are_new, is_new}
+use Rattle.sl_registers.specs.RegisterRules.{bit_range_demands, bit_range_step, bit_range_names, bit_range_of, ends_within, given_names, has_space_and_size, is_bit_range, register_demands, with_bit_ranges}
+use Rattle.sl_registers.specs.SpaceRules.{has_size_and_type, space_demands, space_of, with_space}
 use Rattle.sl_rules.specs.Demands.{Demand, judged}
 use Rattle.sl_rules.specs.Names.{Name}
 use Rattle.sl_spec.specs.Named.{named}

@@ -20,18 +20,18 @@ use Rattle.sl_bind.specs.Verdict.{taken}
 use Rattle.sl_bound_sections.proofs.ChangeLemmas.{Grown, demand_at, grown_same, taken_changes}
 use Rattle.sl_bound_sections.proofs.KindLemmas.{OperandsAlike, kind_in}
 use Rattle.sl_bound_sections.proofs.ListLemmas.{Begins, all_both, all_weaker, begins_long, contained, get_begins, index_far, index_inside, index_stays}
-use Rattle.sl_definitions.proofs.BoolLemmas.{and_parts, not_true, or_false}
 use Rattle.sl_definitions.specs.AttachRules as rule
 use Rattle.sl_definitions.specs.AttachRules.{are_like, are_members, are_open, attach_demands, attachment, given_entries, is_gap, is_open, register_entry, register_named}
 use Rattle.sl_definitions.specs.Beginning.{is_alignment, no_tables, with_alignment}
 use Rattle.sl_definitions.specs.FieldRules.{context_demands, token_demands}
 use Rattle.sl_definitions.specs.Items as items
 use Rattle.sl_definitions.specs.Items.{all_names, defined, with_tables}
-use Rattle.sl_definitions.specs.NewNames.{are_new}
-use Rattle.sl_definitions.specs.RegisterRules.{bit_range_demands, is_skipped, register_demands}
-use Rattle.sl_definitions.specs.SpaceRules.{space_demands}
 use Rattle.sl_definitions.specs.Words.{word_bytes}
 use Rattle.sl_definitions.specs.declared.known.Known.{Known}
+use Rattle.sl_registers.proofs.BoolLemmas.{and_parts, not_true, or_false}
+use Rattle.sl_registers.specs.NewNames.{are_new}
+use Rattle.sl_registers.specs.RegisterRules.{bit_range_demands, is_skipped, register_demands}
+use Rattle.sl_registers.specs.SpaceRules.{space_demands}
 use Rattle.sl_resolve.specs.Scopes as flat
 use Rattle.sl_resolve.specs.Scopes.{attached_size, field_symbol, if_below, list_size}
 use Rattle.sl_resolve.specs.Steps.{with_name}

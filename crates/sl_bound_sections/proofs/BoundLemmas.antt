@@ -18,7 +18,6 @@ use Rattle.sl_bound_sections.proofs.QuietLemmas.{IsMacro}
 use Rattle.sl_bound_sections.specs.Laws.{BuildsAreOnce, ConstantsAreBare, ExportsArePlaces, TablesExportAlike, sections_of}
 use Rattle.sl_constructors.specs.ConstructorRules.{is_of_root}
 use Rattle.sl_constructors.specs.WholeText.{table_name}
-use Rattle.sl_definitions.proofs.BoolLemmas.{and_parts}
 use Rattle.sl_equations.specs.Uses.{exported_variable}
 use Rattle.sl_exports.specs.Exports.{Row, does_export, rows}
 use Rattle.sl_fitting.specs.Keeping.{first_export}
@@ -26,6 +25,7 @@ use Rattle.sl_flat_sections.specs.FlatSections.{Flat, flat_section, flat_section
 use Rattle.sl_flat_sections.specs.Scopes.{scopes_of}
 use Rattle.sl_instruction.specs.Instructions.{is_unimpl_by}
 use Rattle.sl_keeping.specs.Laws.{ExportsAreBare}
+use Rattle.sl_registers.proofs.BoolLemmas.{and_parts}
 use Rattle.sl_resolve.specs.Macros.{Body}
 use Rattle.sl_resolve.specs.Scopes.{global_symbol, reach_of}
 use Rattle.sl_resolve.specs.declared.reach.Reach.{Reach}

@@ -8,8 +8,8 @@ use Rattle.std.proofs.lemmas.List.Folds.{list_any-append}
 use Rattle.std.proofs.lemmas.Slice.Eq.{bytes_eq-Decides}
 use Rattle.sl_ast.specs.Trees.{Expression, Left, left_name, left_bits, left_star, Statement, local, declare, assign, goto, branch, call_to, return, build, export, invoke, label}
 use Rattle.sl_bound_sections.proofs.QuietLemmas.{CallsKeep, IsMacro, calls_keep, is_quiet, none_built, taken_quiet}
-use Rattle.sl_definitions.proofs.BoolLemmas.{and_parts, not_true, or_false}
-use Rattle.sl_definitions.proofs.FreshLemmas.{differ_less}
+use Rattle.sl_registers.proofs.BoolLemmas.{and_parts, not_true, or_false}
+use Rattle.sl_registers.proofs.FreshLemmas.{differ_less}
 use Rattle.sl_resolve.specs.Entries.{Entry}
 use Rattle.sl_resolve.specs.Macros.{Body}
 use Rattle.sl_resolve.specs.Scopes.{attached_size, bits_symbol, built_in, field_symbol, first_of, global_symbol, operand_symbol, own_symbol, range_at, range_named, register_at, register_named, register_symbol, symbol_named, with_operands, with_symbol}

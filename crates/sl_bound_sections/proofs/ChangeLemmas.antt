@@ -8,17 +8,17 @@ use Rattle.std.proofs.lemmas.List.Sums.{sum_by-cons}
 use Rattle.sl_ast.specs.Trees as tree
 use Rattle.sl_bind.proofs.GrowLemmas.{is_kept, known_in, put}
 use Rattle.sl_bound_sections.proofs.ListLemmas.{Begins, all_both, all_weaker, begins_more, begins_same, begins_then, longer}
-use Rattle.sl_definitions.proofs.BoolLemmas.{and_parts}
 use Rattle.sl_definitions.specs.AttachRules.{attach_demands}
 use Rattle.sl_definitions.specs.Beginning.{is_alignment, with_alignment, with_endian}
 use Rattle.sl_definitions.specs.FieldRules.{context_demands, token_demands}
 use Rattle.sl_definitions.specs.Items.{all_names, defined, taken, with_tables}
-use Rattle.sl_definitions.specs.NewNames.{are_new}
-use Rattle.sl_definitions.specs.RegisterRules.{bit_range_demands, bit_range_of, is_bit_range, is_skipped, laid, lies_in, register_demands}
-use Rattle.sl_definitions.specs.SpaceRules.{space_demands, space_of}
-use Rattle.sl_definitions.specs.UserOps.{userop_of}
 use Rattle.sl_definitions.specs.declared.known.Known.{Known}
 use Rattle.sl_flat_sections.specs.Scopes.{with_definition}
+use Rattle.sl_registers.proofs.BoolLemmas.{and_parts}
+use Rattle.sl_registers.specs.NewNames.{are_new}
+use Rattle.sl_registers.specs.RegisterRules.{bit_range_demands, bit_range_of, is_bit_range, is_skipped, laid, lies_in, register_demands}
+use Rattle.sl_registers.specs.SpaceRules.{space_demands, space_of}
+use Rattle.sl_registers.specs.UserOps.{userop_of}
 use Rattle.sl_resolve.specs.Scopes.{reach_of}
 use Rattle.sl_resolve.specs.declared.reach.Reach.{Reach}
 use Rattle.sl_rules.specs.Demands.{Demand, first_broken, judged}

@@ -7,13 +7,13 @@ use Rattle.std.proofs.lemmas.Bool.Decides.{nat_tests}
 use Rattle.sl_ast.specs.Trees.{Constructor, Section, Statement, export, statements, unimplemented}
 use Rattle.sl_ast.specs.Unfolding.{Placed}
 use Rattle.sl_bound_sections.proofs.QuietLemmas.{CallsKeep, IsMacro, calls_keep, first_behind, taken_silent, unplaced_silent}
-use Rattle.sl_definitions.proofs.BoolLemmas.{and_parts, or_false}
 use Rattle.sl_equations.specs.Uses.{exported_variable}
 use Rattle.sl_exports.specs.Exports.{all_or_none, does_export, exporting, if_so, is_export, is_silent, keeps_38, rows, silent, unexported_place, uses_exports}
 use Rattle.sl_exports.specs.Spreading.{is_one_of}
 use Rattle.sl_fitting.specs.Keeping.{first_export}
 use Rattle.sl_flat_sections.specs.FlatSections.{flat_section}
 use Rattle.sl_instruction.specs.Instructions.{is_unimpl}
+use Rattle.sl_registers.proofs.BoolLemmas.{and_parts, or_false}
 use Rattle.sl_resolve.specs.Macros.{Body}
 use Rattle.sl_resolve.specs.Steps.{Calls, after, all_taken, calls_of, exported, opening, section_steps, taken, unplaced, with_built}
 use Rattle.sl_resolve.specs.declared.reach.Reach.{Reach}

@@ -16,7 +16,7 @@ use Rattle.sl_constructors.specs.Operands.{action_operands, bare_names, meaning_
 use Rattle.sl_constructors.specs.Steps.{constructor_step, operands_of, with_ctor}
 use Rattle.sl_constructors.specs.WholeText.{table_name}
 use Rattle.sl_ast.specs.Unfolding.{written}
-use Rattle.sl_definitions.proofs.BoolLemmas.{and_parts}
+use Rattle.sl_registers.proofs.BoolLemmas.{and_parts}
 use Rattle.sl_definitions.specs.Beginning.{no_tables}
 use Rattle.sl_definitions.specs.Items as items
 use Rattle.sl_definitions.specs.declared.known.Known.{Known}

@@ -10,11 +10,11 @@ use Rattle.sl_bound_sections.proofs.BuildLemmas.{own_with}
 use Rattle.sl_bound_sections.proofs.ChangeLemmas.{Grown, RangesLie}
 use Rattle.sl_bound_sections.proofs.ListLemmas.{all_at, get_begins, index_begins}
 use Rattle.sl_bound_sections.proofs.QuietLemmas.{CallsKeep, IsMacro, bare_behind, calls_keep, first_behind, taken_silent, unplaced_silent}
-use Rattle.sl_definitions.proofs.BoolLemmas.{and_parts}
 use Rattle.sl_equations.specs.Equations.{is_bare, is_bare_symbol}
 use Rattle.sl_exports.specs.Exports as text
 use Rattle.sl_fitting.specs.Keeping.{first_export}
 use Rattle.sl_keeping.specs.Laws.{ExportIsBare, ExportsAreBare}
+use Rattle.sl_registers.proofs.BoolLemmas.{and_parts}
 use Rattle.sl_resolve.specs.Entries.{Entry}
 use Rattle.sl_resolve.specs.Macros.{Body}
 use Rattle.sl_resolve.specs.Scopes as flat

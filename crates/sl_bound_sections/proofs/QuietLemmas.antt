@@ -6,10 +6,10 @@ use Rattle.std.proofs.lemmas.Bool.{true≢false}
 use Rattle.sl_ast.specs.Trees.{Expression, integer, named, Left, left_name, left_bits, left_star, Dest, direct, computed, Target, calls, calls_computed, Statement, local, declare, assign, goto, branch, call_to, return, build, export, invoke, label}
 use Rattle.sl_ast.specs.Views.{arguments}
 use Rattle.sl_bound_sections.proofs.ListLemmas.{all_at}
-use Rattle.sl_definitions.proofs.BoolLemmas.{and_parts}
 use Rattle.sl_exports.specs.Exports as text
 use Rattle.sl_fitting.specs.Keeping.{first_export}
 use Rattle.sl_keeping.specs.Laws.{ExportsAreBare}
+use Rattle.sl_registers.proofs.BoolLemmas.{and_parts}
 use Rattle.sl_resolve.specs.Macros.{Body}
 use Rattle.sl_resolve.specs.Scopes.{known_symbol, symbol_named, userop_named}
 use Rattle.sl_resolve.specs.Steps.{Calls, after, all_taken, argument_steps, argument_variables, assign_steps, body_of, build_steps, call_step, calls_of, entered, given, goto_step, is_call_of, is_table, left_steps, local_steps, macro_calls, taken, unplaced, unplaced_one, userop_calls, userop_steps, with_macro}

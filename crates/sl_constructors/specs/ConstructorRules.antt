@@ -7,7 +7,7 @@ use Rattle.sl_rules.specs.Names.{Name, are_distinct, is_among}
 use Rattle.sl_spec.specs.Named.{has_name}
 use Rattle.sl_spec.specs.Tables.{Field, Register, Table}
 use Rattle.sl_spec.specs.declared.tables.Tables.{Tables}
-use Rattle.sl_definitions.specs.NewNames.{is_new}
+use Rattle.sl_registers.specs.NewNames.{is_new}
 use Rattle.sl_definitions.specs.Words.{word_bytes}
 use Rattle.sl_parts.specs.Parts.{Part, is_table}
 use Rattle.sl_constructors.specs.Displays.{shown}

@@ -22,7 +22,7 @@ use crate::operands::{operand_names, operands, small, table_number};
 use crate::patterns::are_few;
 use crate::whole_text::table_name;
 use sl_actions::{ActionFacts, judge_actions};
-use sl_definitions::is_new;
+use sl_registers::is_new;
 use sl_rules::{Fault, NameSet};
 use sl_spec::{Ctor, CtorId, Named, Operand, Table, TableId, Tables, Unfolded};
 use std::alloc::{AllocError, Global};

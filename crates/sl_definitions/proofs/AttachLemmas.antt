@@ -12,9 +12,9 @@ use Rattle.sl_rules.specs.Names.{Name, are_distinct, differ_behind, is_among}
 use Rattle.sl_spec.specs.Attachments.{is_attached}
 use Rattle.sl_spec.specs.Named.{index_named, is_named}
 use Rattle.sl_spec.specs.Tables.{Attached, Field}
+use Rattle.sl_registers.proofs.BoolLemmas.{and_parts, not_true, or_false}
+use Rattle.sl_registers.proofs.FreshLemmas.{differ_less, rest_at}
 use Rattle.sl_definitions.specs.AttachRules.{are_open, is_open}
-use Rattle.sl_definitions.proofs.BoolLemmas.{and_parts, not_true, or_false}
-use Rattle.sl_definitions.proofs.FreshLemmas.{differ_less, rest_at}
 
 -- ---- a test of all members, as a loop makes it
 

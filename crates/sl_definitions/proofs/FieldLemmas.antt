@@ -1,5 +1,5 @@
 -- Fields that pass the rules lie within 64 bits.
-use Rattle.std.proofs.Common.{◌≡◌, ℕ, zero, suc, ◌*◌, ◌≤◌, ◌<◌, Bool, true, not, ◌&&◌, List, [], ◌∷◌, length, get_or, refl, ap, ◌∙◌, arith}
+use Rattle.std.proofs.Common.{◌≡◌, ℕ, ◌*◌, ◌≤◌, ◌<◌, true, not, ◌&&◌, List, [], ◌∷◌, length, get_or, refl, arith}
 use Rattle.std.specs.Prelude.{nat_le, nat_lt, is_none, Option, Some, None}
 use Rattle.std.specs.List.{list_all}
 use Rattle.std.proofs.lemmas.Bool.{and_from, leb-true, le-leb, ltb-true}
@@ -8,7 +8,7 @@ use Rattle.sl_rules.specs.Names.{Name}
 use Rattle.sl_spec.specs.Named.{named}
 use Rattle.sl_spec.specs.Tables.{Register}
 use Rattle.sl_spec.specs.declared.tables.Tables.{Tables}
-use Rattle.sl_definitions.proofs.BoolLemmas.{and_parts}
+use Rattle.sl_registers.proofs.BoolLemmas.{all_at, and_parts}
 use Rattle.sl_definitions.specs.FieldRules.{has, holds_fields, is_context, is_in_order, is_noflow, is_token_field}
 use Rattle.sl_definitions.specs.Fits.{all_fit, fits}
 
@@ -48,11 +48,6 @@ context_fits t register fs order h =
     context_fields_fit there fs order (and_parts (is_none t.context) (holds_fields there fs) h).1
 
 -- ---- one of the fields
-
-pub all_at : {A : Type 0} (p : A → Bool) (xs : List A) (i : ℕ) (x : A) → i < length xs → x ≡ get_or xs i x → list_all p xs ≡ true → p x ≡ true
-all_at p [] i x below is h = absurd (omega arith)
-all_at p (y ∷ ys) zero x below is h = ap p is ∙ (and_parts (p y) (list_all p ys) h).0
-all_at p (y ∷ ys) (suc i) x below is h = all_at p ys i x (omega arith) is (and_parts (p y) (list_all p ys) h).1
 
 module _ (fs : List tree.Field) (i : ℕ) (f : tree.Field) (below : i < length fs) (is : f ≡ get_or fs i f) (fit : all_fit fs ≡ true) where
   here : fits f ≡ true

@@ -1,9 +1,4 @@
 pub mod AttachLemmas
-pub mod BitRangeLemmas
-pub mod BoolLemmas
 pub mod FieldLemmas
-pub mod FreshLemmas
-pub mod RegisterLemmas
 pub mod RowTheorems
-pub mod SpaceLemmas
 pub mod WordLemmas

@@ -13,12 +13,12 @@ use Rattle.sl_rules.specs.Names.{Name, are_distinct}
 use Rattle.sl_spec.specs.Tables.{Entries, Register, Space, registers, texts, values}
 use Rattle.sl_spec.specs.declared.definitions.SpaceKind.TheVariants.{Ram}
 use Rattle.sl_spec.specs.declared.tables.Tables.{Tables}
+use Rattle.sl_registers.specs.RegisterRules.{ends_within, given_names, laid, lies_in}
+use Rattle.sl_registers.specs.SpaceRules.{has_size_and_type}
 use Rattle.sl_definitions.specs.AttachRules.{are_members, attach_step, attachment, given_entries, is_length, with_attached}
 use Rattle.sl_definitions.specs.Beginning.{alignment_step, begin, no_tables, opening, with_alignment, with_endian}
 use Rattle.sl_definitions.specs.FieldRules.{field_of, has_attributes_once, holds_fields, is_in_order, is_token_field, is_width}
 use Rattle.sl_definitions.specs.Items.{definition_step}
-use Rattle.sl_definitions.specs.RegisterRules.{ends_within, given_names, laid, lies_in}
-use Rattle.sl_definitions.specs.SpaceRules.{has_size_and_type}
 use Rattle.sl_definitions.specs.Words.{word_bytes}
 use Rattle.sl_definitions.specs.declared.known.Known.{Known}
 

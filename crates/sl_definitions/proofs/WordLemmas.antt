@@ -5,8 +5,8 @@ use Rattle.std.specs.Prelude.{◌==◌}
 use Rattle.std.specs.List.{AllByRecursion}
 use Rattle.sl_ast.specs.Symbols.{find, keyword_of, keywords, same_bytes, word_by, word_of}
 use Rattle.sl_ast.specs.declared.symbols.Keyword.{Keyword}
+use Rattle.sl_registers.proofs.BoolLemmas.{and_parts}
 use Rattle.sl_definitions.specs.Words.{bytes_in, word_bytes}
-use Rattle.sl_definitions.proofs.BoolLemmas.{and_parts}
 
 pub same_are : (a b : List ℕ) → same_bytes a b ≡ true → a ≡ b
 same_are [] [] e = refl

@@ -13,7 +13,7 @@ use Rattle.sl_spec.specs.Attachments.{is_attached}
 use Rattle.sl_spec.specs.Named.{index_named, named}
 use Rattle.sl_spec.specs.Tables.{Attached, Entries, Field, Register, registers, texts, values}
 use Rattle.sl_spec.specs.declared.tables.Tables.{Tables}
-use Rattle.sl_definitions.specs.RegisterRules.{is_skipped}
+use Rattle.sl_registers.specs.RegisterRules.{is_skipped}
 use Rattle.sl_definitions.specs.Words.{unquoted, word_bytes}
 
 -- ---- fields

@@ -16,7 +16,7 @@ use Rattle.sl_spec.specs.Tables.{Field, Register, Token}
 use Rattle.sl_spec.specs.declared.tables.Tables.{Tables}
 use Rattle.sl_word.specs.declared.word.Endian.{Endian}
 use Rattle.sl_word.specs.declared.word.Endian.TheVariants.{Big, Little}
-use Rattle.sl_definitions.specs.NewNames.{are_new}
+use Rattle.sl_registers.specs.NewNames.{are_new}
 
 -- ---- fields
 

@@ -6,12 +6,12 @@ use Rattle.sl_ast.specs.Trees.{Item, define, attach_list, attach_one}
 use Rattle.sl_rules.specs.Demands.{◌>>=◌}
 use Rattle.sl_rules.specs.Names.{Name}
 use Rattle.sl_spec.specs.declared.tables.Tables.{Tables}
+use Rattle.sl_registers.specs.RegisterRules.{bit_range_step, register_step}
+use Rattle.sl_registers.specs.SpaceRules.{space_step}
+use Rattle.sl_registers.specs.UserOps.{userop_step}
 use Rattle.sl_definitions.specs.AttachRules.{attach_step}
 use Rattle.sl_definitions.specs.Beginning.{alignment_step, begin, is_endian, with_endian}
 use Rattle.sl_definitions.specs.FieldRules.{context_step, token_step}
-use Rattle.sl_definitions.specs.RegisterRules.{bit_range_step, register_step}
-use Rattle.sl_definitions.specs.SpaceRules.{space_step}
-use Rattle.sl_definitions.specs.UserOps.{userop_step}
 use Rattle.sl_definitions.specs.declared.known.Known.{Known}
 
 -- one name, or those in brackets

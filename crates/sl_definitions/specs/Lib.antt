@@ -2,10 +2,5 @@ pub mod AttachRules
 pub mod Beginning
 pub mod FieldRules
 pub mod Fits
-pub mod Free
 pub mod Items
-pub mod NewNames
-pub mod RegisterRules
-pub mod SpaceRules
-pub mod UserOps
 pub mod Words

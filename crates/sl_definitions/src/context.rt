@@ -4,15 +4,14 @@ ghost use Rattle.std.specs.Prelude.{◌≡◌, nat_lt, IfOk, map, Some};
 ghost use Rattle.std.specs.List.{list_all};
 ghost use Rattle.sl_ast.specs.Views.{field_of as seen};
 ghost use Rattle.sl_rules.specs.Demands.{Gives};
-ghost use Rattle.sl_spec.specs.Named.{index_named};
 ghost use Rattle.sl_definitions.specs.FieldRules.{context_step, field_names, holds_fields};
 ghost use Rattle.sl_definitions.specs.FieldRules.{is_context};
 
-use crate::names::are_new;
 use crate::tokens::{add, add_names, all_attributes_once, all_in_order};
 use sl_ast::definitions as tree;
+use sl_registers::{are_new, register_number};
 use sl_rules::Fault;
-use sl_spec::{Named, RegId, Register, Tables};
+use sl_spec::{Register, Tables};
 use std::alloc::{AllocError, Global};
 
 fn all_below(bits: u64, fields: &[tree::Field]) -> bool
@@ -40,22 +39,6 @@ fn is_context(t: &Tables, register: &[u8], fields: &[tree::Field]) -> bool
     match t.registers.get(register) {
         Some(register) => holds_fields(register, fields),
         None => false,
-    }
-}
-
-/// The number of a register. 2^32 registers would be want of memory.
-pub fn register_number<'a>(
-    registers: &Named<'a, Register<'a>>,
-    name: &[u8],
-) -> Result<Option<RegId>, AllocError>
-    ensures { IfOk result (λ n. n ≡ index_named (λ r. r.name) name.now registers.now) }
-{
-    match registers.index_of(name) {
-        Some(index) => match u32::try_from(index) {
-            Ok(number) => Ok(Some(RegId(number))),
-            Err(_) => Err(AllocError),
-        },
-        None => Ok(None),
     }
 }
 

@@ -4,22 +4,19 @@ ghost use Rattle.std.specs.Prelude.{◌≡◌, ◌≤◌, ◌∷◌, true, IfErr
 ghost use Rattle.sl_ast.specs.Views.{bit_range_of, definition_of, item_of, kind_of, member_of, names_of};
 ghost use Rattle.sl_rules.specs.Demands.{Gives};
 ghost use Rattle.sl_rules.specs.declared.fault.Fault.{Fault};
+ghost use Rattle.sl_registers.specs.RegisterRules.{bit_range_step, register_step};
+ghost use Rattle.sl_registers.specs.UserOps.{userop_step};
 ghost use Rattle.sl_definitions.specs.AttachRules.{attach_step};
 ghost use Rattle.sl_definitions.specs.Beginning.{alignment_step, is_alignment, with_endian};
 ghost use Rattle.sl_definitions.specs.Items.{all_names, defined, definition_step, taken};
-ghost use Rattle.sl_definitions.specs.RegisterRules.{bit_range_step, register_step};
-ghost use Rattle.sl_definitions.specs.UserOps.{userop_step};
 
 use crate::attached;
-use crate::bit_ranges::define_bit_ranges;
 use crate::context::define_context;
 use crate::known::{Known, begin, is_endian};
-use crate::registers::define_registers;
-use crate::spaces::define_space;
 use crate::tokens::{define_token, endian_of};
-use crate::userops::define_userops;
 use sl_ast::definitions::{AttachKind, BitRange, ByteOrder, Definition, Member, Names};
 use sl_ast::items::{Item, ItemKind};
+use sl_registers::{define_bit_ranges, define_registers, define_space, define_userops};
 use sl_rules::Fault;
 use sl_spec::Tables;
 use std::alloc::{AllocError, Global};

@@ -10,9 +10,8 @@ ghost use Rattle.sl_definitions.specs.AttachRules.{is_value, is_variable, regist
 ghost use Rattle.sl_definitions.specs.AttachRules.{register_named, text_entry, value_entry};
 ghost use Rattle.sl_definitions.specs.Words.{unquoted};
 
-use crate::context::register_number;
-use crate::registers::is_skipped;
 use sl_ast::definitions::{AttachKind, Member};
+use sl_registers::{is_skipped, register_number};
 use sl_spec::{Entries, Named, RegId, Register};
 use std::alloc::{AllocError, Global};
 

@@ -13,9 +13,9 @@ ghost use Rattle.sl_spec.specs.Named.{has_name};
 ghost use Rattle.sl_definitions.specs.Fits.{all_fit};
 
 use crate::attributes::{self, has_dec, has_noflow, has_signed};
-use crate::names::are_new;
 use sl_ast::definitions as tree;
 use sl_ast::definitions::ByteOrder;
+use sl_registers::are_new;
 use sl_rules::Fault;
 use sl_spec::{Field, Named, Tables, Token};
 use sl_word::Endian;

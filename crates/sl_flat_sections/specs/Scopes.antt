@@ -5,7 +5,7 @@ use Rattle.sl_ast.specs.Trees.{Definition, space, bit_ranges, pcode_ops, registe
 use Rattle.sl_ast.specs.Trees.{Item, define, constructor, macro}
 use Rattle.sl_ast.specs.Unfolding.{Placed, unfolded}
 use Rattle.sl_definitions.specs.Items.{all_names}
-use Rattle.sl_definitions.specs.RegisterRules.{is_skipped}
+use Rattle.sl_registers.specs.RegisterRules.{is_skipped}
 use Rattle.sl_resolve.specs.Macros.{Body}
 use Rattle.sl_resolve.specs.Steps.{macro_name}
 use Rattle.sl_resolve.specs.declared.reach.Reach.{Reach}

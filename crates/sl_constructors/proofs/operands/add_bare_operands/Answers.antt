@@ -1,7 +1,7 @@
 use Rattle.std.proofs.Common.{List, ℕ, map}
 use Rattle.std.specs.Borrow.{Bor}
 use Rattle.sl_rules.proofs.Seen.{below_map, read_map}
-use Rattle.sl_definitions.proofs.FreshLemmas.{made_goes}
+use Rattle.sl_registers.proofs.FreshLemmas.{made_goes}
 use Rattle.sl_constructors.specs.Operands.{bare_operand}
 use Rattle.sl_constructors.proofs.operands.add_bare_operands.Goals as goal
 

@@ -1,5 +1,5 @@
 use Rattle.std.specs.Prelude.{map}
-use Rattle.sl_definitions.proofs.FreshLemmas.{AreMade}
+use Rattle.sl_registers.proofs.FreshLemmas.{AreMade}
 use Rattle.sl_constructors.specs.Operands.{bare_operand}
 use Rattle.sl_constructors.proofs.operands.add_bare_operands.Given as goal
 

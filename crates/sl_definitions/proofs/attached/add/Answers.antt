@@ -4,9 +4,9 @@ use Rattle.sl_rules.proofs.Seen.{below_map, read_map}
 use Rattle.sl_spec.specs.Attachments.{is_attached}
 use Rattle.sl_spec.specs.Tables.{Attached}
 use Rattle.sl_spec.specs.Views.{entries_of}
+use Rattle.sl_registers.proofs.FreshLemmas.{made_goes, rest_at}
 use Rattle.sl_definitions.specs.AttachRules.{are_open, attachment}
 use Rattle.sl_definitions.proofs.AttachLemmas.{first_is_free, rest_is_left}
-use Rattle.sl_definitions.proofs.FreshLemmas.{made_goes, rest_at}
 use Rattle.sl_definitions.proofs.attached.add.Goals as goal
 
 abbrev seen : Bor (List ℕ) → List ℕ

@@ -1,7 +1,7 @@
 use Rattle.std.proofs.Common.{◌≡◌, true, drop, map}
 use Rattle.sl_spec.specs.Views.{entries_of}
+use Rattle.sl_registers.proofs.FreshLemmas.{AreMade}
 use Rattle.sl_definitions.specs.AttachRules.{are_open, attachment}
-use Rattle.sl_definitions.proofs.FreshLemmas.{AreMade}
 use Rattle.sl_definitions.proofs.attached.add.Given as goal
 
 abbrev pub invariant-names : goal.invariant-names

@@ -2,10 +2,10 @@ use Rattle.std.proofs.Common.{ℕ, List, map, sym, ap, ◌∙◌}
 use Rattle.std.specs.Borrow.{Bor}
 use Rattle.sl_ast.specs.Views.{field_of as seen}
 use Rattle.sl_rules.proofs.ListLemmas.{all_map}
+use Rattle.sl_registers.proofs.FreshLemmas.{are_free}
+use Rattle.sl_registers.specs.NewNames.{are_new}
 use Rattle.sl_definitions.specs.FieldRules.{field_names, is_in_order}
-use Rattle.sl_definitions.specs.NewNames.{are_new}
 use Rattle.sl_definitions.proofs.FieldLemmas.{context_fits}
-use Rattle.sl_definitions.proofs.FreshLemmas.{are_free}
 use Rattle.sl_definitions.proofs.context.define_context.Goals as goal
 
 abbrev bytes : Bor (List ℕ) → List ℕ

@@ -1,8 +1,8 @@
 use Rattle.std.proofs.Common.{option_map, sym, ap, ◌∙◌}
 use Rattle.std.specs.Prelude.{not, option_and_then}
 use Rattle.sl_ast.specs.Views.{member_of as seen}
+use Rattle.sl_registers.proofs.SpaceLemmas.{seen_found}
 use Rattle.sl_definitions.specs.AttachRules.{is_gap, register_named}
-use Rattle.sl_definitions.proofs.SpaceLemmas.{seen_found}
 use Rattle.sl_definitions.proofs.members.first_register.Goals as goal
 
 pub returns-in-Some : goal.returns-in-Some

@@ -1,8 +1,8 @@
 use Rattle.std.proofs.Common.{[], map}
 use Rattle.sl_ast.specs.Views.{member_of as seen}
 use Rattle.sl_rules.proofs.Seen.{below_map, read_map}
+use Rattle.sl_registers.proofs.FreshLemmas.{made_goes}
 use Rattle.sl_definitions.specs.AttachRules.{register_entry}
-use Rattle.sl_definitions.proofs.FreshLemmas.{made_goes}
 use Rattle.sl_definitions.proofs.members.register_entries.Goals as goal
 
 pub members-preserved : goal.members-preserved

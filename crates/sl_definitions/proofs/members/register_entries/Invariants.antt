@@ -1,7 +1,7 @@
 use Rattle.std.proofs.Common.{[], map}
 use Rattle.sl_ast.specs.Views.{member_of as seen}
+use Rattle.sl_registers.proofs.FreshLemmas.{AreMade}
 use Rattle.sl_definitions.specs.AttachRules.{register_entry}
-use Rattle.sl_definitions.proofs.FreshLemmas.{AreMade}
 use Rattle.sl_definitions.proofs.members.register_entries.Given as goal
 
 abbrev pub invariant-members : goal.invariant-members

@@ -3,8 +3,8 @@ use Rattle.std.specs.Borrow.{Bor}
 use Rattle.std.proofs.lemmas.List.{map_push}
 use Rattle.sl_ast.specs.Views.{member_of as seen}
 use Rattle.sl_rules.proofs.Seen.{below_map, read_map}
+use Rattle.sl_registers.proofs.FreshLemmas.{made_goes}
 use Rattle.sl_definitions.specs.AttachRules.{text_entry}
-use Rattle.sl_definitions.proofs.FreshLemmas.{made_goes}
 use Rattle.sl_definitions.proofs.members.text_entries.Goals as goal
 
 abbrev bytes : Option (Bor (List ℕ)) → Option (List ℕ)

@@ -2,9 +2,9 @@ use Rattle.std.proofs.Common.{◌+◌, drop, map, refl, ap}
 use Rattle.sl_ast.specs.Views.{field_of as seen}
 use Rattle.sl_rules.proofs.Seen.{below_map, seen_map}
 use Rattle.sl_spec.specs.Tables.{Field}
+use Rattle.sl_registers.proofs.FreshLemmas.{first_is_free, made_goes, rest_at, rest_is_left}
 use Rattle.sl_definitions.specs.FieldRules.{field_names, field_of}
 use Rattle.sl_definitions.proofs.FieldLemmas.{high_is_small, low_is_least}
-use Rattle.sl_definitions.proofs.FreshLemmas.{first_is_free, made_goes, rest_at, rest_is_left}
 use Rattle.sl_definitions.proofs.tokens.add.Goals as goal
 
 pub field_of-requires-clause-order : goal.field_of-requires-clause-order

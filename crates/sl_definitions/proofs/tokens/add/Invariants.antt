@@ -1,8 +1,8 @@
 use Rattle.std.proofs.Common.{◌≡◌, true, drop, map}
 use Rattle.sl_ast.specs.Views.{field_of as seen}
 use Rattle.sl_rules.specs.Names.{differ_behind}
+use Rattle.sl_registers.proofs.FreshLemmas.{AreMade}
 use Rattle.sl_definitions.specs.FieldRules.{field_names, field_of}
-use Rattle.sl_definitions.proofs.FreshLemmas.{AreMade}
 use Rattle.sl_definitions.proofs.tokens.add.Given as goal
 
 abbrev pub invariant-fields : goal.invariant-fields

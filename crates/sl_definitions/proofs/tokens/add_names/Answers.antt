@@ -4,7 +4,7 @@ use Rattle.std.proofs.lemmas.List.{map_push}
 use Rattle.sl_ast.specs.Trees.{Field}
 use Rattle.sl_ast.specs.Views.{field_of as seen}
 use Rattle.sl_rules.proofs.Seen.{below_map, read_map}
-use Rattle.sl_definitions.proofs.FreshLemmas.{made_goes}
+use Rattle.sl_registers.proofs.FreshLemmas.{made_goes}
 use Rattle.sl_definitions.proofs.tokens.add_names.Goals as goal
 
 abbrev bytes : Bor (List ℕ) → List ℕ

@@ -1,6 +1,6 @@
 use Rattle.std.proofs.Common.{map}
 use Rattle.sl_ast.specs.Views.{field_of as seen}
-use Rattle.sl_definitions.proofs.FreshLemmas.{AreMade}
+use Rattle.sl_registers.proofs.FreshLemmas.{AreMade}
 use Rattle.sl_definitions.proofs.tokens.add_names.Given as goal
 
 abbrev pub invariant-fields : goal.invariant-fields

@@ -1,0 +1,6 @@
+pub mod Bits
+pub mod Free
+pub mod NewNames
+pub mod RegisterRules
+pub mod SpaceRules
+pub mod UserOps
