@@ -5,7 +5,7 @@ use Rattle.sl_constructors.proofs.MadeLemmas.{none_made}
 use Rattle.sl_spec.specs.Numbers.{AreMade, AreMadeFor, AreNumbered, AreTold, AreToldOf, KeepsMade}
 use Rattle.sl_spec.specs.declared.unfolded.Unfolded.{Unfolded}
 
-told_at : (head_at : ℕ → Head) (us : List Unfolded) (i : ℕ) (u : Unfolded) → i < length us → u ≡ get_or us i u
+pub told_at : (head_at : ℕ → Head) (us : List Unfolded) (i : ℕ) (u : Unfolded) → i < length us → u ≡ get_or us i u
     → AreToldOf head_at us → AreTold head_at u.heads.items
 told_at head_at [] i u below at told = absurd (omega arith)
 told_at head_at (v ∷ vs) zero u below at told = subst (λ (x : Unfolded). AreTold head_at x.heads.items) (sym at) told.0

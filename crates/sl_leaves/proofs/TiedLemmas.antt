@@ -76,7 +76,7 @@ module _ (t : Tables) (name : Name) (id : ℕ) (is : index_named (λ f. f.name) 
       (ap (λ n. index_named (λ f. f.name) n t.fields) (sym ((bytes_eq-Decides name o.name).0 same)) ∙ is) plain
   kind_first false o more other plain rest = rest
 
-  kind_plain : (os : List Operand) → ArePlain t os → kind_of t os name ≡ k.Field id
+  pub kind_plain : (os : List Operand) → ArePlain t os → kind_of t os name ≡ k.Field id
   kind_plain [] plain = ap (λ i. kind_by None i name) is
   kind_plain (o ∷ os) plain =
       let both = and_parts (is_plain t o) (list_all (is_plain t) os) plain in

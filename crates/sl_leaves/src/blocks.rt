@@ -66,7 +66,7 @@ fn is_plain(t: &Tables, operand: &Operand) -> bool
 }
 
 /// Whether each operand that is named like a field means that field.
-fn are_plain(t: &Tables, operands: &[Operand]) -> bool
+pub fn are_plain(t: &Tables, operands: &[Operand]) -> bool
     ensures { result ≡ list_all (is_plain t.now) operands.now }
 {
     operands.iter().all(|operand| is_plain(t, operand))

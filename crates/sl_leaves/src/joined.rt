@@ -33,7 +33,7 @@ impl<'a> Model for JoinedLeaves<'a> {
 }
 
 /// The place of a name's first occurrence in these patterns.
-fn first_in<'l>(patterns: &'l [Rc<PatternLeaves>], name: &[u8]) -> Option<&'l Extent>
+pub fn first_in<'l>(patterns: &'l [Rc<PatternLeaves>], name: &[u8]) -> Option<&'l Extent>
     ensures { (lengths : List ℕ) → option_map (λ e. extent e.now lengths) result
         ≡ first_place name.now (leaves_at lengths (all_leaves patterns.now)) }
 {
@@ -74,6 +74,13 @@ impl<'a> JoinedLeaves<'a> {
     {
         self.patterns.push(its)?;
         Ok(())
+    }
+
+    /// The patterns, one behind the other.
+    pub fn patterns(&self) -> &[Rc<PatternLeaves<'a>>]
+        ensures { all_leaves result.now ≡ self.now }
+    {
+        self.patterns.as_slice()
     }
 }
 

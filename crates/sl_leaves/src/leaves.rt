@@ -1,11 +1,11 @@
 //! The names of a pattern with their places.
 
-ghost use Rattle.std.specs.Prelude.{◌≡◌, ◌++◌, ◌∷◌, ℕ, List, option_map, IfOk, OnOk};
+ghost use Rattle.std.specs.Prelude.{◌≡◌, ◌++◌, ◌∷◌, ℕ, List, option_map, IfOk, IsTrue, OnOk};
 ghost use Rattle.sl_decoding.specs.Places.{Leaf as LeafAt, bare_place, first_place};
 ghost use Rattle.sl_leaves.specs.Extents.{extent, leaf_at, leaves_at};
 ghost use Rattle.sl_spec.specs.Tables.{Name};
 
-use crate::extents::{Extent, again};
+use crate::extents::{Extent, again, is_same};
 use sl_spec::{Entry, Named};
 use std::alloc::{AllocError, Global};
 
@@ -113,4 +113,27 @@ pub(crate) fn alone_in<'a>(alloc: Global, leaves: &[Leaf<'a>]) -> Result<Vec<Lea
         add_alone(&leaves[index], &mut all)?;
     }
     Ok(all)
+}
+
+/// Whether both are the same name, alone or not, and their places have the same parts.
+fn is_same_leaf(a: &Leaf, b: &Leaf) -> bool
+    ensures { IsTrue result → (lengths : List ℕ) → leaf_at lengths a.now ≡ leaf_at lengths b.now }
+{
+    a.name == b.name && a.alone == b.alone && is_same(&a.place, &b.place)
+}
+
+/// Whether these are the same names at the same places, one by one.
+pub(crate) fn are_same_leaves(some: &[Leaf], others: &[Leaf]) -> bool
+    ensures { IsTrue result → (lengths : List ℕ)
+        → leaves_at lengths some.now ≡ leaves_at lengths others.now }
+{
+    if some.len() != others.len() {
+        return false;
+    }
+    'leaves: for index in 0..some.len() {
+        if !is_same_leaf(&some[index], &others[index]) {
+            return false;
+        }
+    }
+    true
 }

@@ -1,12 +1,12 @@
 //! What is made of one pattern.
 
-ghost use Rattle.std.specs.Prelude.{◌≡◌, ℕ, List, option_map};
+ghost use Rattle.std.specs.Prelude.{◌≡◌, ℕ, List, IsTrue, option_map};
 ghost use Rattle.sl_decoding.specs.Places.{bare_place, first_place};
 ghost use Rattle.sl_leaves.specs.Extents.{extent, leaves_at};
 ghost use Rattle.sl_spec.specs.Tables.{Name};
 
 use crate::extents::Extent;
-use crate::leaves::{Leaf, alone_of, first_of};
+use crate::leaves::{Leaf, alone_of, are_same_leaves, first_of};
 use crate::looks::Look;
 use sl_spec::Named;
 
@@ -43,5 +43,14 @@ impl PatternLeaves<'_> {
             ≡ bare_place name.now (leaves_at lengths self.now.leaves.items) }
     {
         alone_of(self.alone.as_slice(), name)
+    }
+
+    /// Whether both have the same names at the same places. It says of places of many parts that they
+    /// aren't the same.
+    pub fn has_same_places(&self, other: &PatternLeaves) -> bool
+        ensures { IsTrue result → (lengths : List ℕ) → leaves_at lengths self.now.leaves.items
+            ≡ leaves_at lengths other.now.leaves.items }
+    {
+        are_same_leaves(self.leaves.as_slice(), other.leaves.as_slice())
     }
 }

@@ -1,10 +1,10 @@
 -- Steps of actions, block by block.
-use Rattle.std.proofs.Common.{◌≡◌, ◌==◌, ℕ, ◌+◌, ◌<◌, ◌≤◌, true, List, [], ◌∷◌, ◌++◌, length, get_or, drop, map, Option, None, Some, Result, Ok, Err, refl, sym, ap, subst, ◌∙◌, arith}
+use Rattle.std.proofs.Common.{◌≡◌, ◌==◌, ℕ, ◌+◌, ◌<◌, ◌≤◌, true, List, [], ◌∷◌, ◌++◌, length, get_or, drop, map, Option, None, Some, Result, Ok, Err, refl, sym, ap, ◌∙◌, arith}
 use Rattle.std.proofs.lemmas.Bool.Decides.{Decides-eqb}
 use Rattle.std.proofs.lemmas.List.{drop_more}
 use Rattle.std.proofs.Math.ListN.{drop_of_length-le}
 use Rattle.std.specs.List.{AllByRecursion}
-use Rattle.sl_ast.specs.Trees.{Action, Constructor, Head}
+use Rattle.sl_ast.specs.Trees.{Action, Constructor}
 use Rattle.sl_ast.specs.Unfolding.{before, written}
 use Rattle.sl_ast.specs.Views.{action_of, actions_of, head_of}
 use Rattle.sl_ast.specs.declared.patterns.Action as tree
@@ -13,17 +13,14 @@ use Rattle.sl_decoding.specs.Outcomes.{◌>>=◌, in_turn}
 use Rattle.sl_decoding.specs.Values.{Site}
 use Rattle.sl_decoding.specs.declared.faults.Fault.{Fault}
 use Rattle.sl_leaves.specs.Extents.{leaves_at}
-use Rattle.sl_plan.specs.Rights.{AddsSteps, AreAllSteps, AreSteps, AreStepsOfHead, AreTaken, IsCopy}
+use Rattle.sl_plan.specs.Rights.{AddsSteps, AreAllSteps, AreSteps, IsCopy}
 use Rattle.sl_plan.specs.Steps.{early_step, late_step}
-use Rattle.sl_plan.specs.Uses.{AreUses, IsSameAction}
+use Rattle.sl_plan.specs.Uses.{IsSameAction}
 use Rattle.sl_plan.specs.declared.block_steps.ActionSteps.{ActionSteps}
-use Rattle.sl_plan.specs.declared.block_steps.BlockSteps.{BlockSteps}
-use Rattle.sl_plan.specs.declared.block_steps.SharedSteps.{SharedSteps}
+use Rattle.sl_plan.specs.declared.shared.SharedSteps.{SharedSteps}
 use Rattle.sl_leaves.specs.declared.leaves.Leaf as l
 use Rattle.sl_leaves.proofs.RunLemmas.{bind_alike}
 use Rattle.sl_leaves.proofs.WholeLemmas.{bind_again, turn_append}
-use Rattle.sl_spec.proofs.MadeLemmas.{found_right}
-use Rattle.sl_spec.specs.Numbers.{AreMadeFor, made_of}
 use Rattle.sl_spec.specs.Tables.{Operand}
 use Rattle.sl_spec.specs.Unfolded.{heads_of, under}
 use Rattle.sl_spec.specs.declared.tables.Tables.{Tables}
@@ -43,7 +40,7 @@ all_as P Q as' [] all = tt
 all_as P Q as' (x ∷ xs) all = (as' x all.0, all_as P Q as' xs all.1)
 
 module _ (t : Tables) (os : List Operand) (ls : List l.Leaf) where
-  right_for : (those : List Operand) (ms : List l.Leaf) (as' : List tree.Action) (x : SharedSteps) → AreSteps t os ls (actions_of as') x
+  pub right_for : (those : List Operand) (ms : List l.Leaf) (as' : List tree.Action) (x : SharedSteps) → AreSteps t os ls (actions_of as') x
       → AllByRecursion (λ a. IsSameAction t os ls (action_of a) those ms) as' → AreSteps t those ms (actions_of as') x
   right_for those ms as' x are same = record {
     early = λ s c. are.early s c ∙ turn_same (act t os (leaves_at s.lengths ls) s) (act t those (leaves_at s.lengths ms) s) action_of as'
@@ -66,24 +63,9 @@ nothing_more : {A X : Type 0} (step : A → X → Result X Fault) (r : Result X 
 nothing_more step (Ok x) = refl
 nothing_more step (Err fault) = refl
 
--- ---- as they are kept and taken
+-- ---- one behind the other
 
 module _ (t : Tables) (os : List Operand) (ls : List l.Leaf) where
-  pub kept_right : (h : Head) (as' : List tree.Action) (x : SharedSteps) (b : BlockSteps) → actions_of as' ≡ written h.actions
-      → AreSteps t os ls (actions_of as') x → AreUses t os ls b.used as' → IsCopy b.steps x → AreStepsOfHead t h b
-  kept_right h as' x b is are uses copy = λ those ms stand.
-      copy_right t those ms (written h.actions) x b.steps copy
-      (subst (λ (bs : List Action). AreSteps t those ms bs x) is (right_for t os ls those ms as' x are (uses those ms stand)))
-
-  pub taken_right : (o : Option BlockSteps) (a : Around) (made : List (ℕ × BlockSteps)) (x : SharedSteps) → o ≡ made_of made a.number
-      → AreMadeFor (AreStepsOfHead t) (a ∷ []) made → AreTaken t os ls o x → AreSteps t os ls (written (head_of a.head.now).actions) x
-  taken_right None a made x is may taken = absurd taken
-  taken_right (Some b) a made x is may taken =
-      let right = found_right (AreStepsOfHead t) may.0 a may.1.0 made b may.2 (sym is) in
-      copy_right t os ls (written (head_of a.head.now).actions) b.steps x taken.1 (right os ls taken.0)
-
-  -- ---- one behind the other
-
   pub adds_none : (as' : List Action) (all : ActionSteps) → as' ≡ [] → AddsSteps t os ls as' all all
   adds_none as' all none = record {
     early = λ s c.

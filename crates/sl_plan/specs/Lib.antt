@@ -1,3 +1,5 @@
+pub mod Fronts
+pub mod Open
 pub mod Plans
 pub mod Rights
 pub mod Rows

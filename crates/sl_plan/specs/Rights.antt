@@ -1,16 +1,13 @@
--- meaning: the steps of actions, and for which constructors those of a block are right.
-use Rattle.std.specs.Prelude.{◌≡◌, List, Option, None, Some}
-use Rattle.sl_ast.specs.Trees.{Action, Head}
-use Rattle.sl_ast.specs.Unfolding.{written}
+-- meaning: the steps of actions.
+use Rattle.std.specs.Prelude.{◌≡◌, List}
+use Rattle.sl_ast.specs.Trees.{Action}
 use Rattle.sl_decoding.specs.Actions.{Changed, Own, act, tell}
 use Rattle.sl_decoding.specs.Outcomes.{◌>>=◌, in_turn}
 use Rattle.sl_decoding.specs.Values.{Site}
 use Rattle.sl_leaves.specs.Extents.{leaves_at}
 use Rattle.sl_plan.specs.Steps.{early_step, late_step}
-use Rattle.sl_plan.specs.Uses.{ReadAsBefore}
 use Rattle.sl_plan.specs.declared.block_steps.ActionSteps.{ActionSteps}
-use Rattle.sl_plan.specs.declared.block_steps.BlockSteps.{BlockSteps}
-use Rattle.sl_plan.specs.declared.block_steps.SharedSteps.{SharedSteps}
+use Rattle.sl_plan.specs.declared.shared.SharedSteps.{SharedSteps}
 use Rattle.sl_leaves.specs.declared.leaves.Leaf as l
 use Rattle.sl_spec.specs.Tables.{Operand}
 use Rattle.sl_spec.specs.declared.tables.Tables.{Tables}
@@ -39,17 +36,7 @@ pub record AddsSteps (t : Tables) (os : List Operand) (ls : List l.Leaf) (as' : 
   pub late : (s : Site) (c : Own) → in_turn (late_step t s) new.late c
       ≡ (in_turn (late_step t s) old.late c >>= in_turn (tell t os (leaves_at s.lengths ls) s) as')
 
--- What was made of a block's actions is right wherever the names that they use are as before.
-abbrev pub AreStepsOfHead : Tables → Head → BlockSteps → Type 0
-AreStepsOfHead t h x = (os : List Operand) (ls : List l.Leaf) → ReadAsBefore t os ls x.used
-    → AreSteps t os ls (written h.actions) x.steps
-
 -- The same steps, which are shared.
 pub record IsCopy (x y : SharedSteps) : Type 0 where
   pub early : x.early.value ≡ y.early.value
   pub late : x.late.value ≡ y.late.value
-
--- They are what was made of a block, whose names are all as before.
-abbrev pub AreTaken : Tables → List Operand → List l.Leaf → Option BlockSteps → SharedSteps → Type 0
-AreTaken t os ls None x = ⊥
-AreTaken t os ls (Some b) x = ReadAsBefore t os ls b.used × IsCopy x b.steps

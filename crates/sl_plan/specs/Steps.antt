@@ -1,18 +1,15 @@
 -- view: the steps of a plan.
-use Rattle.std.specs.Prelude.{◌+◌, ◌++◌, ◌∷◌, [], List, Option, None, Some, Result, Ok}
+use Rattle.std.specs.Prelude.{◌++◌, ◌∷◌, [], Result, Ok}
 use Rattle.sl_decoding.specs.Actions.{Changed, changed, Own, own, at_context, at_values, commit_of}
 use Rattle.sl_decoding.specs.Actions.{note_of, with_bits}
-use Rattle.sl_decoding.specs.Lookups.{shown}
 use Rattle.sl_decoding.specs.Outcomes.{◌>>=◌}
 use Rattle.sl_decoding.specs.Values.{Site}
 use Rattle.sl_decoding.specs.declared.faults.Fault.{Fault}
-use Rattle.sl_leaves.specs.Extents.{extent}
 use Rattle.sl_plan.specs.Values.{value_in}
 use Rattle.sl_plan.specs.declared.early.Early.{Early}
 use Rattle.sl_plan.specs.declared.early.Early.TheVariants.{Set, Note}
 use Rattle.sl_plan.specs.declared.late.Late.{Late}
 use Rattle.sl_plan.specs.declared.late.Late.TheVariants as l
-use Rattle.sl_leaves.specs.declared.looks.Look.{Look}
 use Rattle.sl_spec.specs.declared.tables.Tables.{Tables}
 
 abbrev pub early_step : Tables → Site → Early → Changed → Result Changed Fault

@@ -1,38 +1,22 @@
-//! What is made of the actions of blocks, once for all constructors inside.
+//! The steps of all actions of a constructor.
 
-ghost use Rattle.std.specs.Prelude.{◌≡◌, ◌++◌, ◌∷◌, [], List, IsTrue, IfOk, IfSome, OnOk};
-ghost use Rattle.std.specs.Prelude.{option_copied};
+ghost use Rattle.std.specs.Prelude.{◌≡◌, ◌≤◌, ◌++◌, [], IfOk, IfSome, OnOk, length, option_copied};
+ghost use Rattle.std.specs.Prelude.{slice_get};
 ghost use Rattle.sl_ast.specs.Unfolding.{written};
-ghost use Rattle.sl_ast.specs.Views.{actions_of, constructor_of, head_of};
-ghost use Rattle.sl_plan.specs.Rights.{AddsSteps, AreAllSteps, AreSteps, AreStepsOfHead, AreTaken};
-ghost use Rattle.sl_plan.specs.Rights.{IsCopy};
-ghost use Rattle.sl_spec.specs.Numbers.{AreMadeFor, KeepsMade};
+ghost use Rattle.sl_ast.specs.Views.{constructor_of, head_of};
+ghost use Rattle.sl_plan.specs.Open.{AreRightFor, AreStepsOf, StayRight};
+ghost use Rattle.sl_plan.specs.Rights.{AddsSteps, AreAllSteps, AreSteps};
 ghost use Rattle.sl_spec.specs.Unfolded.{placed};
 
-use crate::early::{Early, early_steps};
-use crate::late::{Late, late_steps};
+use crate::early::Early;
+use crate::late::Late;
+use crate::open_blocks::{OpenBlock, OpenBlocks};
 use crate::rows::Steps;
-use crate::uses::{Used, read_as_before, uses_in};
-use sl_ast::constructors::{Constructor, Head};
-use sl_ast::patterns::Action;
-use sl_leaves::JoinedLeaves;
-use sl_spec::{Around, ByBlock, Named, Operand, Tables, Unfolded};
+use crate::shared::{SharedSteps, actions_in, copy, fresh};
+use sl_ast::constructors::Constructor;
+use sl_leaves::{JoinedLeaves, are_plain};
+use sl_spec::{Around, Operand, Tables, Unfolded};
 use std::alloc::{AllocError, Global};
-use std::rc::Rc;
-
-/// The steps of actions, which constructors can share.
-#[derive(Drop)]
-pub struct SharedSteps {
-    pub(crate) early: Rc<Vec<Early>>,
-    pub(crate) late: Rc<Vec<Late>>,
-}
-
-/// What was made of a block's actions for a constructor inside, and the names that they use.
-#[derive(Drop)]
-pub struct BlockSteps<'a> {
-    pub(crate) steps: SharedSteps,
-    pub(crate) used: Named<'a, Used<'a>>,
-}
 
 /// The steps of all actions of a constructor.
 #[derive(Drop)]
@@ -40,136 +24,6 @@ pub struct ActionSteps {
     pub(crate) early: Steps<Early>,
     pub(crate) late: Steps<Late>,
 }
-
-// ---- the actions of a block
-
-/// The actions of a block.
-fn actions_in<'s, 'a>(head: &'s Head<'a>) -> &'s [Action<'a>]
-    ensures { actions_of result.now ≡ written (head_of head.now).actions }
-{
-    match &head.actions {
-        Some(actions) => actions.as_slice(),
-        None => &[],
-    }
-}
-
-/// The steps of actions, made anew.
-fn fresh(
-    alloc: Global,
-    t: &Tables,
-    operands: &[Operand],
-    leaves: &JoinedLeaves,
-    actions: &[Action],
-) -> Result<SharedSteps, AllocError>
-    ensures { IfOk result (AreSteps t.now operands.now leaves.now (actions_of actions.now)) }
-{
-    let early = early_steps(alloc, t, operands, leaves, actions)?;
-    let late = late_steps(alloc, t, operands, leaves, actions)?;
-    let early = Rc::new(alloc, early)?;
-    Ok(SharedSteps {
-        early,
-        late: Rc::new(alloc, late)?,
-    })
-}
-
-/// The same steps.
-fn copy(steps: &SharedSteps) -> Result<SharedSteps, AllocError>
-    ensures { IfOk result (λ x. IsCopy x steps.now) }
-{
-    let early = steps.early.clone()?;
-    Ok(SharedSteps {
-        early,
-        late: steps.late.clone()?,
-    })
-}
-
-/// What was made of a block's actions, if it may be taken for these operands and this pattern.
-fn taken(
-    t: &Tables,
-    operands: &[Operand],
-    leaves: &JoinedLeaves,
-    made: Option<&BlockSteps>,
-) -> Result<Option<SharedSteps>, AllocError>
-    ensures { IfOk result (λ o. IfSome o
-        (AreTaken t.now operands.now leaves.now (option_copied made.entry))) }
-{
-    let Some(block) = made else {
-        return Ok(None);
-    };
-    if !read_as_before(t, operands, leaves, &block.used)? {
-        return Ok(None);
-    }
-    let steps = copy(&block.steps)?;
-    Ok(Some(steps))
-}
-
-/// Makes and keeps what is made of a block's actions.
-fn make_steps<'s, 'a>(
-    alloc: Global,
-    t: &Tables,
-    operands: &[Operand],
-    leaves: &JoinedLeaves,
-    around: Around<'s, 'a>,
-    made: &mut ByBlock<BlockSteps<'a>>,
-) -> Result<SharedSteps, AllocError>
-    ensures steps { IfOk result (AreSteps t.now operands.now leaves.now
-        (written (head_of around.entry.head.now).actions)) }
-    ensures kept { IfOk result (λ _.
-        KeepsMade (AreStepsOfHead t.now) (around.entry ∷ []) made.old made.new) }
-{
-    let actions = actions_in(around.head);
-    let steps = fresh(alloc, t, operands, leaves, actions)?;
-    let used = uses_in(alloc, t, operands, leaves, actions)?;
-    let kept = copy(&steps)?;
-    made.put(around.number, BlockSteps { steps: kept, used })?;
-    Ok(steps)
-}
-
-/// What is made of a block's actions: that which was, if it may be taken.
-fn take_steps<'s, 'a>(
-    alloc: Global,
-    t: &Tables,
-    operands: &[Operand],
-    leaves: &JoinedLeaves,
-    around: Around<'s, 'a>,
-    made: &mut ByBlock<BlockSteps<'a>>,
-) -> Result<SharedSteps, AllocError>
-    requires { AreMadeFor (AreStepsOfHead t.now) (around ∷ []) made.old }
-    ensures steps { IfOk result (AreSteps t.now operands.now leaves.now
-        (written (head_of around.entry.head.now).actions)) }
-    ensures kept { IfOk result (λ _.
-        KeepsMade (AreStepsOfHead t.now) (around.entry ∷ []) made.old made.new) }
-{
-    match taken(t, operands, leaves, made.get(around.number))? {
-        Some(steps) => Ok(steps),
-        None => make_steps(alloc, t, operands, leaves, around, made),
-    }
-}
-
-/// What is made of a block's actions, which is taken or kept only where that may be.
-fn steps_of_block<'s, 'a>(
-    alloc: Global,
-    t: &Tables,
-    operands: &[Operand],
-    leaves: &JoinedLeaves,
-    around: Around<'s, 'a>,
-    may_take: bool,
-    made: &mut ByBlock<BlockSteps<'a>>,
-) -> Result<SharedSteps, AllocError>
-    requires { IsTrue may_take → AreMadeFor (AreStepsOfHead t.now) (around ∷ []) made.old }
-    ensures steps { IfOk result (AreSteps t.now operands.now leaves.now
-        (written (head_of around.entry.head.now).actions)) }
-    ensures kept { IfOk result (λ _.
-        KeepsMade (AreStepsOfHead t.now) (around.entry ∷ []) made.old made.new) }
-{
-    if may_take {
-        take_steps(alloc, t, operands, leaves, around, made)
-    } else {
-        fresh(alloc, t, operands, leaves, actions_in(around.head))
-    }
-}
-
-// ---- all actions
 
 impl ActionSteps {
     /// Those of no actions.
@@ -194,27 +48,55 @@ impl ActionSteps {
     }
 }
 
-/// Adds the steps of a block's actions, if it has any.
-fn add_block<'s, 'a>(
+/// The steps of a block's actions: those that were made, if they were.
+fn steps_in(
     alloc: Global,
     t: &Tables,
     operands: &[Operand],
     leaves: &JoinedLeaves,
-    around: Around<'s, 'a>,
-    may_take: bool,
-    made: &mut ByBlock<BlockSteps<'a>>,
+    around: Around,
+    made: Option<&OpenBlock>,
+) -> Result<SharedSteps, AllocError>
+    requires { IfSome (option_copied made) (λ x. AreSteps t.now operands.now leaves.now
+        (written (head_of around.head.now).actions) x.steps) }
+    ensures { IfOk result (AreSteps t.now operands.now leaves.now
+        (written (head_of around.entry.head.now).actions)) }
+{
+    match made {
+        Some(block) => {
+            let steps = copy(&block.steps)?;
+            Ok(steps)
+        }
+        None => fresh(alloc, t, operands, leaves, actions_in(around.head)),
+    }
+}
+
+/// The block at an index.
+fn block_at<'m, 'a>(made: &'m [OpenBlock<'a>], index: usize) -> Option<&'m OpenBlock<'a>>
+    ensures { option_copied result ≡ slice_get made.now index }
+{
+    made.get(index)
+}
+
+/// Adds the steps of a block's actions, if it has any.
+fn add_block(
+    alloc: Global,
+    t: &Tables,
+    operands: &[Operand],
+    leaves: &JoinedLeaves,
+    around: Around,
+    made: Option<&OpenBlock>,
     all: &mut ActionSteps,
 ) -> Result<(), AllocError>
-    requires { IsTrue may_take → AreMadeFor (AreStepsOfHead t.now) (around ∷ []) made.old }
-    ensures added { OnOk result (AddsSteps t.now operands.now leaves.now
+    requires { IfSome (option_copied made) (λ x. AreSteps t.now operands.now leaves.now
+        (written (head_of around.head.now).actions) x.steps) }
+    ensures { OnOk result (AddsSteps t.now operands.now leaves.now
         (written (head_of around.entry.head.now).actions) all.old all.new) }
-    ensures kept { OnOk result
-        (KeepsMade (AreStepsOfHead t.now) (around.entry ∷ []) made.old made.new) }
 {
     if actions_in(around.head).is_empty() {
         return Ok(());
     }
-    let steps = steps_of_block(alloc, t, operands, leaves, around, may_take, made)?;
+    let steps = steps_in(alloc, t, operands, leaves, around, made)?;
     all.add(steps)?;
     Ok(())
 }
@@ -240,21 +122,18 @@ fn add_own(
 }
 
 /// The steps of the actions of a constructor with these operands and this pattern, those of the
-/// blocks round it before its own.
-fn steps_of<'s, 'a>(
+/// blocks round it before its own. Those of the outermost blocks are made.
+fn steps_of(
     alloc: Global,
     t: &Tables,
     operands: &[Operand],
     leaves: &JoinedLeaves,
-    of: &Unfolded<'s, 'a>,
-    may_take: bool,
-    made: &mut ByBlock<BlockSteps<'a>>,
+    of: &Unfolded,
+    made: &[OpenBlock],
 ) -> Result<ActionSteps, AllocError>
-    requires { IsTrue may_take → AreMadeFor (AreStepsOfHead t.now) of.now.heads.items made.old }
-    ensures steps { IfOk result (AreAllSteps t.now operands.now leaves.now
+    requires { AreStepsOf t.now operands.now leaves.now made.now of.now.heads.items }
+    ensures { IfOk result (AreAllSteps t.now operands.now leaves.now
         (written (placed of.now).1.actions)) }
-    ensures kept { IfOk result (λ _.
-        KeepsMade (AreStepsOfHead t.now) of.now.heads.items made.old made.new) }
 {
     let heads = of.heads.as_slice();
     let mut all = ActionSteps::new(alloc);
@@ -265,8 +144,7 @@ fn steps_of<'s, 'a>(
             operands,
             leaves,
             heads[index],
-            may_take,
-            made,
+            block_at(made, index),
             &mut all,
         )?;
     }
@@ -285,25 +163,45 @@ pub(crate) fn steps_anew(
     ensures { IfOk result (AreAllSteps t.now operands.now leaves.now
         (written (placed of.now).1.actions)) }
 {
-    let mut none = ByBlock::new(alloc);
-    let steps = steps_of(alloc, t, operands, leaves, of, false, &mut none)?;
-    Ok(steps)
+    steps_of(alloc, t, operands, leaves, of, &[])
 }
 
-/// The same, where what was made of blocks is taken as far as it is right for this constructor.
-pub(crate) fn steps_among<'s, 'a>(
+/// How many blocks there are up to the innermost one that has actions.
+fn acting(heads: &[Around]) -> usize
+    ensures { result ≤ length heads.now }
+{
+    let mut count = 0;
+    'heads: for index in 0..heads.len() {
+        if !actions_in(heads[index].head).is_empty() {
+            count = index + 1;
+        }
+    }
+    count
+}
+
+/// The same, where the steps of blocks are taken as far as they are right for this constructor.
+pub(crate) fn steps_among<'a>(
     alloc: Global,
     t: &Tables,
     operands: &[Operand],
-    leaves: &JoinedLeaves,
-    of: &Unfolded<'s, 'a>,
-    made: &mut ByBlock<BlockSteps<'a>>,
+    leaves: &JoinedLeaves<'a>,
+    of: &Unfolded<'_, 'a>,
+    around: &mut OpenBlocks<'a>,
 ) -> Result<ActionSteps, AllocError>
-    requires { AreMadeFor (AreStepsOfHead t.now) of.now.heads.items made.old }
+    requires { AreRightFor t.now of.now.heads.items around.old }
     ensures steps { IfOk result (AreAllSteps t.now operands.now leaves.now
         (written (placed of.now).1.actions)) }
     ensures kept { IfOk result (λ _.
-        KeepsMade (AreStepsOfHead t.now) of.now.heads.items made.old made.new) }
+        StayRight t.now of.now.heads.items around.old around.new) }
 {
-    steps_of(alloc, t, operands, leaves, of, true, made)
+    let heads = of.heads.as_slice();
+    let patterns = leaves.patterns();
+    let count = acting(heads);
+    if count > patterns.len() || !are_plain(t, operands) {
+        let steps = steps_anew(alloc, t, operands, leaves, of)?;
+        return Ok(steps);
+    }
+    around.enter(alloc, t, operands, leaves, patterns, &heads[..count])?;
+    let steps = steps_of(alloc, t, operands, leaves, of, around.open_blocks())?;
+    Ok(steps)
 }

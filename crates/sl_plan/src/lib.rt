@@ -5,8 +5,11 @@ mod block_steps;
 mod early;
 mod expressions;
 mod late;
+mod open_blocks;
 mod plans;
 mod rows;
+mod settled;
+mod shared;
 mod uses;
 mod values;
 

@@ -7,16 +7,18 @@ ghost use Rattle.sl_decoding.specs.Places.{bare_place, or_start, table_operands}
 ghost use Rattle.sl_leaves.specs.Blocks.{AreLeavesOfHead};
 ghost use Rattle.sl_leaves.specs.Extents.{extent, leaves_at};
 ghost use Rattle.sl_plan.specs.Plans.{DoesAll, done, done_by, done_slot, slot_by};
-ghost use Rattle.sl_plan.specs.Rights.{AreStepsOfHead};
+ghost use Rattle.sl_plan.specs.Open.{AreRightFor, StayRight};
 ghost use Rattle.sl_spec.specs.Numbers.{AreMadeFor, AreNumbered, KeepsMade};
 ghost use Rattle.sl_spec.specs.Unfolded.{all_placed, placed};
 
-use crate::block_steps::{ActionSteps, BlockSteps, steps_among, steps_anew};
+use crate::block_steps::{ActionSteps, steps_among, steps_anew};
 use crate::early::Early;
 use crate::late::Late;
+use crate::open_blocks::OpenBlocks;
 use crate::rows::Steps;
-use sl_leaves::{BlockLeaves, Extent, JoinedLeaves, Look, Whole};
-use sl_leaves::{bare, means_table, whole_among, whole_anew};
+use sl_leaves::{
+    BlockLeaves, Extent, JoinedLeaves, Look, Whole, bare, means_table, whole_among, whole_anew,
+};
 use sl_spec::{ByBlock, Ctor, Means, Operand, TableId, Tables, Unfolded};
 use std::alloc::{AllocError, Global};
 
@@ -152,19 +154,19 @@ fn plan_among<'s, 'a>(
     operands: &[Operand],
     of: &Unfolded<'s, 'a>,
     made: &mut ByBlock<BlockLeaves<'a>>,
-    steps: &mut ByBlock<BlockSteps<'a>>,
+    around: &mut OpenBlocks<'a>,
 ) -> Result<Plan, AllocError>
     requires leaves { AreMadeFor (AreLeavesOfHead t.now) of.now.heads.items made.old }
-    requires steps { AreMadeFor (AreStepsOfHead t.now) of.now.heads.items steps.old }
+    requires around { AreRightFor t.now of.now.heads.items around.old }
     ensures plan { IfOk result (λ r. done t.now r ≡ said t.now operands.now
         (placed of.now).1.pattern (written (placed of.now).1.actions)) }
     ensures leaves { IfOk result (λ _.
         KeepsMade (AreLeavesOfHead t.now) of.now.heads.items made.old made.new) }
-    ensures steps { IfOk result (λ _.
-        KeepsMade (AreStepsOfHead t.now) of.now.heads.items steps.old steps.new) }
+    ensures around { IfOk result (λ _.
+        StayRight t.now of.now.heads.items around.old around.new) }
 {
     let whole = whole_among(alloc, t, operands, of, made)?;
-    let actions = steps_among(alloc, t, operands, &whole.leaves, of, steps)?;
+    let actions = steps_among(alloc, t, operands, &whole.leaves, of, around)?;
     let plan = plan_of(alloc, operands, whole, actions)?;
     Ok(plan)
 }
@@ -181,7 +183,7 @@ pub fn make_plans(
         ≡ says t.now (all_placed constructors.now) number) }
 {
     let mut made = ByBlock::new(alloc);
-    let mut steps = ByBlock::new(alloc);
+    let mut around = OpenBlocks::new(alloc);
     let mut all = Vec::new(alloc);
     'constructors: for index in 0..constructors.len() {
         let Some(ctor) = t.constructors.get(index) else {
@@ -194,7 +196,7 @@ pub fn make_plans(
             operands,
             &constructors[index],
             &mut made,
-            &mut steps,
+            &mut around,
         )?;
         all.push(plan)?;
     }

@@ -16,7 +16,7 @@ use sl_ast::patterns::{Action, Address};
 use sl_decoding::Kind;
 use sl_fields::kind_of;
 use sl_leaves::{Extent, JoinedLeaves, is_same, place_of};
-use sl_spec::{Entry, FieldId, Named, Operand, Tables};
+use sl_spec::{Entry, Named, Operand, Tables};
 use std::alloc::{AllocError, Global};
 
 /// A name that actions use: what it stands for, and if that is a field of a token, the place at
@@ -32,12 +32,12 @@ impl<'a> Entry for Used<'a> {
     ghost name_of = { λ x. x.name.now };
 }
 
-/// Whether a field is one of a token. What any other gives hangs on no place.
-fn is_in_token(t: &Tables, id: FieldId) -> bool
+/// Whether the field of this index is one of a token. What any other gives hangs on no place.
+pub(crate) fn is_in_token(t: &Tables, index: usize) -> bool
     ensures { result ≡ false → (bytes : List ℕ) (at other context : ℕ)
-        → given t.now id bytes at context ≡ given t.now id bytes other context }
+        → given t.now index bytes at context ≡ given t.now index bytes other context }
 {
-    match t.fields.at(id.number() as usize) {
+    match t.fields.at(index) {
         Some(of) => of.token.is_some(),
         None => false,
     }
@@ -48,7 +48,7 @@ fn has_place(t: &Tables, kind: Kind) -> bool
     ensures { result ≡ false → HasNoPlace t.now kind }
 {
     match kind {
-        Kind::Field(id) => is_in_token(t, id),
+        Kind::Field(id) => is_in_token(t, id.number() as usize),
         Kind::Table(_) => false,
         Kind::Action(_) => false,
         Kind::Start => false,
@@ -184,7 +184,7 @@ fn use_action<'a>(
     }
 }
 
-/// The names that actions use, each once.
+/// The names that actions use, each once. They stand here for what they are told to stand for.
 pub(crate) fn uses_in<'a>(
     alloc: Global,
     t: &Tables,
@@ -192,7 +192,8 @@ pub(crate) fn uses_in<'a>(
     leaves: &JoinedLeaves,
     actions: &[Action<'a>],
 ) -> Result<Named<'a, Used<'a>>, AllocError>
-    ensures { IfOk result (λ used. AreUses t.now operands.now leaves.now used actions.now) }
+    ensures before { IfOk result (ReadAsBefore t.now operands.now leaves.now) }
+    ensures uses { IfOk result (λ used. AreUses t.now operands.now leaves.now used actions.now) }
 {
     let mut all = Named::new(alloc);
     'actions: for index in 0..actions.len() {
@@ -230,13 +231,13 @@ pub(crate) fn read_as_before(
     t: &Tables,
     operands: &[Operand],
     leaves: &JoinedLeaves,
-    used: &Named<Used>,
+    used: &[Used],
 ) -> Result<bool, AllocError>
     ensures { IfOk result (λ same. IsTrue same
         → ReadAsBefore t.now operands.now leaves.now used.now) }
 {
     'used: for index in 0..used.len() {
-        if !reads_as_before(t, operands, leaves, used.member(index))? {
+        if !reads_as_before(t, operands, leaves, &used[index])? {
             return Ok(false);
         }
     }

@@ -8,8 +8,8 @@ use Rattle.sl_plan.proofs.late.late_steps.Goals as goal
 pub actions-preserved : goal.actions-preserved
 actions-preserved c = λ s.
     went_on_at (tell c.args.t.now c.args.operands.now (leaves_at s.lengths c.args.leaves.now) s) (late_step c.args.t.now s) (actions_of c.args.actions.now) action_of c.args.actions.now c.actions.index
-    c.index-actions-index.result c.index-actions-index.result c.actions.all.items c.add.new.all.items c.in_ok-step.step c.actions-test.true c.index-actions-index.is (c.in_ok-step.ensures s)
-    c.in_ok-add.ensures (c.actions.invariant s)
+    c.index-actions-index.result c.index-actions-index.result c.actions.all.items c.add_step.new.all.items c.in_ok-step.step c.actions-test.true c.index-actions-index.is (c.in_ok-step.ensures s)
+    c.in_ok-add_step.ensures (c.actions.invariant s)
 
 pub returns : goal.returns
 returns c = λ s.

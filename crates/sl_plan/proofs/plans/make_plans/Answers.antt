@@ -2,10 +2,10 @@ use Rattle.std.proofs.Common.{List, ◌++◌, map, refl, sym, ap, ◌∙◌}
 use Rattle.sl_ast.specs.Unfolding.{written}
 use Rattle.sl_decoding.specs.Meanings.{said}
 use Rattle.sl_leaves.specs.Blocks.{AreLeavesOfHead}
-use Rattle.sl_plan.specs.Rights.{AreStepsOfHead}
 use Rattle.sl_plan.specs.Plans.{done}
 use Rattle.sl_plan.specs.declared.plans.Plan.{Plan}
 use Rattle.sl_leaves.proofs.MadeLemmas.{keeps_of, made_for, none_of}
+use Rattle.sl_plan.proofs.OpenLemmas.{begun_anyway, right_among, stays_among}
 use Rattle.sl_spec.specs.Tables.{Ctor, Operand}
 use Rattle.sl_spec.specs.Unfolded.{all_placed, placed}
 use Rattle.sl_plan.proofs.PlanLemmas.{all_made, all_said, out_of_constructors, out_of_written, plan_next}
@@ -17,7 +17,7 @@ constructors-init c =
     let us = c.args.constructors.now in (
       ap (λ (ps : List Plan). map (done t) ps ++ all_said t t.constructors (all_placed us)) c.new-all.ensures.items,
       none_of (AreLeavesOfHead t) us c.new-made.result c.new-made.ensures c.requires,
-      none_of (AreStepsOfHead t) us c.new-steps.result c.new-steps.ensures c.requires,
+      begun_anyway t us c.new-around.result c.new-around.ensures c.requires,
     )
 
 pub plan_among-requires-clause-leaves : goal.plan_among-requires-clause-leaves
@@ -25,10 +25,10 @@ plan_among-requires-clause-leaves c =
     made_for (AreLeavesOfHead c.args.t.now) c.args.constructors.now c.constructors.index c.index-constructors-index.result c.constructors-test.true c.index-constructors-index.is
     c.constructors.made c.constructors.invariant.1
 
-pub plan_among-requires-clause-steps : goal.plan_among-requires-clause-steps
-plan_among-requires-clause-steps c =
-    made_for (AreStepsOfHead c.args.t.now) c.args.constructors.now c.constructors.index c.index-constructors-index.result c.constructors-test.true c.index-constructors-index.is
-    c.constructors.steps c.constructors.invariant.2
+pub plan_among-requires-clause-around : goal.plan_among-requires-clause-around
+plan_among-requires-clause-around c =
+    right_among c.args.t.now c.args.constructors.now c.constructors.index c.index-constructors-index.result c.constructors-test.true c.index-constructors-index.is
+    c.constructors.around c.constructors.invariant.2
 
 pub constructors-preserved : goal.constructors-preserved
 constructors-preserved c =
@@ -40,7 +40,7 @@ constructors-preserved c =
       plan_next t t.constructors us c.constructors.index c.constructors.all.items c.in-Some.ctor.now u c.in_ok-plan.plan
           c.push.new.self.items (sym c.in-Some.ensures) c.constructors-test.true c.index-constructors-index.is c.in_ok-push.ensures.items does c.constructors.invariant.0,
       keeps_of (AreLeavesOfHead t) us c.constructors.index u c.constructors-test.true c.index-constructors-index.is c.constructors.made c.plan_among.new.made c.in_ok-plan.ensures.leaves c.constructors.invariant.1,
-      keeps_of (AreStepsOfHead t) us c.constructors.index u c.constructors-test.true c.index-constructors-index.is c.constructors.steps c.plan_among.new.steps c.in_ok-plan.ensures.steps c.constructors.invariant.2,
+      stays_among t us c.constructors.index u c.constructors-test.true c.index-constructors-index.is c.constructors.around c.plan_among.new.around c.in_ok-plan.ensures.around c.constructors.invariant.2,
     )
 
 pub returns-in_default : goal.returns-in_default

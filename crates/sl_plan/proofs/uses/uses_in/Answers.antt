@@ -23,7 +23,10 @@ actions-preserved c =
           one_less P as' (AllByRecursion P as') c.actions.index c.index-actions-index.result c.actions-test.true c.index-actions-index.is one.1 (c.actions.invariant.1 those ms one.0),
     )
 
-pub returns : goal.returns
-returns c = λ those ms stand.
+pub returns-clause-before : goal.returns-clause-before
+returns-clause-before c = c.actions.invariant.0
+
+pub returns-clause-uses : goal.returns-clause-uses
+returns-clause-uses c = λ those ms stand.
     let P = λ (a : tree.Action). IsSameAction c.args.t.now c.args.operands.now c.args.leaves.now (action_of a) those ms in
     none_left P c.args.actions.now (AllByRecursion P c.args.actions.now) c.actions.index c.actions-test.false (c.actions.invariant.1 those ms stand)

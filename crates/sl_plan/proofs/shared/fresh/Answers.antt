@@ -1,7 +1,7 @@
 use Rattle.std.proofs.Common.{ap, ◌∙◌}
 use Rattle.sl_decoding.specs.Outcomes.{in_turn}
 use Rattle.sl_plan.specs.Steps.{early_step, late_step}
-use Rattle.sl_plan.proofs.block_steps.fresh.Goals as goal
+use Rattle.sl_plan.proofs.shared.fresh.Goals as goal
 
 pub returns : goal.returns
 returns c = record {

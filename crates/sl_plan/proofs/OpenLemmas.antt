@@ -1,0 +1,248 @@
+-- The blocks round a constructor, whose steps are made once for all constructors inside.
+use Rattle.std.proofs.Common.{◌≡◌, ℕ, ◌+◌, zero, suc, ◌<◌, ◌≤◌, List, [], ◌∷◌, ◌++◌, length, get_or, map, take, refl, sym, ap, subst, ◌∙◌, append_assoc, append-nil, length-append, slice_get, arith}
+use Rattle.std.proofs.lemmas.List.{map-append, take_all}
+use Rattle.std.proofs.Math.Seq.{take-suc}
+use Rattle.std.specs.List.{AllByRecursion, flat_map}
+use Rattle.std.specs.Option.{IfSome}
+use Rattle.std.specs.declared.alloc.Global.{Global}
+use Rattle.std.specs.declared.rc.Rc.{Rc}
+use Rattle.sl_ast.specs.Trees.{Action, Head}
+use Rattle.sl_ast.specs.Unfolding.{written}
+use Rattle.sl_ast.specs.Views.{actions_of, head_of}
+use Rattle.sl_ast.specs.declared.patterns.Action as tree
+use Rattle.sl_leaves.specs.Blocks.{ArePlain}
+use Rattle.sl_leaves.specs.Extents.{leaf_at, leaves_at}
+use Rattle.sl_leaves.specs.Joined.{all_leaves}
+use Rattle.sl_leaves.specs.declared.leaves.Leaf as l
+use Rattle.sl_leaves.specs.declared.pattern_leaves.PatternLeaves.{PatternLeaves}
+use Rattle.sl_leaves.proofs.MadeLemmas.{told_at as told_among}
+use Rattle.sl_plan.specs.Fronts.{AreLeft, BeginsWith, IsInside}
+use Rattle.sl_plan.specs.Open.{AreEntered, AreRight, AreRightAnyway, AreRightFor, AreRightInside, AreStepsOf, IsFront, IsOpened, IsRight, StandAlike, StayRight, front_of, leaves_of, numbers_of}
+use Rattle.sl_plan.specs.Rights.{AreSteps}
+use Rattle.sl_plan.specs.Uses.{AreUses, ReadAsBefore}
+use Rattle.sl_plan.specs.declared.open_blocks.OpenBlock.{OpenBlock}
+use Rattle.sl_plan.specs.declared.shared.SharedSteps.{SharedSteps}
+use Rattle.sl_plan.specs.declared.uses.Used.{Used}
+use Rattle.sl_plan.proofs.StepLemmas.{right_for}
+use Rattle.sl_spec.specs.Numbers.{AreNumbered, AreTold, AreToldOf}
+use Rattle.sl_spec.specs.Tables.{Operand}
+use Rattle.sl_spec.specs.declared.tables.Tables.{Tables}
+use Rattle.sl_spec.specs.declared.unfolded.Around.{Around}
+use Rattle.sl_spec.specs.declared.unfolded.Unfolded.{Unfolded}
+
+-- ---- lists
+
+flat_push : {X Y : Type 0} (f : X → List Y) (xs : List X) (x : X) → flat_map f (xs ++ x ∷ []) ≡ flat_map f xs ++ f x
+flat_push f [] x = append-nil (f x)
+flat_push f (y ∷ ys) x = ap (λ zs. f y ++ zs) (flat_push f ys x) ∙ sym (append_assoc (f y) (flat_map f ys) (f x))
+
+took_more : {X : Type 0} (xs : List X) (i : ℕ) (x : X) → i < length xs → x ≡ get_or xs i x → take (i + 1) xs ≡ take i xs ++ x ∷ []
+took_more xs i x below at =
+    let next : i + 1 ≡ suc i = omega arith in
+    ap (λ n. take n xs) next ∙ take-suc xs i x below ∙ ap (λ z. take i xs ++ z ∷ []) (sym at)
+
+pub within : {i m n : ℕ} → i < m → m ≤ n → i < n
+within below few = omega arith
+
+took_length : {X : Type 0} (xs : List X) (i : ℕ) → i ≤ length xs → length (take i xs) ≡ i
+took_length xs zero few = refl
+took_length [] (suc i) few = absurd (omega arith)
+took_length (x ∷ xs) (suc i) few = ap suc (took_length xs i (omega arith))
+
+-- one pattern more
+pub took_leaves : (ps : List (Rc PatternLeaves Global)) (i : ℕ) (p : Rc PatternLeaves Global) → i < length ps → p ≡ get_or ps i p
+    → all_leaves (take (i + 1) ps) ≡ all_leaves (take i ps) ++ p.value.leaves.items
+took_leaves ps i p below at = ap all_leaves (took_more ps i p below at) ∙ flat_push (λ q. q.value.leaves.items) (take i ps) p
+
+-- ---- names that begin alike
+
+begins_shorter : (some more ls : List l.Leaf) → BeginsWith (some ++ more) ls → BeginsWith some ls
+begins_shorter some more ls begins = (
+  λ lengths. leaves_at lengths more ++ begins.0 lengths,
+  λ lengths. begins.1 lengths ∙ ap (λ xs. xs ++ begins.0 lengths) (map-append (leaf_at lengths) some more)
+      ∙ append_assoc (leaves_at lengths some) (leaves_at lengths more) (begins.0 lengths),
+)
+
+begins_alike : (some others ls : List l.Leaf) → StandAlike some others → BeginsWith others ls → BeginsWith some ls
+begins_alike some others ls alike begins = (begins.0, λ lengths. begins.1 lengths ∙ ap (λ xs. xs ++ begins.0 lengths) (sym (alike lengths)))
+
+begins_taken : {X : Type 0} (f : X → List l.Leaf) (xs : List X) (i : ℕ) → BeginsWith (flat_map f (take i xs)) (flat_map f xs)
+begins_taken f xs zero = (λ lengths. leaves_at lengths (flat_map f xs), λ lengths. refl)
+begins_taken f [] (suc i) = (λ lengths. [], λ lengths. refl)
+begins_taken f (x ∷ xs) (suc i) =
+    let rest = begins_taken f xs i in (
+      rest.0,
+      λ lengths. map-append (leaf_at lengths) (f x) (flat_map f xs) ∙ ap (λ ys. leaves_at lengths (f x) ++ ys) (rest.1 lengths)
+          ∙ sym (append_assoc (leaves_at lengths (f x)) (leaves_at lengths (flat_map f (take i xs))) (rest.0 lengths))
+          ∙ sym (ap (λ ys. ys ++ rest.0 lengths) (map-append (leaf_at lengths) (f x) (flat_map f (take i xs)))),
+    )
+
+pub begins_in : (ps : List (Rc PatternLeaves Global)) (i : ℕ) (ls : List l.Leaf) → all_leaves ps ≡ ls → BeginsWith (all_leaves (take i ps)) ls
+begins_in ps i ls whole = subst (BeginsWith (all_leaves (take i ps))) whole (begins_taken (λ p. p.value.leaves.items) ps i)
+
+alike_more : (some others more its : List l.Leaf) → StandAlike some others → StandAlike more its → StandAlike (some ++ more) (others ++ its)
+alike_more some others more its one other = λ lengths.
+    map-append (leaf_at lengths) some more ∙ ap (λ xs. xs ++ leaves_at lengths more) (one lengths)
+    ∙ ap (λ xs. leaves_at lengths others ++ xs) (other lengths) ∙ sym (map-append (leaf_at lengths) others its)
+
+-- ---- steps that are right
+
+module _ (t : Tables) (os : List Operand) (ls front : List l.Leaf) where
+  pub opened_right : (h : Head) (as' : List tree.Action) (steps : SharedSteps) (used : List Used) (x : OpenBlock) → actions_of as' ≡ written h.actions
+      → x.steps ≡ steps → AreSteps t os ls (actions_of as') steps → IsInside t front os ls → ReadAsBefore t os ls used → AreUses t os ls used as'
+      → AreLeft t front used x.used.items → IsRight t h front x
+  opened_right h as' steps used x is made are inside before uses left = λ those ms into stand.
+      subst (λ (y : SharedSteps). AreSteps t those ms (written h.actions) y) (sym made)
+      (subst (λ (bs : List Action). AreSteps t those ms bs steps) is (right_for t os ls those ms as' steps are (uses those ms (left os ls inside before those ms into stand))))
+
+module _ (t : Tables) (head_at : ℕ → Head) where
+  taken_right : (front : List l.Leaf) (xs : List OpenBlock) (i : ℕ) → AreRightInside t head_at front xs → AreRightInside t head_at front (take i xs)
+  taken_right front xs zero right = tt
+  taken_right front [] (suc i) right = tt
+  taken_right front (x ∷ xs) (suc i) right = (right.0, taken_right (front ++ leaves_of x) xs i right.1)
+
+  pushed_right : (front : List l.Leaf) (xs : List OpenBlock) (x : OpenBlock) → AreRightInside t head_at front xs
+      → IsRight t (head_at x.number) ((front ++ front_of xs) ++ leaves_of x) x → AreRightInside t head_at front (xs ++ x ∷ [])
+  pushed_right front [] x right its = (subst (λ (ys : List l.Leaf). IsRight t (head_at x.number) (ys ++ leaves_of x) x) (append-nil front) its, tt)
+  pushed_right front (y ∷ ys) x right its = (
+    right.0,
+    pushed_right (front ++ leaves_of y) ys x right.1
+        (subst (λ (zs : List l.Leaf). IsRight t (head_at x.number) (zs ++ leaves_of x) x) (sym (append_assoc front (leaves_of y) (front_of ys))) its),
+  )
+
+-- ---- the first blocks
+
+first_number : List ℕ → ℕ
+first_number [] = 0
+first_number (n ∷ ns) = n
+
+other_numbers : List ℕ → List ℕ
+other_numbers [] = []
+other_numbers (n ∷ ns) = ns
+
+module _ (t : Tables) (os : List Operand) (ls : List l.Leaf) (plain : ArePlain t os) (head_at : ℕ → Head) where
+  steps_inside : (front : List l.Leaf) (xs : List OpenBlock) (heads : List Around) → AreRightInside t head_at front xs → AreTold head_at heads
+      → numbers_of xs ≡ map (λ a. a.number) heads → BeginsWith (front ++ front_of xs) ls → AllByRecursion (λ x. ReadAsBefore t os ls x.used.items) xs
+      → AreStepsOf t os ls xs heads
+  unfolding first_number other_numbers
+  steps_inside front [] heads right told numbers begins used = tt
+  steps_inside front (x ∷ xs) [] right told numbers begins used = absurd (cc numbers)
+  steps_inside front (x ∷ xs) (a ∷ heads) right told numbers begins used =
+      let longer = subst (λ (ys : List l.Leaf). BeginsWith ys ls) (sym (append_assoc front (leaves_of x) (front_of xs))) begins in
+      let head : head_at x.number ≡ head_of a.head.now = ap (λ ns. head_at (first_number ns)) numbers ∙ told.0 in (
+        subst (λ (h : Head). AreSteps t os ls (written h.actions) x.steps) head
+            (right.0 os ls (plain, begins_shorter (front ++ leaves_of x) (front_of xs) ls longer) used.0),
+        steps_inside (front ++ leaves_of x) xs heads right.1 told.1 (ap other_numbers numbers) longer used.1,
+      )
+
+-- what is said of the front of a row is said of the row
+steps_of_more : (t : Tables) (os : List Operand) (ls : List l.Leaf) (xs : List OpenBlock) (heads : List Around) (i : ℕ) → AreStepsOf t os ls xs (take i heads)
+    → AreStepsOf t os ls xs heads
+steps_of_more t os ls [] heads i steps = tt
+steps_of_more t os ls (x ∷ xs) heads zero steps = absurd steps
+steps_of_more t os ls (x ∷ xs) [] (suc i) steps = absurd steps
+steps_of_more t os ls (x ∷ xs) (a ∷ heads) (suc i) steps = (steps.0, steps_of_more t os ls xs heads i steps.1)
+
+told_taken : (head_at : ℕ → Head) (heads : List Around) (i : ℕ) → AreTold head_at heads → AreTold head_at (take i heads)
+told_taken head_at heads zero told = tt
+told_taken head_at [] (suc i) told = tt
+told_taken head_at (a ∷ heads) (suc i) told = (told.0, told_taken head_at heads i told.1)
+
+told_at : (head_at : ℕ → Head) (heads : List Around) (i : ℕ) (a : Around) → i < length heads → a ≡ get_or heads i a → AreTold head_at heads
+    → head_at a.number ≡ head_of a.head.now
+told_at head_at [] i a below at told = absurd (omega arith)
+told_at head_at (b ∷ bs) zero a below at told = subst (λ (x : Around). head_at x.number ≡ head_of x.head.now) (sym at) told.0
+told_at head_at (b ∷ bs) (suc i) a below at told = told_at head_at bs i a (omega arith) at told.1
+
+steps_push : (t : Tables) (os : List Operand) (ls : List l.Leaf) (xs : List OpenBlock) (heads : List Around) (x : OpenBlock) (a : Around) → length xs ≡ length heads
+    → AreStepsOf t os ls xs heads → AreSteps t os ls (written (head_of a.head.now).actions) x.steps → AreStepsOf t os ls (xs ++ x ∷ []) (heads ++ a ∷ [])
+steps_push t os ls [] [] x a same steps its = (its, tt)
+steps_push t os ls [] (b ∷ heads) x a same steps its = absurd (omega arith)
+steps_push t os ls (y ∷ xs) [] x a same steps its = absurd steps
+steps_push t os ls (y ∷ xs) (b ∷ heads) x a same steps its = (steps.0, steps_push t os ls xs heads x a (omega arith) steps.1 its)
+
+-- the steps of one of the blocks
+pub steps_at : (t : Tables) (os : List Operand) (ls : List l.Leaf) (xs : List OpenBlock) (heads : List Around) (i : ℕ) (a : Around) → i < length heads
+    → a ≡ get_or heads i a → AreStepsOf t os ls xs heads → IfSome (slice_get xs i) (λ x. AreSteps t os ls (written (head_of a.head.now).actions) x.steps)
+steps_at t os ls [] heads i a below is steps = tt
+steps_at t os ls (x ∷ xs) [] i a below is steps = absurd steps
+steps_at t os ls (x ∷ xs) (b ∷ heads) zero a below is steps =
+    subst (λ (y : Around). AreSteps t os ls (written (head_of y.head.now).actions) x.steps) (sym is) steps.0
+steps_at t os ls (x ∷ xs) (b ∷ heads) (suc i) a below is steps = steps_at t os ls xs heads i a (omega arith) is steps.1
+
+-- ---- blocks that are entered
+
+module _ (t : Tables) (os : List Operand) (ls : List l.Leaf) (heads : List Around) where
+  -- The blocks are those of the first heads, right for a constructor with this pattern.
+  pub record AreFirst (patterns : List l.Leaf) (old now : List OpenBlock) (i : ℕ) : Type 0 where
+    pub count : length now ≡ i
+    pub alike : StandAlike (front_of now) patterns
+    pub steps : AreStepsOf t os ls now (take i heads)
+    pub kept : StayRight t heads old now
+
+  pub first_begin : (patterns : List l.Leaf) (old now : List OpenBlock) (i : ℕ) → ArePlain t os → BeginsWith patterns ls → AreRightFor t heads old → now ≡ take i old
+      → IsFront t os ls patterns old heads i → AreFirst patterns old now i
+  first_begin patterns old now i plain begins right is front = record {
+    count = ap (λ (ys : List OpenBlock). length ys) is ∙ took_length old i front.few;
+    alike = λ lengths. ap (λ (ys : List OpenBlock). leaves_at lengths (front_of ys)) is ∙ front.alike lengths;
+    steps = subst (λ (ys : List OpenBlock). AreStepsOf t os ls ys (take i heads)) (sym is)
+        (steps_inside t os ls plain right.0 [] (take i old) (take i heads) (taken_right t right.0 [] old i right.2) (told_taken right.0 heads i right.1) front.numbers
+        (begins_alike (front_of (take i old)) patterns ls front.alike begins) front.used);
+    kept = λ head_at told was. subst (λ (ys : List OpenBlock). AreRight t head_at ys) (sym is) (taken_right t head_at [] old i was);
+  }
+
+  pub first_go : (patterns its more : List l.Leaf) (old now new : List OpenBlock) (i : ℕ) (a : Around) (x : OpenBlock) → i < length heads → a ≡ get_or heads i a
+      → more ≡ patterns ++ its → new ≡ now ++ x ∷ [] → IsOpened t os ls more its a x → AreFirst patterns old now i → AreFirst more old new (i + 1)
+  first_go patterns its more old now new i a x below at added is opened so_far =
+      let head = took_more heads i a below at in
+      let same : StandAlike (front_of now ++ leaves_of x) more = λ lengths.
+      alike_more (front_of now) patterns (leaves_of x) its so_far.alike (λ n. ap (leaves_at n) opened.leaves) lengths ∙ sym (ap (leaves_at lengths) added) in
+      record {
+        count = ap (λ (ys : List OpenBlock). length ys) is ∙ length-append now (x ∷ []) ∙ ap (λ n. n + 1) so_far.count;
+        alike = λ lengths. ap (λ (ys : List OpenBlock). leaves_at lengths (front_of ys)) is ∙ ap (leaves_at lengths) (flat_push leaves_of now x) ∙ same lengths;
+        steps = subst (λ (as' : List Around). AreStepsOf t os ls new as') (sym head)
+            (subst (λ (ys : List OpenBlock). AreStepsOf t os ls ys (take i heads ++ a ∷ [])) (sym is)
+            (steps_push t os ls now (take i heads) x a (so_far.count ∙ sym (took_length heads i (omega arith))) so_far.steps opened.steps));
+        kept = λ head_at told was.
+            let right = so_far.kept head_at told was in
+            let its_head : head_at x.number ≡ head_of a.head.now = ap head_at opened.number ∙ told_at head_at heads i a below at told in
+            subst (λ (ys : List OpenBlock). AreRight t head_at ys) (sym is)
+            (pushed_right t head_at [] now x right
+            (subst (λ (h : Head). IsRight t h (front_of now ++ leaves_of x) x) (sym its_head)
+            (λ those ms into. opened.right those ms (into.0, begins_alike more (front_of now ++ leaves_of x) ms (λ lengths. sym (same lengths)) into.1))));
+      }
+
+  pub first_end : (patterns : List l.Leaf) (old new : List OpenBlock) (i : ℕ) → length heads ≤ i → AreFirst patterns old new i → AreEntered t os ls heads old new
+  first_end patterns old new i end so_far = record {
+    steps = subst (λ (as' : List Around). AreStepsOf t os ls new as') (take_all i heads end) so_far.steps;
+    kept = so_far.kept;
+  }
+
+-- ---- all of a constructor's blocks
+
+module _ (t : Tables) (os : List Operand) (ls : List l.Leaf) (heads : List Around) (i : ℕ) where
+  pub right_taken : (blocks : List OpenBlock) → AreRightFor t heads blocks → AreRightFor t (take i heads) blocks
+  right_taken blocks right = (right.0, told_taken right.0 heads i right.1, right.2)
+
+  pub steps_more : (blocks : List OpenBlock) → AreStepsOf t os ls blocks (take i heads) → AreStepsOf t os ls blocks heads
+  steps_more blocks steps = steps_of_more t os ls blocks heads i steps
+
+  pub stay_more : (old new : List OpenBlock) → StayRight t (take i heads) old new → StayRight t heads old new
+  stay_more old new stay = λ head_at told was. stay head_at (told_taken head_at heads i told) was
+
+-- ---- constructors, one behind the other
+
+module _ (t : Tables) (us : List Unfolded) where
+  -- The blocks are right where numbers tell the heads of all blocks round these constructors.
+  abbrev pub AreRightAmong : List OpenBlock → Type 0
+  AreRightAmong blocks = (head_at : ℕ → Head) × AreToldOf head_at us × AreRight t head_at blocks
+
+  pub begun_anyway : (blocks : List OpenBlock) → AreRightAnyway blocks → AreNumbered us → AreRightAmong blocks
+  begun_anyway blocks right numbered = (numbered.0, numbered.1, right t numbered.0)
+
+  module _ (i : ℕ) (u : Unfolded) (below : i < length us) (at : u ≡ get_or us i u) (old : List OpenBlock) where
+    pub right_among : AreRightAmong old → AreRightFor t u.heads.items old
+    right_among among = (among.0, told_among among.0 us i u below at among.1, among.2)
+
+    pub stays_among : (new : List OpenBlock) → StayRight t u.heads.items old new → AreRightAmong old → AreRightAmong new
+    stays_among new stay among = (among.0, among.1, stay among.0 (told_among among.0 us i u below at among.1) among.2)
