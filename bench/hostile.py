@@ -308,6 +308,26 @@ def listed_far_commits(size):
     return {"s": front + 'e: "e" is a=0 {}\nwith : e ; f [ %s ] {\n' % ("globalset(f, m); " * size) + lines + "}\n", "i": bytes(64)}
 
 
+def using_heads(count):
+    """`count` blocks, each with a pattern of 127 constraints on fields of its own, all of which its action uses."""
+    each = 127
+    names = ["f%d" % n for n in range(each * count)]
+    rows = [names[first:first + each] for first in range(0, len(names), each)]
+    front = SPACE % 4 + "define token c (32) code=(8,31) %s;\n" % " ".join("%s=(0,3)" % name for name in names)
+    return front + "".join("with : %s [ n%d = %s; ] {\n" % (" & ".join("%s>=0" % name for name in row), n, " + ".join(row)) for n, row in enumerate(rows))
+
+
+def listed_using_heads(size):
+    """So many constructors in sixteen such blocks."""
+    return {"s": using_heads(16) + "".join(":o%d is code=%d {}\n" % (n, n) for n in range(size)) + "}\n" * 16, "i": bytes(64)}
+
+
+def listed_inner_heads(size):
+    """So many blocks of one constructor in fifteen such blocks."""
+    lines = "".join("with : f0>=0 [ k = f1; ] { :o%d is code=%d {} }\n" % (n, n) for n in range(size))
+    return {"s": using_heads(15) + lines + "}\n" * 15, "i": bytes(64)}
+
+
 def wide_sets(size):
     """So many constructors of 1,024 cubes of which no two meet."""
     front = SPACE % 4 + "define token w (64) p=(0,7) q=(8,15) r=(16,31) code=(40,63);\n"
@@ -479,6 +499,10 @@ KINDS = (
             head_actions, lambda n: ok(1, n)),
     Hostile("the same actions, listed", "of each", powers(500, 65535), "65,535, and 2,000,000 actions",
             listed_head_actions, lambda n: (DONE, "00000000: 00000000 o0\n"), LIST),
+    Hostile("constructors in 16 blocks of 127 constraints on fields that its action uses, listed", "constructors", powers(256, 65535), "65,535",
+            listed_using_heads, lambda n: (DONE, "00000000: 00000000 o0\n"), LIST),
+    Hostile("blocks of one constructor in 15 such blocks, listed", "blocks", powers(256, 65535), "65,535", listed_inner_heads,
+            lambda n: (DONE, "00000000: 00000000 o0\n"), LIST),
     Hostile("commits in a head at an address behind a table, and as many constructors, listed", "of each", powers(500, 65534), "65,534, and 900,000 commits",
             listed_far_commits, lambda n: (DONE, "00000000: 0000000000 o0\n"), LIST),
     Hostile("constructors of 1,024 cubes", "constructors", powers(64, 65535), "65,535", wide_sets, lambda n: ok(1, n)),
