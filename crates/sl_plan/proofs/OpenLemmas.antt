@@ -1,7 +1,6 @@
 -- The blocks round a constructor, whose steps are made once for all constructors inside.
 use Rattle.std.proofs.Common.{◌≡◌, ℕ, ◌+◌, zero, suc, ◌<◌, ◌≤◌, List, [], ◌∷◌, ◌++◌, length, get_or, map, take, refl, sym, ap, subst, ◌∙◌, append_assoc, append-nil, length-append, slice_get, arith}
-use Rattle.std.proofs.lemmas.List.{map-append, take_all}
-use Rattle.std.proofs.Math.Seq.{take-suc}
+use Rattle.std.proofs.lemmas.List.{length-take-le, map-append, take_all, take_more}
 use Rattle.std.specs.List.{AllByRecursion, flat_map}
 use Rattle.std.specs.Option.{IfSome}
 use Rattle.std.specs.declared.alloc.Global.{Global}
@@ -16,7 +15,7 @@ use Rattle.sl_leaves.specs.Joined.{all_leaves}
 use Rattle.sl_leaves.specs.declared.leaves.Leaf as l
 use Rattle.sl_leaves.specs.declared.pattern_leaves.PatternLeaves.{PatternLeaves}
 use Rattle.sl_leaves.proofs.MadeLemmas.{told_at as told_among}
-use Rattle.sl_plan.specs.Fronts.{AreLeft, BeginsWith, IsInside}
+use Rattle.sl_plan.specs.Settled.{AreUnsettled, BeginsWith, IsInside}
 use Rattle.sl_plan.specs.Open.{AreEntered, AreRight, AreRightAnyway, AreRightFor, AreRightInside, AreStepsOf, IsFront, IsOpened, IsRight, StandAlike, StayRight, front_of, leaves_of, numbers_of}
 use Rattle.sl_plan.specs.Rights.{AreSteps}
 use Rattle.sl_plan.specs.Uses.{AreUses, ReadAsBefore}
@@ -37,17 +36,10 @@ flat_push f [] x = append-nil (f x)
 flat_push f (y ∷ ys) x = ap (λ zs. f y ++ zs) (flat_push f ys x) ∙ sym (append_assoc (f y) (flat_map f ys) (f x))
 
 took_more : {X : Type 0} (xs : List X) (i : ℕ) (x : X) → i < length xs → x ≡ get_or xs i x → take (i + 1) xs ≡ take i xs ++ x ∷ []
-took_more xs i x below at =
-    let next : i + 1 ≡ suc i = omega arith in
-    ap (λ n. take n xs) next ∙ take-suc xs i x below ∙ ap (λ z. take i xs ++ z ∷ []) (sym at)
+took_more xs i x below at = take_more xs i x below ∙ ap (λ z. take i xs ++ z ∷ []) (sym at)
 
 pub within : {i m n : ℕ} → i < m → m ≤ n → i < n
 within below few = omega arith
-
-took_length : {X : Type 0} (xs : List X) (i : ℕ) → i ≤ length xs → length (take i xs) ≡ i
-took_length xs zero few = refl
-took_length [] (suc i) few = absurd (omega arith)
-took_length (x ∷ xs) (suc i) few = ap suc (took_length xs i (omega arith))
 
 -- one pattern more
 pub took_leaves : (ps : List (Rc PatternLeaves Global)) (i : ℕ) (p : Rc PatternLeaves Global) → i < length ps → p ≡ get_or ps i p
@@ -90,7 +82,7 @@ alike_more some others more its one other = λ lengths.
 module _ (t : Tables) (os : List Operand) (ls front : List l.Leaf) where
   pub opened_right : (h : Head) (as' : List tree.Action) (steps : SharedSteps) (used : List Used) (x : OpenBlock) → actions_of as' ≡ written h.actions
       → x.steps ≡ steps → AreSteps t os ls (actions_of as') steps → IsInside t front os ls → ReadAsBefore t os ls used → AreUses t os ls used as'
-      → AreLeft t front used x.used.items → IsRight t h front x
+      → AreUnsettled t front used x.unsettled.items → IsRight t h front x
   opened_right h as' steps used x is made are inside before uses left = λ those ms into stand.
       subst (λ (y : SharedSteps). AreSteps t those ms (written h.actions) y) (sym made)
       (subst (λ (bs : List Action). AreSteps t those ms bs steps) is (right_for t os ls those ms as' steps are (uses those ms (left os ls inside before those ms into stand))))
@@ -122,7 +114,7 @@ other_numbers (n ∷ ns) = ns
 
 module _ (t : Tables) (os : List Operand) (ls : List l.Leaf) (plain : ArePlain t os) (head_at : ℕ → Head) where
   steps_inside : (front : List l.Leaf) (xs : List OpenBlock) (heads : List Around) → AreRightInside t head_at front xs → AreTold head_at heads
-      → numbers_of xs ≡ map (λ a. a.number) heads → BeginsWith (front ++ front_of xs) ls → AllByRecursion (λ x. ReadAsBefore t os ls x.used.items) xs
+      → numbers_of xs ≡ map (λ a. a.number) heads → BeginsWith (front ++ front_of xs) ls → AllByRecursion (λ x. ReadAsBefore t os ls x.unsettled.items) xs
       → AreStepsOf t os ls xs heads
   unfolding first_number other_numbers
   steps_inside front [] heads right told numbers begins used = tt
@@ -183,11 +175,11 @@ module _ (t : Tables) (os : List Operand) (ls : List l.Leaf) (heads : List Aroun
   pub first_begin : (patterns : List l.Leaf) (old now : List OpenBlock) (i : ℕ) → ArePlain t os → BeginsWith patterns ls → AreRightFor t heads old → now ≡ take i old
       → IsFront t os ls patterns old heads i → AreFirst patterns old now i
   first_begin patterns old now i plain begins right is front = record {
-    count = ap (λ (ys : List OpenBlock). length ys) is ∙ took_length old i front.few;
+    count = ap (λ (ys : List OpenBlock). length ys) is ∙ length-take-le i old front.few;
     alike = λ lengths. ap (λ (ys : List OpenBlock). leaves_at lengths (front_of ys)) is ∙ front.alike lengths;
     steps = subst (λ (ys : List OpenBlock). AreStepsOf t os ls ys (take i heads)) (sym is)
         (steps_inside t os ls plain right.0 [] (take i old) (take i heads) (taken_right t right.0 [] old i right.2) (told_taken right.0 heads i right.1) front.numbers
-        (begins_alike (front_of (take i old)) patterns ls front.alike begins) front.used);
+        (begins_alike (front_of (take i old)) patterns ls front.alike begins) front.unsettled);
     kept = λ head_at told was. subst (λ (ys : List OpenBlock). AreRight t head_at ys) (sym is) (taken_right t head_at [] old i was);
   }
 
@@ -202,7 +194,7 @@ module _ (t : Tables) (os : List Operand) (ls : List l.Leaf) (heads : List Aroun
         alike = λ lengths. ap (λ (ys : List OpenBlock). leaves_at lengths (front_of ys)) is ∙ ap (leaves_at lengths) (flat_push leaves_of now x) ∙ same lengths;
         steps = subst (λ (as' : List Around). AreStepsOf t os ls new as') (sym head)
             (subst (λ (ys : List OpenBlock). AreStepsOf t os ls ys (take i heads ++ a ∷ [])) (sym is)
-            (steps_push t os ls now (take i heads) x a (so_far.count ∙ sym (took_length heads i (omega arith))) so_far.steps opened.steps));
+            (steps_push t os ls now (take i heads) x a (so_far.count ∙ sym (length-take-le i heads (omega arith))) so_far.steps opened.steps));
         kept = λ head_at told was.
             let right = so_far.kept head_at told was in
             let its_head : head_at x.number ≡ head_of a.head.now = ap head_at opened.number ∙ told_at head_at heads i a below at told in

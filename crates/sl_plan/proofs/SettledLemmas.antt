@@ -14,7 +14,7 @@ use Rattle.sl_leaves.specs.declared.extents.Extent.{Extent}
 use Rattle.sl_leaves.specs.declared.leaves.Leaf as l
 use Rattle.sl_leaves.proofs.LeafLemmas.{first_append}
 use Rattle.sl_leaves.proofs.TiedLemmas.{IsLeft, all_but_last, kind_plain, none_left, one_less}
-use Rattle.sl_plan.specs.Fronts.{AreLeft, BeginsWith, IsInside, IsSettled, LeavesOne}
+use Rattle.sl_plan.specs.Settled.{AreUnsettled, BeginsWith, IsInside, IsSettled, AddsUnsettled}
 use Rattle.sl_plan.specs.Uses.{ReadAsBefore, ReadsAsBefore, read_at}
 use Rattle.sl_plan.specs.declared.uses.Used.{Used}
 use Rattle.sl_plan.proofs.UseLemmas.{read_as, read_there}
@@ -64,32 +64,32 @@ all_at P (y ∷ ys) zero x below is all = subst P (sym is) all.0
 all_at P (y ∷ ys) (suc i) x below is all = all_at P ys i x (omega arith) is all.1
 
 module _ (t : Tables) (front : List l.Leaf) where
-  pub leaves_none : (x : Used) (old : List Used) → IsSettled t front x.name.now → LeavesOne t front x old old
-  leaves_none x old settled = λ os ls inside reads those ms into stand.
+  pub settled_added : (x : Used) (old : List Used) → IsSettled t front x.name.now → AddsUnsettled t front x old old
+  settled_added x old settled = λ os ls inside reads those ms into stand.
       let same = settled os ls inside those ms into in
       (stand, (sym same.0 ∙ reads.0, λ s. sym (same.1 s) ∙ reads.1 s))
 
-  pub leaves_it : (x y : Used) (old new : List Used) → new ≡ old ++ y ∷ [] → y.name.now ≡ x.name.now → y.kind ≡ x.kind
-      → ((lengths : List ℕ) → extent y.place lengths ≡ extent x.place lengths) → LeavesOne t front x old new
-  leaves_it x y old new added named kind place = λ os ls inside reads those ms into stand.
+  pub unsettled_added : (x y : Used) (old new : List Used) → new ≡ old ++ y ∷ [] → y.name.now ≡ x.name.now → y.kind ≡ x.kind
+      → ((lengths : List ℕ) → extent y.place lengths ≡ extent x.place lengths) → AddsUnsettled t front x old new
+  unsettled_added x y old new added named kind place = λ os ls inside reads those ms into stand.
       let parts = all_but_last (ReadsAsBefore t those ms) old y (subst (ReadAsBefore t those ms) added stand) in
       (parts.0, read_as t those ms y x named parts.1 kind place)
 
   -- Those that were gone over are as before where the ones that are left so far are.
-  abbrev pub AreLeftSoFar : List Used → List Used → ℕ → Type 0
-  AreLeftSoFar used left i = (os : List Operand) (ls : List l.Leaf) → IsInside t front os ls → ReadAsBefore t os ls used
+  abbrev pub AreUnsettledSoFar : List Used → List Used → ℕ → Type 0
+  AreUnsettledSoFar used left i = (os : List Operand) (ls : List l.Leaf) → IsInside t front os ls → ReadAsBefore t os ls used
       → (those : List Operand) (ms : List l.Leaf) → IsInside t front those ms → ReadAsBefore t those ms left
       → IsLeft (ReadsAsBefore t those ms) used (ReadAsBefore t those ms used) i
 
-  pub none_gone_over : (used left : List Used) → AreLeftSoFar used left 0
+  pub none_gone_over : (used left : List Used) → AreUnsettledSoFar used left 0
   none_gone_over used left = λ os ls inside before those ms into stand all. all
 
-  pub one_gone_over : (used old new : List Used) (i : ℕ) (x : Used) → i < length used → x ≡ get_or used i x → LeavesOne t front x old new
-      → AreLeftSoFar used old i → AreLeftSoFar used new (i + 1)
+  pub one_gone_over : (used old new : List Used) (i : ℕ) (x : Used) → i < length used → x ≡ get_or used i x → AddsUnsettled t front x old new
+      → AreUnsettledSoFar used old i → AreUnsettledSoFar used new (i + 1)
   one_gone_over used old new i x below is one so_far = λ os ls inside before those ms into stand.
       let both = one os ls inside (all_at (ReadsAsBefore t os ls) used i x below is before) those ms into stand in
       one_less (ReadsAsBefore t those ms) used (ReadAsBefore t those ms used) i x below is both.1 (so_far os ls inside before those ms into both.0)
 
-  pub all_gone_over : (used left : List Used) (i : ℕ) → length used ≤ i → AreLeftSoFar used left i → AreLeft t front used left
+  pub all_gone_over : (used left : List Used) (i : ℕ) → length used ≤ i → AreUnsettledSoFar used left i → AreUnsettled t front used left
   all_gone_over used left i end so_far = λ os ls inside before those ms into stand.
       none_left (ReadsAsBefore t those ms) used (ReadAsBefore t those ms used) i end (so_far os ls inside before those ms into stand)

@@ -16,7 +16,7 @@ use Rattle.sl_leaves.specs.Extents.{leaves_at}
 use Rattle.sl_plan.specs.Rights.{AddsSteps, AreAllSteps, AreSteps, IsCopy}
 use Rattle.sl_plan.specs.Steps.{early_step, late_step}
 use Rattle.sl_plan.specs.Uses.{IsSameAction}
-use Rattle.sl_plan.specs.declared.block_steps.ActionSteps.{ActionSteps}
+use Rattle.sl_plan.specs.declared.action_steps.ActionSteps.{ActionSteps}
 use Rattle.sl_plan.specs.declared.shared.SharedSteps.{SharedSteps}
 use Rattle.sl_leaves.specs.declared.leaves.Leaf as l
 use Rattle.sl_leaves.proofs.RunLemmas.{bind_alike}

@@ -32,6 +32,7 @@ use Rattle.sl_plan.specs.Uses.{IsSameAction, IsSameAddress, IsSameName, IsSameVa
 use Rattle.sl_leaves.specs.declared.leaves.Leaf as l
 use Rattle.sl_plan.specs.declared.uses.Used.{Used}
 use Rattle.sl_leaves.proofs.TiedLemmas.{all_but_last, all_push}
+use Rattle.sl_spec.proofs.KeyedLemmas.{none_from}
 use Rattle.sl_spec.specs.FieldValues.{number_in, token_of}
 use Rattle.sl_spec.specs.Named.{has_name}
 use Rattle.sl_spec.specs.Tables.{Field, Name, Operand, Token}
@@ -42,10 +43,6 @@ ok_as (Ok x) p f = f p
 ok_as (Err e) p f = tt
 
 -- ---- places
-
-none_is : {X : Type 0} (o : Option X) → is_some o ≡ false → o ≡ None
-none_is None none = refl
-none_is (Some x) none = absurd (cc none)
 
 context_alone : (o : Option Token) (bytes : List ℕ) (at context : ℕ) → o ≡ None
     → (if is_whole o at (length bytes) then number_in o (drop at bytes) context else 0) ≡ context
@@ -61,7 +58,7 @@ given_alone : (t : Tables) (id : ℕ) (f : Option Field) (bytes : List ℕ) (at 
     → given_if t id f bytes at context ≡ given_if t id f bytes other context
 given_alone t id None bytes at other context none = refl
 given_alone t id (Some f) bytes at other context none =
-    let no_token : token_of t.tokens f ≡ None = ap (option_and_then (slice_get t.tokens)) (none_is f.token none) in
+    let no_token : token_of t.tokens f ≡ None = ap (option_and_then (slice_get t.tokens)) (none_from f.token none) in
     ap (given_by t id f) (context_alone (token_of t.tokens f) bytes at context no_token ∙ sym (context_alone (token_of t.tokens f) bytes other context no_token))
 
 pub no_place : (t : Tables) (id : ℕ) (f : Option Field) (bytes : List ℕ) (at other context : ℕ) → f ≡ slice_get t.fields id → in_token f ≡ false

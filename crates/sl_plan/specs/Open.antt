@@ -1,4 +1,4 @@
--- meaning: the blocks round a constructor, and for which constructors the steps of their actions are
+-- step: the blocks round a constructor, and for which constructors the steps of their actions are
 -- right.
 use Rattle.std.specs.Prelude.{◌≡◌, ◌++◌, ◌∷◌, [], ℕ, ◌≤◌, List, length, map, take, ⊤}
 use Rattle.std.specs.List.{AllByRecursion, flat_map}
@@ -7,7 +7,7 @@ use Rattle.sl_ast.specs.Unfolding.{written}
 use Rattle.sl_ast.specs.Views.{head_of}
 use Rattle.sl_leaves.specs.Extents.{leaves_at}
 use Rattle.sl_leaves.specs.declared.leaves.Leaf as l
-use Rattle.sl_plan.specs.Fronts.{IsInside}
+use Rattle.sl_plan.specs.Settled.{IsInside}
 use Rattle.sl_plan.specs.Rights.{AreSteps}
 use Rattle.sl_plan.specs.Uses.{ReadAsBefore}
 use Rattle.sl_plan.specs.declared.open_blocks.OpenBlock.{OpenBlock}
@@ -24,11 +24,11 @@ leaves_of x = x.leaves.value.leaves.items
 abbrev pub front_of : List OpenBlock → List l.Leaf
 front_of blocks = flat_map leaves_of blocks
 
--- The steps of a block are right for all constructors inside for which the names that they use are as
+-- The steps of a block are right for all constructors inside for which its unsettled names are as
 -- before.
 abbrev pub IsRight : Tables → Head → List l.Leaf → OpenBlock → Type 0
 IsRight t h front x = (os : List Operand) (ls : List l.Leaf) → IsInside t front os ls
-    → ReadAsBefore t os ls x.used.items → AreSteps t os ls (written h.actions) x.steps
+    → ReadAsBefore t os ls x.unsettled.items → AreSteps t os ls (written h.actions) x.steps
 
 -- So are those of blocks inside others, where numbers tell heads.
 abbrev pub AreRightInside : Tables → (ℕ → Head) → List l.Leaf → List OpenBlock → Type 0
@@ -59,15 +59,15 @@ StandAlike some others = (lengths : List ℕ) → leaves_at lengths some ≡ lea
 abbrev pub numbers_of : List OpenBlock → List ℕ
 numbers_of blocks = map (λ x. x.number) blocks
 
--- The first blocks are those round a constructor, with patterns that are as they were, and the names
--- that their steps use are as before.
+-- The first blocks are those round a constructor, with patterns that are as they were, and their
+-- unsettled names are as before.
 pub record IsFront (t : Tables) (os : List Operand) (ls : List l.Leaf) (patterns : List l.Leaf)
     (blocks : List OpenBlock) (heads : List Around) (count : ℕ) : Type 0 where
   pub few : count ≤ length blocks
   pub there : count ≤ length heads
   pub numbers : numbers_of (take count blocks) ≡ map (λ a. a.number) (take count heads)
   pub alike : StandAlike (front_of (take count blocks)) patterns
-  pub used : AllByRecursion (λ x. ReadAsBefore t os ls x.used.items) (take count blocks)
+  pub unsettled : AllByRecursion (λ x. ReadAsBefore t os ls x.unsettled.items) (take count blocks)
 
 -- A block was opened inside others: its steps are those of its actions, and right.
 pub record IsOpened (t : Tables) (os : List Operand) (ls front its : List l.Leaf) (a : Around)
@@ -85,7 +85,8 @@ AreStepsOf t os ls (x ∷ xs) [] = ⊥
 AreStepsOf t os ls (x ∷ xs) (a ∷ heads) =
     AreSteps t os ls (written (head_of a.head.now).actions) x.steps × AreStepsOf t os ls xs heads
 
--- The blocks are those of these heads, right for a constructor, and stay right.
+-- The steps of the blocks are those of the first of these heads, for this constructor, and the blocks
+-- stay right; how many there are is open.
 pub record AreEntered (t : Tables) (os : List Operand) (ls : List l.Leaf) (heads : List Around)
     (old new : List OpenBlock) : Type 0 where
   pub steps : AreStepsOf t os ls new heads

@@ -11,7 +11,7 @@ use Rattle.sl_plan.specs.Rights.{AreAllSteps}
 use Rattle.sl_leaves.specs.Looks.{look_step}
 use Rattle.sl_plan.specs.Steps.{early_step, late_step}
 use Rattle.sl_leaves.specs.Wholes.{IsWhole}
-use Rattle.sl_plan.specs.declared.block_steps.ActionSteps.{ActionSteps}
+use Rattle.sl_plan.specs.declared.action_steps.ActionSteps.{ActionSteps}
 use Rattle.sl_plan.specs.declared.plans.Plan.{Plan}
 use Rattle.sl_plan.specs.declared.plans.Slot.{Slot}
 use Rattle.sl_leaves.specs.declared.whole.Whole.{Whole}

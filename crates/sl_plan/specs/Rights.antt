@@ -1,4 +1,4 @@
--- meaning: the steps of actions.
+-- step: the steps of actions.
 use Rattle.std.specs.Prelude.{◌≡◌, List}
 use Rattle.sl_ast.specs.Trees.{Action}
 use Rattle.sl_decoding.specs.Actions.{Changed, Own, act, tell}
@@ -6,7 +6,7 @@ use Rattle.sl_decoding.specs.Outcomes.{◌>>=◌, in_turn}
 use Rattle.sl_decoding.specs.Values.{Site}
 use Rattle.sl_leaves.specs.Extents.{leaves_at}
 use Rattle.sl_plan.specs.Steps.{early_step, late_step}
-use Rattle.sl_plan.specs.declared.block_steps.ActionSteps.{ActionSteps}
+use Rattle.sl_plan.specs.declared.action_steps.ActionSteps.{ActionSteps}
 use Rattle.sl_plan.specs.declared.shared.SharedSteps.{SharedSteps}
 use Rattle.sl_leaves.specs.declared.leaves.Leaf as l
 use Rattle.sl_spec.specs.Tables.{Operand}

@@ -1,4 +1,4 @@
--- meaning: the names that actions use, by which it is known for whom else their steps are right.
+-- step: the names that actions use, by which it is known for whom else their steps are right.
 use Rattle.std.specs.Prelude.{◌≡◌, ◌+◌, ℕ, ℤ, pos, List, Result, Ok, slice_get}
 use Rattle.std.specs.List.{AllByRecursion}
 use Rattle.sl_ast.specs.Trees.{Action, Expression}

@@ -1,7 +1,7 @@
 //! What the patterns and the actions of constructors come to at their nodes, made once.
 #![tactic(auto)]
 
-mod block_steps;
+mod action_steps;
 mod early;
 mod expressions;
 mod late;

@@ -1,10 +1,10 @@
-//! The blocks round a constructor, with the steps of their actions. They are made once for all
-//! constructors inside that stand one behind the other.
+//! The blocks round a constructor, with the steps of their actions, which are taken for the next
+//! constructors as long as they are right for them.
 
 ghost use Rattle.std.specs.Prelude.{◌≡◌, ◌≤◌, IfOk, IsTrue, OnOk, length, take};
 ghost use Rattle.sl_leaves.specs.Blocks.{ArePlain};
 ghost use Rattle.sl_leaves.specs.Joined.{all_leaves};
-ghost use Rattle.sl_plan.specs.Fronts.{IsInside};
+ghost use Rattle.sl_plan.specs.Settled.{IsInside};
 ghost use Rattle.sl_plan.specs.Open.{AreEntered, AreRightAnyway, AreRightFor, IsFront, IsOpened};
 ghost use Rattle.sl_plan.specs.Open.{StandAlike, leaves_of};
 
@@ -17,18 +17,18 @@ use std::alloc::{AllocError, Global};
 use std::marker::Model;
 use std::rc::Rc;
 
-/// A block with the steps of its actions, the names of its pattern for which they are right, and the
-/// names that they use and that aren't told by those.
+/// A block with the steps of its actions, the names of its pattern, and those names in its actions that
+/// the patterns up to its own don't settle.
 #[derive(Drop)]
 pub(crate) struct OpenBlock<'a> {
     pub number: u32,
     pub leaves: Rc<PatternLeaves<'a>>,
     pub steps: SharedSteps,
-    pub used: Vec<Used<'a>>,
+    pub unsettled: Vec<Used<'a>>,
 }
 
-/// The blocks round the constructor whose plan was made last. Contracts see the list of them, the
-/// outermost first.
+/// The blocks, as far as they have actions, round the last constructor for which they were entered.
+/// Contracts see the list of them, the outermost first.
 #[derive(Drop)]
 pub(crate) struct OpenBlocks<'a> {
     blocks: Vec<OpenBlock<'a>>,
@@ -49,15 +49,15 @@ impl<'a> Model for OpenBlocks<'a> {
 }
 
 /// Whether this block has that number, and its pattern the same names at the same places.
-fn is_that(block: &OpenBlock, head: &Around, its: &PatternLeaves) -> bool
-    ensures number { IsTrue result → block.now.number ≡ head.now.number }
+fn is_same_block(block: &OpenBlock, around: &Around, its: &PatternLeaves) -> bool
+    ensures number { IsTrue result → block.now.number ≡ around.now.number }
     ensures alike { IsTrue result → StandAlike (leaves_of block.now) its.now.leaves.items }
 {
-    block.number == head.number && block.leaves.has_same_places(its)
+    block.number == around.number && block.leaves.has_same_places(its)
 }
 
-/// The steps of a block's actions, with what is left of the names that they use. The patterns are
-/// those of the blocks round it and its own, `its`.
+/// A block with the steps of its actions. The patterns are those of the blocks round it and its own,
+/// `its`.
 fn opened<'a>(
     alloc: Global,
     t: &Tables,
@@ -80,7 +80,7 @@ fn opened<'a>(
         number: around.number,
         leaves: kept,
         steps,
-        used: left,
+        unsettled: left,
     })
 }
 
@@ -111,18 +111,18 @@ impl<'a> OpenBlocks<'a> {
         let most = blocks.len().min(heads.len()).min(patterns.len());
         'first: for index in 0..most {
             let block = &blocks[index];
-            if !is_that(block, &heads[index], &patterns[index]) {
+            if !is_same_block(block, &heads[index], &patterns[index]) {
                 return Ok(index);
             }
-            if !read_as_before(t, operands, leaves, block.used.as_slice())? {
+            if !read_as_before(t, operands, leaves, block.unsettled.as_slice())? {
                 return Ok(index);
             }
         }
         Ok(most)
     }
 
-    /// Leaves the blocks that aren't among these, or whose steps aren't right for a constructor with
-    /// these operands and this pattern, and makes the steps of the others of these.
+    /// Closes the blocks from the first one that isn't among `heads`, or isn't right for a constructor
+    /// with these operands and this pattern, and opens the rest of `heads`, with their steps.
     pub fn enter(
         &mut self,
         alloc: Global,

@@ -11,7 +11,7 @@ ghost use Rattle.sl_plan.specs.Open.{AreRightFor, StayRight};
 ghost use Rattle.sl_spec.specs.Numbers.{AreMadeFor, AreNumbered, KeepsMade};
 ghost use Rattle.sl_spec.specs.Unfolded.{all_placed, placed};
 
-use crate::block_steps::{ActionSteps, steps_among, steps_anew};
+use crate::action_steps::{ActionSteps, steps_among, steps_anew};
 use crate::early::Early;
 use crate::late::Late;
 use crate::open_blocks::OpenBlocks;
@@ -171,8 +171,8 @@ fn plan_among<'s, 'a>(
     Ok(plan)
 }
 
-/// The plans of all constructors of a text. The names of a block's pattern are gone over, and the
-/// steps of its actions are made, once for all constructors inside. The only error is want of memory.
+/// The plans of all constructors of a text. What was made of a block's pattern and of its actions is
+/// taken where it is right. The only error is want of memory.
 pub fn make_plans(
     alloc: Global,
     t: &Tables,

@@ -43,7 +43,7 @@ impl<T: Drop> Steps<T> {
         Ok(())
     }
 
-    /// The rows, none of which is empty.
+    /// The rows.
     pub fn rows(&self) -> &[Rc<Vec<T>>]
         ensures { all_steps result.now ≡ self.now }
     {

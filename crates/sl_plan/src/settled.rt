@@ -3,7 +3,7 @@
 ghost use Rattle.std.specs.Prelude.{◌≡◌, ℕ, List, IfOk, IsTrue, OnOk};
 ghost use Rattle.sl_leaves.specs.Extents.{extent};
 ghost use Rattle.sl_leaves.specs.Joined.{all_leaves};
-ghost use Rattle.sl_plan.specs.Fronts.{AreLeft, IsSettled, LeavesOne};
+ghost use Rattle.sl_plan.specs.Settled.{AreUnsettled, IsSettled, AddsUnsettled};
 
 use crate::uses::{Used, is_in_token};
 use sl_leaves::{PatternLeaves, again, first_in};
@@ -22,7 +22,7 @@ fn is_settled(t: &Tables, patterns: &[Rc<PatternLeaves>], name: &[u8]) -> bool
     }
 }
 
-/// The same once more.
+/// A copy of `x`.
 fn copy<'a>(x: &Used<'a>) -> Result<Used<'a>, AllocError>
     ensures name { IfOk result (λ r. r.name.now ≡ x.now.name.now) }
     ensures kind { IfOk result (λ r. r.kind ≡ x.now.kind) }
@@ -38,14 +38,14 @@ fn copy<'a>(x: &Used<'a>) -> Result<Used<'a>, AllocError>
 }
 
 /// Adds a name, unless it is settled.
-fn leave<'a>(
+fn add_unsettled<'a>(
     t: &Tables,
     patterns: &[Rc<PatternLeaves>],
     x: &Used<'a>,
     all: &mut Vec<Used<'a>>,
 ) -> Result<(), AllocError>
     ensures { OnOk result
-        (LeavesOne t.now (all_leaves patterns.now) x.now all.old.items all.new.items) }
+        (AddsUnsettled t.now (all_leaves patterns.now) x.now all.old.items all.new.items) }
 {
     if is_settled(t, patterns, x.name) {
         return Ok(());
@@ -62,11 +62,11 @@ pub(crate) fn unsettled<'a>(
     patterns: &[Rc<PatternLeaves>],
     used: &Named<'a, Used<'a>>,
 ) -> Result<Vec<Used<'a>>, AllocError>
-    ensures { IfOk result (λ left. AreLeft t.now (all_leaves patterns.now) used.now left.items) }
+    ensures { IfOk result (λ left. AreUnsettled t.now (all_leaves patterns.now) used.now left.items) }
 {
     let mut all = Vec::new(alloc);
     'used: for index in 0..used.len() {
-        leave(t, patterns, used.member(index), &mut all)?;
+        add_unsettled(t, patterns, used.member(index), &mut all)?;
     }
     Ok(all)
 }

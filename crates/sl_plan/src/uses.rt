@@ -57,7 +57,7 @@ fn has_place(t: &Tables, kind: Kind) -> bool
     }
 }
 
-/// The place at which a name is read, the front where it hangs on none.
+/// The place at which a name is read; 0 where what it gives hangs on none.
 fn place_read(
     t: &Tables,
     operands: &[Operand],
@@ -184,7 +184,7 @@ fn use_action<'a>(
     }
 }
 
-/// The names that actions use, each once. They stand here for what they are told to stand for.
+/// The names that actions use, each once, with what it stands for here and where it is read.
 pub(crate) fn uses_in<'a>(
     alloc: Global,
     t: &Tables,

@@ -15,7 +15,7 @@ returns c =
     let ls = c.args.leaves.now in
     let head = head_of c.args.around.head.now in
     let steps = c.in_ok-steps.steps in
-    let x : OpenBlock = record { number = c.args.around.number; leaves = c.in_ok-kept.kept; steps = steps; used = c.in_ok-left.left } in
+    let x : OpenBlock = record { number = c.args.around.number; leaves = c.in_ok-kept.kept; steps = steps; unsettled = c.in_ok-left.left } in
     record {
       number = refl;
       leaves = ap (λ (p : PatternLeaves). p.leaves.items) c.in_ok-kept.ensures.cases;

@@ -12,8 +12,8 @@ used-preserved c =
     let used = c.args.used.now in
     let i = c.used.index in
     let x = c.member.result.now in
-    one_gone_over c.args.t.now (all_leaves c.args.patterns.now) used c.used.all.items c.leave.new.all.items i x (subst (λ n. i < n) c.len-index-end.ensures c.used-test.true)
-    (sym (get_or_from_slice_get used i x x c.member.ensures)) c.in_ok-leave.ensures c.used.invariant
+    one_gone_over c.args.t.now (all_leaves c.args.patterns.now) used c.used.all.items c.add_unsettled.new.all.items i x (subst (λ n. i < n) c.len-index-end.ensures c.used-test.true)
+    (sym (get_or_from_slice_get used i x x c.member.ensures)) c.in_ok-add_unsettled.ensures c.used.invariant
 
 pub returns : goal.returns
 returns c =

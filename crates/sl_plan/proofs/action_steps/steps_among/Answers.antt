@@ -3,7 +3,7 @@ use Rattle.sl_plan.specs.Open.{AreStepsOf}
 use Rattle.sl_plan.specs.declared.open_blocks.OpenBlock.{OpenBlock}
 use Rattle.sl_plan.proofs.OpenLemmas.{steps_more}
 use Rattle.sl_spec.specs.declared.unfolded.Around.{Around}
-use Rattle.sl_plan.proofs.block_steps.steps_among.Goals as goal
+use Rattle.sl_plan.proofs.action_steps.steps_among.Goals as goal
 
 pub steps_of-requires : goal.steps_of-requires
 steps_of-requires c =

@@ -1,5 +1,5 @@
 use Rattle.std.proofs.Common.{◌≤◌, length}
-use Rattle.sl_plan.proofs.block_steps.acting.Given as goal
+use Rattle.sl_plan.proofs.action_steps.acting.Given as goal
 
 abbrev pub invariant-heads : goal.invariant-heads
 invariant-heads l = l.count ≤ length l.heads

@@ -4,7 +4,7 @@ use Rattle.sl_ast.specs.Unfolding.{written}
 use Rattle.sl_ast.specs.Views.{head_of}
 use Rattle.sl_plan.specs.Rights.{AreSteps}
 use Rattle.sl_plan.proofs.StepLemmas.{copy_right}
-use Rattle.sl_plan.proofs.block_steps.steps_in.Goals as goal
+use Rattle.sl_plan.proofs.action_steps.steps_in.Goals as goal
 
 pub returns-in_ok-steps-in-Some : goal.returns-in_ok-steps-in-Some
 returns-in_ok-steps-in-Some c =

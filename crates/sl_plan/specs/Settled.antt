@@ -1,4 +1,4 @@
--- meaning: what is the same in all constructors inside blocks.
+-- step: what is the same in all constructors inside blocks.
 use Rattle.std.specs.Prelude.{◌≡◌, ◌++◌, ℕ, List}
 use Rattle.sl_decoding.specs.Places.{Leaf}
 use Rattle.sl_leaves.specs.Blocks.{ArePlain}
@@ -14,8 +14,8 @@ abbrev pub BeginsWith : List l.Leaf → List l.Leaf → Type 0
 BeginsWith front ls = (rest : List ℕ → List Leaf)
     × ((lengths : List ℕ) → leaves_at lengths ls ≡ leaves_at lengths front ++ rest lengths)
 
--- Operands and the names of a pattern inside blocks whose patterns have these names: each operand
--- that is named like a field means it.
+-- A constructor inside blocks whose patterns have the names of the front: its operands that are named
+-- like fields mean them, and its pattern's names begin with those.
 abbrev pub IsInside : Tables → List l.Leaf → List Operand → List l.Leaf → Type 0
 IsInside t front os ls = ArePlain t os × BeginsWith front ls
 
@@ -25,15 +25,15 @@ IsSettled t front name = (os : List Operand) (ls : List l.Leaf) → IsInside t f
     → (those : List Operand) (ms : List l.Leaf) → IsInside t front those ms
     → IsSameName t os ls name those ms
 
--- One more name is left, unless it is settled.
-abbrev pub LeavesOne : Tables → List l.Leaf → Used → List Used → List Used → Type 0
-LeavesOne t front x old new = (os : List Operand) (ls : List l.Leaf) → IsInside t front os ls
+-- Where the new ones are as before, so are the old ones and the name: it was added, or is settled.
+abbrev pub AddsUnsettled : Tables → List l.Leaf → Used → List Used → List Used → Type 0
+AddsUnsettled t front x old new = (os : List Operand) (ls : List l.Leaf) → IsInside t front os ls
     → ReadsAsBefore t os ls x → (those : List Operand) (ms : List l.Leaf)
     → IsInside t front those ms → ReadAsBefore t those ms new
     → ReadAsBefore t those ms old × ReadsAsBefore t those ms x
 
--- Where the names that are left are as before, so are all of these.
-abbrev pub AreLeft : Tables → List l.Leaf → List Used → List Used → Type 0
-AreLeft t front used left = (os : List Operand) (ls : List l.Leaf) → IsInside t front os ls
+-- Where the unsettled names are as before, so are all of these.
+abbrev pub AreUnsettled : Tables → List l.Leaf → List Used → List Used → Type 0
+AreUnsettled t front used unsettled = (os : List Operand) (ls : List l.Leaf) → IsInside t front os ls
     → ReadAsBefore t os ls used → (those : List Operand) (ms : List l.Leaf)
-    → IsInside t front those ms → ReadAsBefore t those ms left → ReadAsBefore t those ms used
+    → IsInside t front those ms → ReadAsBefore t those ms unsettled → ReadAsBefore t those ms used

@@ -8,7 +8,7 @@ use Rattle.sl_plan.proofs.OpenLemmas.{steps_at}
 use Rattle.sl_plan.proofs.StepLemmas.{at_first, at_last, one_block}
 use Rattle.sl_spec.specs.Unfolded.{heads_of, under}
 use Rattle.sl_spec.specs.declared.unfolded.Around.{Around}
-use Rattle.sl_plan.proofs.block_steps.steps_of.Goals as goal
+use Rattle.sl_plan.proofs.action_steps.steps_of.Goals as goal
 
 pub heads-init : goal.heads-init
 heads-init c =

@@ -2,7 +2,7 @@ use Rattle.std.proofs.Common.{ap, sym, ◌∙◌}
 use Rattle.sl_ast.specs.Unfolding.{written}
 use Rattle.sl_ast.specs.Views.{actions_of, head_of}
 use Rattle.sl_plan.proofs.StepLemmas.{adds_none, adds_these, none_of}
-use Rattle.sl_plan.proofs.block_steps.add_block.Goals as goal
+use Rattle.sl_plan.proofs.action_steps.add_block.Goals as goal
 
 pub returns-then-is_empty : goal.returns-then-is_empty
 returns-then-is_empty c =

@@ -122,7 +122,7 @@ fn add_own(
 }
 
 /// The steps of the actions of a constructor with these operands and this pattern, those of the
-/// blocks round it before its own. Those of the outermost blocks are made.
+/// blocks round it before its own. `made` are the outermost blocks, with their steps.
 fn steps_of(
     alloc: Global,
     t: &Tables,
@@ -197,6 +197,7 @@ pub(crate) fn steps_among<'a>(
     let heads = of.heads.as_slice();
     let patterns = leaves.patterns();
     let count = acting(heads);
+    // (each block has a pattern, though no clause says so)
     if count > patterns.len() || !are_plain(t, operands) {
         let steps = steps_anew(alloc, t, operands, leaves, of)?;
         return Ok(steps);

@@ -6,7 +6,7 @@ use Rattle.sl_ast.specs.Views.{actions_of, constructor_of}
 use Rattle.sl_ast.specs.declared.patterns.Action as tree
 use Rattle.sl_plan.specs.Rights.{AreSteps}
 use Rattle.sl_plan.proofs.StepLemmas.{adds_these}
-use Rattle.sl_plan.proofs.block_steps.add_own.Goals as goal
+use Rattle.sl_plan.proofs.action_steps.add_own.Goals as goal
 
 pub returns : goal.returns
 returns c =
