@@ -499,7 +499,7 @@ KINDS = (
             head_actions, lambda n: ok(1, n)),
     Hostile("the same actions, listed", "of each", powers(500, 65535), "65,535, and 2,000,000 actions",
             listed_head_actions, lambda n: (DONE, "00000000: 00000000 o0\n"), LIST),
-    Hostile("constructors in 16 blocks of 127 constraints on fields that its action uses, listed", "constructors", powers(256, 65535), "65,535",
+    Hostile("constructors in 16 blocks of 127 constraints on fields that their actions use, listed", "constructors", powers(256, 65535), "65,535",
             listed_using_heads, lambda n: (DONE, "00000000: 00000000 o0\n"), LIST),
     Hostile("blocks of one constructor in 15 such blocks, listed", "blocks", powers(256, 65535), "65,535", listed_inner_heads,
             lambda n: (DONE, "00000000: 00000000 o0\n"), LIST),
