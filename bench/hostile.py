@@ -328,6 +328,19 @@ def listed_inner_heads(size):
     return {"s": using_heads(15) + lines + "}\n" * 15, "i": bytes(64)}
 
 
+def listed_outer_uses(size):
+    """So many constructors in fifteen blocks, each with a pattern of 127 constraints on fields of its own, all of which the actions of a block
+    round them use."""
+    each = 127
+    names = ["f%d" % n for n in range(each * 15)]
+    rows = [names[first:first + each] for first in range(0, len(names), each)]
+    front = SPACE % 4 + "define token c (32) code=(8,31) %s;\n" % " ".join("%s=(0,3)" % name for name in names)
+    outer = "with : [ %s ] {\n" % " ".join("n%d = %s;" % (n, " + ".join(row)) for n, row in enumerate(rows))
+    inner = "".join("with : %s {\n" % " & ".join("%s>=0" % name for name in row) for row in rows)
+    lines = "".join(":o%d is code=%d {}\n" % (n, n) for n in range(size))
+    return {"s": front + outer + inner + lines + "}\n" * 16, "i": bytes(64)}
+
+
 def wide_sets(size):
     """So many constructors of 1,024 cubes of which no two meet."""
     front = SPACE % 4 + "define token w (64) p=(0,7) q=(8,15) r=(16,31) code=(40,63);\n"
@@ -503,6 +516,8 @@ KINDS = (
             listed_using_heads, lambda n: (DONE, "00000000: 00000000 o0\n"), LIST),
     Hostile("blocks of one constructor in 15 such blocks, listed", "blocks", powers(256, 65535), "65,535", listed_inner_heads,
             lambda n: (DONE, "00000000: 00000000 o0\n"), LIST),
+    Hostile("constructors in 15 blocks of 127 constraints on fields that actions of a block round them use, listed", "constructors",
+            powers(256, 65535), "65,535", listed_outer_uses, lambda n: (DONE, "00000000: 00000000 o0\n"), LIST),
     Hostile("commits in a head at an address behind a table, and as many constructors, listed", "of each", powers(500, 65534), "65,534, and 900,000 commits",
             listed_far_commits, lambda n: (DONE, "00000000: 0000000000 o0\n"), LIST),
     Hostile("constructors of 1,024 cubes", "constructors", powers(64, 65535), "65,535", wide_sets, lambda n: ok(1, n)),
