@@ -341,6 +341,14 @@ def listed_outer_uses(size):
     return {"s": front + outer + inner + lines + "}\n" * 16, "i": bytes(64)}
 
 
+def listed_moved_uses(size):
+    """So many actions in the head of a block that use a field, and as many constructors inside, in each of which it stands elsewhere than in the one
+    before."""
+    front = MACHINE + "define register offset=0x40 size=4 c;\ndefine context c m=(0,7);\ndefine token w (32) code=(8,31) f=(0,3);\n"
+    lines = "".join(":o%d is code=%d %s f>=0 {}\n" % (n, n, ";&"[n % 2]) for n in range(size))
+    return {"s": front + "with : [ %s ] {\n" % ("m = f; " * size) + lines + "}\n", "i": bytes(64)}
+
+
 def wide_sets(size):
     """So many constructors of 1,024 cubes of which no two meet."""
     front = SPACE % 4 + "define token w (64) p=(0,7) q=(8,15) r=(16,31) code=(40,63);\n"
@@ -518,6 +526,8 @@ KINDS = (
             lambda n: (DONE, "00000000: 00000000 o0\n"), LIST),
     Hostile("constructors in 15 blocks of 127 constraints on fields that actions of a block round them use, listed", "constructors",
             powers(256, 65535), "65,535", listed_outer_uses, lambda n: (DONE, "00000000: 00000000 o0\n"), LIST),
+    Hostile("actions in a head that use a field, and as many constructors in which it stands now here and now there, listed", "of each", powers(256, 65535),
+            "65,535", listed_moved_uses, lambda n: (DONE, "00000000: 0000000000000000 o0\n"), LIST),
     Hostile("commits in a head at an address behind a table, and as many constructors, listed", "of each", powers(500, 65534), "65,534, and 900,000 commits",
             listed_far_commits, lambda n: (DONE, "00000000: 0000000000 o0\n"), LIST),
     Hostile("constructors of 1,024 cubes", "constructors", powers(64, 65535), "65,535", wide_sets, lambda n: ok(1, n)),

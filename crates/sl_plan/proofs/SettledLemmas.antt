@@ -1,6 +1,6 @@
 -- Names that are settled inside blocks, and those that are left.
-use Rattle.std.proofs.Common.{◌≡◌, ℕ, ◌+◌, zero, suc, ◌<◌, ◌≤◌, true, List, [], ◌∷◌, ◌++◌, length, get_or, Option, None, Some, sym, ap, subst, ◌∙◌, arith}
-use Rattle.std.specs.List.{AllByRecursion}
+use Rattle.std.proofs.Common.{◌≡◌, ℕ, ◌+◌, ◌<◌, ◌≤◌, true, List, [], ◌∷◌, ◌++◌, length, get_or, take, Option, None, Some, sym, ap, subst, ◌∙◌}
+use Rattle.std.proofs.lemmas.List.{take_all, take_more}
 use Rattle.std.specs.Option.{option_map, option_or}
 use Rattle.std.specs.Prelude.{is_some}
 use denote.Ref.{Bor}
@@ -13,12 +13,12 @@ use Rattle.sl_leaves.specs.Extents.{extent, leaves_at}
 use Rattle.sl_leaves.specs.declared.extents.Extent.{Extent}
 use Rattle.sl_leaves.specs.declared.leaves.Leaf as l
 use Rattle.sl_leaves.proofs.LeafLemmas.{first_append}
-use Rattle.sl_leaves.proofs.TiedLemmas.{IsLeft, all_but_last, kind_plain, none_left, one_less}
-use Rattle.sl_plan.specs.Settled.{AreUnsettled, BeginsWith, IsInside, IsSettled, AddsUnsettled}
-use Rattle.sl_plan.specs.Uses.{ReadAsBefore, ReadsAsBefore, read_at}
+use Rattle.sl_leaves.proofs.TiedLemmas.{all_but_last, all_push, kind_plain}
+use Rattle.sl_plan.specs.Settled.{AddsUnsettled, BeginsWith, IsSettled}
+use Rattle.sl_plan.specs.Uses.{IsSameName, ReadAsBefore, ReadsAsBefore, read_at}
 use Rattle.sl_plan.specs.declared.uses.Used.{Used}
-use Rattle.sl_plan.proofs.UseLemmas.{read_as, read_there}
-use Rattle.sl_spec.specs.Named.{index_named}
+use Rattle.sl_plan.proofs.UseLemmas.{read_as, read_there, uses_found}
+use Rattle.sl_spec.specs.Named.{has_name, index_named}
 use Rattle.sl_spec.specs.Tables.{Name, Operand}
 use Rattle.sl_spec.specs.declared.tables.Tables.{Tables}
 
@@ -58,38 +58,65 @@ module _ (t : Tables) (front : List l.Leaf) (name : Name) (id : ℕ) (is : index
 
 -- ---- names that are left
 
-all_at : {X : Type 0} (P : X → Type 0) (xs : List X) (i : ℕ) (x : X) → i < length xs → x ≡ get_or xs i x → AllByRecursion P xs → P x
-all_at P [] i x below is all = absurd (omega arith)
-all_at P (y ∷ ys) zero x below is all = subst P (sym is) all.0
-all_at P (y ∷ ys) (suc i) x below is all = all_at P ys i x (omega arith) is all.1
+pub took_more : {X : Type 0} (xs : List X) (i : ℕ) (x : X) → i < length xs → x ≡ get_or xs i x → take (i + 1) xs ≡ take i xs ++ x ∷ []
+took_more xs i x below at = take_more xs i x below ∙ ap (λ z. take i xs ++ z ∷ []) (sym at)
+
+-- what reads as before, where its name stands for the same and gives the same
+reads_too : (t : Tables) (os those : List Operand) (ls ms : List l.Leaf) (x : Used) → IsSameName t os ls x.name.now those ms → ReadsAsBefore t os ls x
+    → ReadsAsBefore t those ms x
+reads_too t os those ls ms x same before = (sym same.0 ∙ before.0, λ s. sym (same.1 s) ∙ before.1 s)
 
 module _ (t : Tables) (front : List l.Leaf) where
-  pub settled_added : (x : Used) (old : List Used) → IsSettled t front x.name.now → AddsUnsettled t front x old old
-  settled_added x old settled = λ os ls inside reads those ms into stand.
-      let same = settled os ls inside those ms into in
-      (stand, (sym same.0 ∙ reads.0, λ s. sym (same.1 s) ∙ reads.1 s))
+  pub settled_added : (x : Used) (old : List Used) → IsSettled t front x.name.now → AddsUnsettled t front (x ∷ []) old old
+  settled_added x old settled = λ os ls inside before its. (
+    before,
+    λ those ms into stand. (stand, (reads_too t os those ls ms x (settled os ls inside those ms into) its.0, tt)),
+  )
+
+  pub there_added : (x : Used) (old : List Used) → has_name (λ y. y.name.now) x.name.now old ≡ true → AddsUnsettled t front (x ∷ []) old old
+  there_added x old has = λ os ls inside before its.
+      let uses = uses_found t os ls x.name.now old has before in (
+        before,
+        λ those ms into stand. (stand, (reads_too t os those ls ms x (uses.holds those ms stand).1 its.0, tt)),
+      )
 
   pub unsettled_added : (x y : Used) (old new : List Used) → new ≡ old ++ y ∷ [] → y.name.now ≡ x.name.now → y.kind ≡ x.kind
-      → ((lengths : List ℕ) → extent y.place lengths ≡ extent x.place lengths) → AddsUnsettled t front x old new
-  unsettled_added x y old new added named kind place = λ os ls inside reads those ms into stand.
-      let parts = all_but_last (ReadsAsBefore t those ms) old y (subst (ReadAsBefore t those ms) added stand) in
-      (parts.0, read_as t those ms y x named parts.1 kind place)
+      → ((lengths : List ℕ) → extent y.place lengths ≡ extent x.place lengths) → AddsUnsettled t front (x ∷ []) old new
+  unsettled_added x y old new added named kind place = λ os ls inside before its. (
+    subst (ReadAsBefore t os ls) (sym added)
+        (all_push (ReadsAsBefore t os ls) old y before (read_as t os ls x y (sym named) its.0 (sym kind) (λ lengths. sym (place lengths)))),
+    λ those ms into stand.
+        let parts = all_but_last (ReadsAsBefore t those ms) old y (subst (ReadAsBefore t those ms) added stand) in
+        (parts.0, (read_as t those ms y x named parts.1 kind place, tt)),
+  )
 
-  -- Those that were gone over are as before where the ones that are left so far are.
-  abbrev pub AreUnsettledSoFar : List Used → List Used → ℕ → Type 0
-  AreUnsettledSoFar used left i = (os : List Operand) (ls : List l.Leaf) → IsInside t front os ls → ReadAsBefore t os ls used
-      → (those : List Operand) (ms : List l.Leaf) → IsInside t front those ms → ReadAsBefore t those ms left
-      → IsLeft (ReadsAsBefore t those ms) used (ReadAsBefore t those ms used) i
+  -- ---- one by one
 
-  pub none_gone_over : (used left : List Used) → AreUnsettledSoFar used left 0
-  none_gone_over used left = λ os ls inside before those ms into stand all. all
+  pub none_added : (all : List Used) → AddsUnsettled t front [] all all
+  none_added all = λ os ls inside before its. (before, λ those ms into stand. (stand, tt))
 
-  pub one_gone_over : (used old new : List Used) (i : ℕ) (x : Used) → i < length used → x ≡ get_or used i x → AddsUnsettled t front x old new
-      → AreUnsettledSoFar used old i → AreUnsettledSoFar used new (i + 1)
-  one_gone_over used old new i x below is one so_far = λ os ls inside before those ms into stand.
-      let both = one os ls inside (all_at (ReadsAsBefore t os ls) used i x below is before) those ms into stand in
-      one_less (ReadsAsBefore t those ms) used (ReadAsBefore t those ms used) i x below is both.1 (so_far os ls inside before those ms into both.0)
+  pub one_added : (used old now new : List Used) (i : ℕ) (x : Used) → i < length used → x ≡ get_or used i x → AddsUnsettled t front (x ∷ []) now new
+      → AddsUnsettled t front (take i used) old now → AddsUnsettled t front (take (i + 1) used) old new
+  one_added used old now new i x below at one so_far = λ os ls inside before its.
+      let cut = took_more used i x below at in
+      let these = all_but_last (ReadsAsBefore t os ls) (take i used) x (subst (ReadAsBefore t os ls) cut its) in
+      let first = so_far os ls inside before these.0 in
+      let then = one os ls inside first.0 (these.1, tt) in (
+        then.0,
+        λ those ms into stand.
+            let inner = then.1 those ms into stand in
+            let outer = first.1 those ms into inner.0 in
+            (outer.0, subst (ReadAsBefore t those ms) (sym cut) (all_push (ReadsAsBefore t those ms) (take i used) x outer.1 inner.1.0)),
+      )
 
-  pub all_gone_over : (used left : List Used) (i : ℕ) → length used ≤ i → AreUnsettledSoFar used left i → AreUnsettled t front used left
-  all_gone_over used left i end so_far = λ os ls inside before those ms into stand.
-      none_left (ReadsAsBefore t those ms) used (ReadAsBefore t those ms used) i end (so_far os ls inside before those ms into stand)
+  pub all_added : (used old new : List Used) (i : ℕ) → length used ≤ i → AddsUnsettled t front (take i used) old new → AddsUnsettled t front used old new
+  all_added used old new i end so_far = subst (λ (xs : List Used). AddsUnsettled t front xs old new) (take_all i used end) so_far
+
+  -- what is left of some, and then more
+  pub both_added : (some used mid new : List Used) → AddsUnsettled t front some [] mid → AddsUnsettled t front used mid new → AddsUnsettled t front used some new
+  both_added some used mid new one more = λ os ls inside before its.
+      let first = one os ls inside tt before in
+      let then = more os ls inside first.0 its in (
+        then.0,
+        λ those ms into stand. let inner = then.1 those ms into stand in ((first.1 those ms into inner.0).1, inner.1),
+      )

@@ -4,7 +4,7 @@ use Rattle.sl_decoding.specs.Places.{Leaf}
 use Rattle.sl_leaves.specs.Blocks.{ArePlain}
 use Rattle.sl_leaves.specs.Extents.{leaves_at}
 use Rattle.sl_leaves.specs.declared.leaves.Leaf as l
-use Rattle.sl_plan.specs.Uses.{IsSameName, ReadAsBefore, ReadsAsBefore}
+use Rattle.sl_plan.specs.Uses.{IsSameName, ReadAsBefore}
 use Rattle.sl_plan.specs.declared.uses.Used.{Used}
 use Rattle.sl_spec.specs.Tables.{Name, Operand}
 use Rattle.sl_spec.specs.declared.tables.Tables.{Tables}
@@ -25,15 +25,10 @@ IsSettled t front name = (os : List Operand) (ls : List l.Leaf) → IsInside t f
     → (those : List Operand) (ms : List l.Leaf) → IsInside t front those ms
     → IsSameName t os ls name those ms
 
--- Where the new ones are as before, so are the old ones and the name: it was added, or is settled.
-abbrev pub AddsUnsettled : Tables → List l.Leaf → Used → List Used → List Used → Type 0
-AddsUnsettled t front x old new = (os : List Operand) (ls : List l.Leaf) → IsInside t front os ls
-    → ReadsAsBefore t os ls x → (those : List Operand) (ms : List l.Leaf)
-    → IsInside t front those ms → ReadAsBefore t those ms new
-    → ReadAsBefore t those ms old × ReadsAsBefore t those ms x
-
--- Where the unsettled names are as before, so are all of these.
-abbrev pub AreUnsettled : Tables → List l.Leaf → List Used → List Used → Type 0
-AreUnsettled t front used unsettled = (os : List Operand) (ls : List l.Leaf) → IsInside t front os ls
-    → ReadAsBefore t os ls used → (those : List Operand) (ms : List l.Leaf)
-    → IsInside t front those ms → ReadAsBefore t those ms unsettled → ReadAsBefore t those ms used
+-- The new names are the old ones and what isn't settled of these: where the old ones and these are as
+-- before, so are the new ones, and inside these blocks the other way round too.
+abbrev pub AddsUnsettled : Tables → List l.Leaf → List Used → List Used → List Used → Type 0
+AddsUnsettled t front used old new = (os : List Operand) (ls : List l.Leaf) → IsInside t front os ls
+    → ReadAsBefore t os ls old → ReadAsBefore t os ls used → ReadAsBefore t os ls new
+    × ((those : List Operand) (ms : List l.Leaf) → IsInside t front those ms
+    → ReadAsBefore t those ms new → ReadAsBefore t those ms old × ReadAsBefore t those ms used)

@@ -1,6 +1,6 @@
 //! The steps of all actions of a constructor.
 
-ghost use Rattle.std.specs.Prelude.{◌≡◌, ◌≤◌, ◌++◌, [], IfOk, IfSome, OnOk, length, option_copied};
+ghost use Rattle.std.specs.Prelude.{◌≡◌, ◌++◌, [], IfOk, IfSome, OnOk, option_copied};
 ghost use Rattle.std.specs.Prelude.{slice_get};
 ghost use Rattle.sl_ast.specs.Unfolding.{written};
 ghost use Rattle.sl_ast.specs.Views.{constructor_of, head_of};
@@ -166,17 +166,11 @@ pub(crate) fn steps_anew(
     steps_of(alloc, t, operands, leaves, of, &[])
 }
 
-/// How many blocks there are up to the innermost one that has actions.
-fn acting(heads: &[Around]) -> usize
-    ensures { result ≤ length heads.now }
-{
-    let mut count = 0;
-    'heads: for index in 0..heads.len() {
-        if !actions_in(heads[index].head).is_empty() {
-            count = index + 1;
-        }
-    }
-    count
+/// Whether a block has actions.
+fn have_actions(heads: &[Around]) -> bool {
+    heads
+        .iter()
+        .any(|around| !actions_in(around.head).is_empty())
 }
 
 /// The same, where the steps of blocks are taken as far as they are right for this constructor.
@@ -196,13 +190,12 @@ pub(crate) fn steps_among<'a>(
 {
     let heads = of.heads.as_slice();
     let patterns = leaves.patterns();
-    let count = acting(heads);
     // (each block has a pattern, though no clause says so)
-    if count > patterns.len() || !are_plain(t, operands) {
+    if heads.len() > patterns.len() || !have_actions(heads) || !are_plain(t, operands) {
         let steps = steps_anew(alloc, t, operands, leaves, of)?;
         return Ok(steps);
     }
-    around.enter(alloc, t, operands, leaves, patterns, &heads[..count])?;
+    around.enter(alloc, t, operands, leaves, patterns, heads)?;
     let steps = steps_of(alloc, t, operands, leaves, of, around.open_blocks())?;
     Ok(steps)
 }

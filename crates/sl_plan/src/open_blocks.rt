@@ -1,34 +1,35 @@
 //! The blocks round a constructor, with the steps of their actions, which are taken for the next
 //! constructors as long as they are right for them.
 
-ghost use Rattle.std.specs.Prelude.{◌≡◌, ◌≤◌, IfOk, IsTrue, OnOk, length, take};
+ghost use Rattle.std.specs.Prelude.{◌≡◌, ◌≤◌, ℕ, IfOk, IsTrue, OnOk, length, option_copied, take};
 ghost use Rattle.sl_leaves.specs.Blocks.{ArePlain};
 ghost use Rattle.sl_leaves.specs.Joined.{all_leaves};
-ghost use Rattle.sl_plan.specs.Settled.{IsInside};
-ghost use Rattle.sl_plan.specs.Open.{AreEntered, AreRightAnyway, AreRightFor, IsFront, IsOpened};
-ghost use Rattle.sl_plan.specs.Open.{StandAlike, leaves_of};
+ghost use Rattle.sl_plan.specs.Settled.{AddsUnsettled, IsInside};
+ghost use Rattle.sl_plan.specs.Open.{AreCommon, AreEntered, AreRightAnyway, AreRightFor, IsFront};
+ghost use Rattle.sl_plan.specs.Open.{IsOpened, StandAlike, leaves_of, unsettled_of};
+ghost use Rattle.sl_plan.specs.Uses.{ReadAsBefore};
 
-use crate::settled::unsettled;
+use crate::settled::add_unsettled;
 use crate::shared::{SharedSteps, actions_in, fresh};
 use crate::uses::{Used, read_as_before, uses_in};
 use sl_leaves::{JoinedLeaves, PatternLeaves};
-use sl_spec::{Around, Operand, Tables};
+use sl_spec::{Around, Named, Operand, Tables};
 use std::alloc::{AllocError, Global};
 use std::marker::Model;
 use std::rc::Rc;
 
-/// A block with the steps of its actions, the names of its pattern, and those names in its actions that
-/// the patterns up to its own don't settle.
+/// A block with the steps of its actions, the names of its pattern, and those names in its actions,
+/// and in those of the blocks round it, that the patterns up to its own don't settle.
 #[derive(Drop)]
 pub(crate) struct OpenBlock<'a> {
     pub number: u32,
     pub leaves: Rc<PatternLeaves<'a>>,
     pub steps: SharedSteps,
-    pub unsettled: Vec<Used<'a>>,
+    pub unsettled: Named<'a, Used<'a>>,
 }
 
-/// The blocks, as far as they have actions, round the last constructor for which they were entered.
-/// Contracts see the list of them, the outermost first.
+/// The blocks round the last constructor for which they were entered. Contracts see the list of them,
+/// the outermost first.
 #[derive(Drop)]
 pub(crate) struct OpenBlocks<'a> {
     blocks: Vec<OpenBlock<'a>>,
@@ -56,8 +57,43 @@ fn is_same_block(block: &OpenBlock, around: &Around, its: &PatternLeaves) -> boo
     block.number == around.number && block.leaves.has_same_places(its)
 }
 
-/// A block with the steps of its actions. The patterns are those of the blocks round it and its own,
-/// `its`.
+/// Adds the names that the block outside leaves, if there is one, without those that are settled inside
+/// blocks with these patterns.
+fn add_outer<'a>(
+    t: &Tables,
+    patterns: &[Rc<PatternLeaves>],
+    outer: Option<&OpenBlock<'a>>,
+    all: &mut Named<'a, Used<'a>>,
+) -> Result<(), AllocError>
+    ensures { OnOk result (AddsUnsettled t.now (all_leaves patterns.now)
+        (unsettled_of (option_copied outer.entry)) all.old all.new) }
+{
+    match outer {
+        Some(block) => add_unsettled(t, patterns, &block.unsettled, all),
+        None => Ok(()),
+    }
+}
+
+/// The names that aren't settled inside blocks with these patterns: those that the block outside
+/// leaves, and of those that actions use.
+fn unsettled_in<'a>(
+    alloc: Global,
+    t: &Tables,
+    patterns: &[Rc<PatternLeaves>],
+    outer: Option<&OpenBlock<'a>>,
+    used: &Named<'a, Used<'a>>,
+) -> Result<Named<'a, Used<'a>>, AllocError>
+    ensures { IfOk result (AddsUnsettled t.now (all_leaves patterns.now) used.now
+        (unsettled_of (option_copied outer.entry))) }
+{
+    let mut all = Named::new(alloc);
+    add_outer(t, patterns, outer, &mut all)?;
+    add_unsettled(t, patterns, used, &mut all)?;
+    Ok(all)
+}
+
+/// A block with the steps of its actions, inside another one, if there is one. The patterns are those
+/// of the blocks round it and its own, `its`.
 fn opened<'a>(
     alloc: Global,
     t: &Tables,
@@ -66,21 +102,24 @@ fn opened<'a>(
     patterns: &[Rc<PatternLeaves>],
     its: &Rc<PatternLeaves<'a>>,
     around: Around<'_, 'a>,
+    outer: Option<&OpenBlock<'a>>,
 ) -> Result<OpenBlock<'a>, AllocError>
-    requires { IsInside t.now (all_leaves patterns.now) operands.now leaves.now }
+    requires inside { IsInside t.now (all_leaves patterns.now) operands.now leaves.now }
+    requires unsettled { ReadAsBefore t.now operands.now leaves.now
+        (unsettled_of (option_copied outer)) }
     ensures { IfOk result (IsOpened t.now operands.now leaves.now (all_leaves patterns.now)
-        its.now.value.leaves.items around.entry) }
+        its.now.value.leaves.items (unsettled_of (option_copied outer.entry)) around.entry) }
 {
     let actions = actions_in(around.head);
     let steps = fresh(alloc, t, operands, leaves, actions)?;
     let used = uses_in(alloc, t, operands, leaves, actions)?;
-    let left = unsettled(alloc, t, patterns, &used)?;
+    let unsettled = unsettled_in(alloc, t, patterns, outer, &used)?;
     let kept = its.clone()?;
     Ok(OpenBlock {
         number: around.number,
         leaves: kept,
         steps,
-        unsettled: left,
+        unsettled,
     })
 }
 
@@ -94,8 +133,22 @@ impl<'a> OpenBlocks<'a> {
         }
     }
 
-    /// How many of the blocks are those round a constructor with this pattern, the outermost first,
-    /// and have steps that are right for it.
+    /// How many of the blocks are those round a constructor with these patterns, the outermost first.
+    fn common(&self, patterns: &[Rc<PatternLeaves>], heads: &[Around]) -> usize
+        ensures { (count : ℕ) → count ≤ result
+            → AreCommon (all_leaves (take count patterns.now)) self.now heads.now count }
+    {
+        let blocks = self.blocks.as_slice();
+        let most = blocks.len().min(heads.len()).min(patterns.len());
+        'first: for index in 0..most {
+            if !is_same_block(&blocks[index], &heads[index], &patterns[index]) {
+                return index;
+            }
+        }
+        most
+    }
+
+    /// How many of those have steps that are right for it.
     fn front(
         &self,
         t: &Tables,
@@ -108,17 +161,14 @@ impl<'a> OpenBlocks<'a> {
             (all_leaves (take count patterns.now)) self.now heads.now count) }
     {
         let blocks = self.blocks.as_slice();
-        let most = blocks.len().min(heads.len()).min(patterns.len());
-        'first: for index in 0..most {
-            let block = &blocks[index];
-            if !is_same_block(block, &heads[index], &patterns[index]) {
-                return Ok(index);
-            }
-            if !read_as_before(t, operands, leaves, block.unsettled.as_slice())? {
-                return Ok(index);
+        let common = self.common(patterns, heads);
+        'inner: for index in 0..common {
+            let last = common - index - 1;
+            if read_as_before(t, operands, leaves, &blocks[last].unsettled)? {
+                return Ok(last + 1);
             }
         }
-        Ok(most)
+        Ok(0)
     }
 
     /// Closes the blocks from the first one that isn't among `heads`, or isn't right for a constructor
@@ -144,7 +194,8 @@ impl<'a> OpenBlocks<'a> {
         'inside: for index in front..heads.len() {
             let round = &patterns[..index + 1];
             let its = &patterns[index];
-            let block = opened(alloc, t, operands, leaves, round, its, heads[index])?;
+            let outer = self.blocks.last();
+            let block = opened(alloc, t, operands, leaves, round, its, heads[index], outer)?;
             self.blocks.push(block)?;
         }
         Ok(())

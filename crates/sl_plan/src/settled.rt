@@ -1,14 +1,14 @@
 //! The names that stand for the same, and give the same, in all constructors inside blocks.
 
-ghost use Rattle.std.specs.Prelude.{◌≡◌, ℕ, List, IfOk, IsTrue, OnOk};
+ghost use Rattle.std.specs.Prelude.{◌≡◌, ◌∷◌, [], ℕ, List, IfOk, IsTrue, OnOk};
 ghost use Rattle.sl_leaves.specs.Extents.{extent};
 ghost use Rattle.sl_leaves.specs.Joined.{all_leaves};
-ghost use Rattle.sl_plan.specs.Settled.{AreUnsettled, IsSettled, AddsUnsettled};
+ghost use Rattle.sl_plan.specs.Settled.{AddsUnsettled, IsSettled};
 
 use crate::uses::{Used, is_in_token};
 use sl_leaves::{PatternLeaves, again, first_in};
 use sl_spec::{Named, Tables};
-use std::alloc::{AllocError, Global};
+use std::alloc::AllocError;
 use std::rc::Rc;
 
 /// Whether a name is that of a field which is read at the same place inside blocks with these
@@ -37,36 +37,39 @@ fn copy<'a>(x: &Used<'a>) -> Result<Used<'a>, AllocError>
     })
 }
 
-/// Adds a name, unless it is settled.
-fn add_unsettled<'a>(
+/// Adds a name, unless it is settled or there.
+fn add_name<'a>(
     t: &Tables,
     patterns: &[Rc<PatternLeaves>],
     x: &Used<'a>,
-    all: &mut Vec<Used<'a>>,
+    all: &mut Named<'a, Used<'a>>,
 ) -> Result<(), AllocError>
     ensures { OnOk result
-        (AddsUnsettled t.now (all_leaves patterns.now) x.now all.old.items all.new.items) }
+        (AddsUnsettled t.now (all_leaves patterns.now) (x.now ∷ []) all.old all.new) }
 {
     if is_settled(t, patterns, x.name) {
         return Ok(());
     }
+    if all.has(x.name) {
+        return Ok(());
+    }
     let left = copy(x)?;
-    all.push(left)?;
+    all.add(x.name, left)?;
     Ok(())
 }
 
-/// Those of the names that aren't settled inside blocks with these patterns.
-pub(crate) fn unsettled<'a>(
-    alloc: Global,
+/// Adds those of the names that aren't settled inside blocks with these patterns.
+pub(crate) fn add_unsettled<'a>(
     t: &Tables,
     patterns: &[Rc<PatternLeaves>],
     used: &Named<'a, Used<'a>>,
-) -> Result<Vec<Used<'a>>, AllocError>
-    ensures { IfOk result (λ left. AreUnsettled t.now (all_leaves patterns.now) used.now left.items) }
+    all: &mut Named<'a, Used<'a>>,
+) -> Result<(), AllocError>
+    ensures { OnOk result
+        (AddsUnsettled t.now (all_leaves patterns.now) used.now all.old all.new) }
 {
-    let mut all = Vec::new(alloc);
     'used: for index in 0..used.len() {
-        add_unsettled(t, patterns, used.member(index), &mut all)?;
+        add_name(t, patterns, used.member(index), all)?;
     }
-    Ok(all)
+    Ok(())
 }

@@ -231,13 +231,13 @@ pub(crate) fn read_as_before(
     t: &Tables,
     operands: &[Operand],
     leaves: &JoinedLeaves,
-    used: &[Used],
+    used: &Named<Used>,
 ) -> Result<bool, AllocError>
     ensures { IfOk result (λ same. IsTrue same
         → ReadAsBefore t.now operands.now leaves.now used.now) }
 {
     'used: for index in 0..used.len() {
-        if !reads_as_before(t, operands, leaves, &used[index])? {
+        if !reads_as_before(t, operands, leaves, used.member(index))? {
             return Ok(false);
         }
     }

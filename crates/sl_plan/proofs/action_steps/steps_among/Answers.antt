@@ -1,7 +1,6 @@
 use Rattle.std.proofs.Common.{List, subst, sym}
 use Rattle.sl_plan.specs.Open.{AreStepsOf}
 use Rattle.sl_plan.specs.declared.open_blocks.OpenBlock.{OpenBlock}
-use Rattle.sl_plan.proofs.OpenLemmas.{steps_more}
 use Rattle.sl_spec.specs.declared.unfolded.Around.{Around}
 use Rattle.sl_plan.proofs.action_steps.steps_among.Goals as goal
 
@@ -10,7 +9,5 @@ steps_of-requires c =
     let t = c.args.t.now in
     let os = c.args.operands.now in
     let ls = c.args.leaves.now in
-    let heads = c.as_slice-heads.result.now in
     subst (λ (xs : List OpenBlock). AreStepsOf t os ls xs c.args.of.now.heads.items) (sym c.open_blocks.ensures)
-    (subst (λ (as' : List Around). AreStepsOf t os ls c.enter.new.self as') c.as_slice-heads.ensures.value
-    (steps_more t os ls heads c.acting-count.result c.enter.new.self c.in_ok-enter.ensures.steps))
+    (subst (λ (as' : List Around). AreStepsOf t os ls c.enter.new.self as') c.as_slice-heads.ensures.value c.in_ok-enter.ensures.steps)

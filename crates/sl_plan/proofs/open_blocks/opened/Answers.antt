@@ -1,8 +1,10 @@
 use Rattle.std.proofs.Common.{List, refl, ap, subst}
+use Rattle.std.specs.Option.{option_copied}
 use Rattle.sl_ast.specs.Trees.{Action}
 use Rattle.sl_ast.specs.Views.{head_of}
 use Rattle.sl_leaves.specs.Joined.{all_leaves}
 use Rattle.sl_leaves.specs.declared.pattern_leaves.PatternLeaves.{PatternLeaves}
+use Rattle.sl_plan.specs.Open.{unsettled_of}
 use Rattle.sl_plan.specs.Rights.{AreSteps}
 use Rattle.sl_plan.specs.declared.open_blocks.OpenBlock.{OpenBlock}
 use Rattle.sl_plan.proofs.OpenLemmas.{opened_right}
@@ -15,11 +17,14 @@ returns c =
     let ls = c.args.leaves.now in
     let head = head_of c.args.around.head.now in
     let steps = c.in_ok-steps.steps in
-    let x : OpenBlock = record { number = c.args.around.number; leaves = c.in_ok-kept.kept; steps = steps; unsettled = c.in_ok-left.left } in
+    let outer = unsettled_of (option_copied c.args.outer) in
+    let before = c.in_ok-used.ensures.before in
+    let x : OpenBlock = record { number = c.args.around.number; leaves = c.in_ok-kept.kept; steps = steps; unsettled = c.in_ok-unsettled.unsettled } in
     record {
       number = refl;
       leaves = ap (λ (p : PatternLeaves). p.leaves.items) c.in_ok-kept.ensures.cases;
       steps = subst (λ (as' : List Action). AreSteps t os ls as' steps) c.actions_in-actions.ensures c.in_ok-steps.ensures;
-      right = opened_right t os ls (all_leaves c.args.patterns.now) head c.actions_in-actions.result.now steps c.in_ok-used.used x c.actions_in-actions.ensures refl c.in_ok-steps.ensures
-          c.requires c.in_ok-used.ensures.before c.in_ok-used.ensures.uses c.in_ok-left.ensures;
+      unsettled = (c.in_ok-unsettled.ensures os ls c.requires.inside c.requires.unsettled before).0;
+      right = opened_right t os ls (all_leaves c.args.patterns.now) head c.actions_in-actions.result.now steps outer c.in_ok-used.used x c.actions_in-actions.ensures refl
+          c.in_ok-steps.ensures c.requires.inside c.requires.unsettled before c.in_ok-used.ensures.uses c.in_ok-unsettled.ensures;
     }

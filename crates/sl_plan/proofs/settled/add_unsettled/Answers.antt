@@ -1,12 +1,21 @@
+use Rattle.std.proofs.Common.{◌<◌, ◌≤◌, sym, subst}
+use Rattle.std.proofs.lemmas.Option.{get_or_from_slice_get}
 use Rattle.sl_leaves.specs.Joined.{all_leaves}
-use Rattle.sl_plan.proofs.SettledLemmas.{unsettled_added, settled_added}
+use Rattle.sl_plan.proofs.SettledLemmas.{all_added, none_added, one_added}
 use Rattle.sl_plan.proofs.settled.add_unsettled.Goals as goal
 
-pub returns-then-is_settled : goal.returns-then-is_settled
-returns-then-is_settled c =
-    settled_added c.args.t.now (all_leaves c.args.patterns.now) c.args.x.now c.args.all.now.items (c.is_settled.ensures c.if-is_settled.true)
+pub used-init : goal.used-init
+used-init c = none_added c.args.t.now (all_leaves c.args.patterns.now) c.args.all.now
+
+pub used-preserved : goal.used-preserved
+used-preserved c =
+    let used = c.args.used.now in
+    let i = c.used.index in
+    let x = c.member.result.now in
+    one_added c.args.t.now (all_leaves c.args.patterns.now) used c.args.all.now c.used.all c.add_name.new.all i x (subst (λ n. i < n) c.len-index-end.ensures c.used-test.true)
+    (sym (get_or_from_slice_get used i x x c.member.ensures)) c.in_ok-add_name.ensures c.used.invariant
 
 pub returns : goal.returns
 returns c =
-    unsettled_added c.args.t.now (all_leaves c.args.patterns.now) c.args.x.now c.in_ok-left.left c.args.all.now.items c.push.new.self.items c.in_ok-push.ensures.items
-    c.in_ok-left.ensures.name c.in_ok-left.ensures.kind c.in_ok-left.ensures.place
+    all_added c.args.t.now (all_leaves c.args.patterns.now) c.args.used.now c.args.all.now c.used.all c.used.index
+    (subst (λ n. n ≤ c.used.index) c.len-index-end.ensures c.used-test.false) c.used.invariant
