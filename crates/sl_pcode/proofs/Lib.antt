@@ -1,4 +1,5 @@
 mod ByteCounts
+mod DigitTexts
 pub mod InRange
 mod ListLemmas
 pub mod Operands

@@ -8,11 +8,21 @@ use sl_build::Built;
 use sl_pcode::{Names, Op, print_op};
 use std::alloc::{AllocError, Global};
 
-/// Appends an operation, on a line of its own behind two spaces.
-fn push_op(alloc: Global, op: &Op, names: &Names, out: &mut Vec<u8>) -> Result<(), AllocError>
+/// Room for the text of an operation: most texts are shorter, and a longer one makes more room.
+const ROOM: usize = 96;
+
+/// Appends an operation, on a line of its own behind two spaces. What `text` has is replaced by the
+/// text of the operation.
+fn push_op(
+    op: &Op,
+    names: &Names,
+    text: &mut String,
+    out: &mut Vec<u8>,
+) -> Result<(), AllocError>
     ensures { OnOk result (out.new.items ≡ out.old.items ++ op_line names.now op.now) }
 {
-    let text = print_op(alloc, op, names)?;
+    text.clear();
+    print_op(op, names, text)?;
     out.extend_from_slice(b"  ")?;
     out.extend_from_slice(text.as_bytes())?;
     out.extend_from_slice(b"\n")
@@ -22,8 +32,9 @@ fn push_op(alloc: Global, op: &Op, names: &Names, out: &mut Vec<u8>) -> Result<(
 fn push_ops(alloc: Global, ops: &[Op], names: &Names, out: &mut Vec<u8>) -> Result<(), AllocError>
     ensures { OnOk result (out.new.items ≡ out.old.items ++ op_lines names.now ops.now) }
 {
+    let mut text = String::with_capacity(alloc, ROOM)?;
     'ops: for op in ops {
-        push_op(alloc, op, names, out)?;
+        push_op(op, names, &mut text, out)?;
     }
     Ok(())
 }

@@ -371,7 +371,8 @@ fn texts_of_operations(rt: HostRuntime) -> Result<(), Fail> {
     for (code, out, inputs, text) in &TEXTS {
         let (out, inputs) = made(rt.alloc(), *out, inputs)?;
         let op = Op::make_long(rt.alloc(), *code, out, inputs.as_slice())?;
-        let printed = print_op(rt.alloc(), &op, &names)?;
+        let mut printed = String::new(rt.alloc());
+        print_op(&op, &names, &mut printed)?;
         assert_eq!(rt; printed.as_str(), *text);
     }
     Ok(())
