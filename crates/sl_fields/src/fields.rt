@@ -1,6 +1,6 @@
 //! What fields give.
 
-ghost use Rattle.std.specs.Prelude.{◌≡◌, ◌+◌, ◌-◌, ◌/◌, ◌^◌, ◌<◌, min, nat_le, length, take, drop};
+ghost use Rattle.std.specs.Prelude.{◌≡◌, ◌+◌, ◌-◌, ◌/◌, ◌<◌, nat_le, length, take, drop};
 ghost use Rattle.std.specs.Prelude.{ℕ, List, IsTrue, Ok, Some, if◌then◌else◌, option_copied};
 ghost use Rattle.std.specs.Prelude.{option_and_then, slice_get};
 ghost use Rattle.sl_decoding.specs.Lookups as spec;
@@ -203,8 +203,8 @@ fn has_every_entry(entries: &Entries, of: &Field) -> bool
     width <= WIDEST && has_entries(entries, 1 << width)
 }
 
-/// Whether the look-up of a field never fails: nothing is attached to it, or its bits have an entry
-/// whatever they are.
+/// Whether the look-up of a field is known never to fail: nothing is attached to it, or its bits have
+/// an entry whatever they are. `false` leaves open whether it fails.
 pub fn is_always_shown(t: &Tables, id: FieldId) -> bool
     ensures { IsTrue result → (bytes : List ℕ) (at context : ℕ)
         → spec.shown t.now id bytes at context ≡ Ok tt }

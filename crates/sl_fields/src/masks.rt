@@ -5,7 +5,7 @@ ghost use Rattle.sl_decoding.specs.Actions.{mask_of};
 
 use sl_spec::Field;
 
-/// The greatest number of so many bits.
+/// The greatest number of `width` bits.
 pub fn greatest(width: u8) -> u64
     requires some { 1 ≤ width }
     requires most { width ≤ 64 }

@@ -1,4 +1,4 @@
--- view: steps that may be none.
+-- meaning: steps that may be none.
 use Rattle.std.specs.Prelude.{◌∷◌, [], List, Option, None, Some, Result, Ok}
 use Rattle.sl_decoding.specs.declared.faults.Fault.{Fault}
 

@@ -40,7 +40,7 @@ pub fn extent_of(e: &Extent, lengths: &[u32]) -> u64
     }
 }
 
-/// The same once more.
+/// A copy of `e`.
 pub fn again(e: &Extent) -> Result<Extent, AllocError>
     ensures { IfOk result (λ r. (lengths : List ℕ) → extent r lengths ≡ extent e.now lengths) }
 {

@@ -84,7 +84,7 @@ impl<'a> JoinedLeaves<'a> {
     }
 }
 
-/// The place of a name's first occurrence, or the front where there is none.
+/// The place of a name's first occurrence, or 0 where there is none.
 pub fn place_of(leaves: &JoinedLeaves, name: &[u8]) -> Result<Extent, AllocError>
     ensures { IfOk result (λ r. (lengths : List ℕ) → extent r lengths
         ≡ or_start (first_place name.now (leaves_at lengths leaves.now))) }
@@ -95,7 +95,7 @@ pub fn place_of(leaves: &JoinedLeaves, name: &[u8]) -> Result<Extent, AllocError
     }
 }
 
-/// The place where a name stands alone, or the front where it doesn't.
+/// The place where a name stands alone, or 0 where it doesn't.
 pub fn bare(leaves: &JoinedLeaves, name: &[u8]) -> Result<Extent, AllocError>
     ensures { IfOk result (λ r. (lengths : List ℕ) → extent r lengths
         ≡ or_start (bare_place name.now (leaves_at lengths leaves.now))) }

@@ -23,7 +23,7 @@ pub struct Whole<'a> {
     pub length: Extent,
 }
 
-/// The same once more.
+/// A copy of `look`.
 fn look_again(look: &Look) -> Result<Look, AllocError>
     ensures { IfOk result (λ r. (t : TablesOf) (s : Site) (c : Own)
         → look_step t s r c ≡ look_step t s look.now c) }

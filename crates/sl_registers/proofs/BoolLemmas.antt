@@ -1,15 +1,8 @@
 -- The parts of a test, and a test of a whole list read at one member.
-use Rattle.std.proofs.Common.{◌≡◌, ℕ, zero, suc, ◌<◌, Bool, true, false, ◌&&◌, ◌||◌, List, [], ◌∷◌, length, get_or, refl, ap, ◌∙◌, arith}
+use Rattle.std.proofs.Common.{◌≡◌, ℕ, zero, suc, ◌<◌, Bool, true, false, List, [], ◌∷◌, length, get_or, refl, ap, ◌∙◌, arith}
+pub use Rattle.std.proofs.lemmas.Bool.{and_parts, or_parts as or_false}
 use Rattle.std.specs.Prelude.{not}
 use Rattle.std.specs.List.{list_all}
-
-pub and_parts : (a b : Bool) → (a && b) ≡ true → (a ≡ true) × (b ≡ true)
-and_parts true b h = (refl, h)
-and_parts false b h = absurd (cc)
-
-pub or_false : (a b : Bool) → (a || b) ≡ false → (a ≡ false) × (b ≡ false)
-or_false true b h = absurd (cc)
-or_false false b h = (refl, h)
 
 pub not_true : (a : Bool) → not a ≡ true → a ≡ false
 not_true true h = absurd (cc)

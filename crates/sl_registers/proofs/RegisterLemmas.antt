@@ -1,9 +1,9 @@
 -- Registers that are laid one behind the other.
-use Rattle.std.proofs.Common.{◌≡◌, ℕ, zero, suc, ◌+◌, ◌*◌, ◌%◌, ◌^◌, ◌<◌, ◌≤◌, true, false, List, [], ◌∷◌, ◌++◌, length, get_or, drop, refl, sym, ap, ◌∙◌, append_assoc, append-nil, arith}
-use Rattle.std.proofs.lemmas.Nat.{pow-add}
+use Rattle.std.proofs.Common.{◌≡◌, ℕ, ◌+◌, ◌*◌, ◌%◌, ◌^◌, ◌<◌, ◌≤◌, true, false, List, [], ◌∷◌, ◌++◌, length, get_or, drop, refl, sym, ap, ◌∙◌, append_assoc, append-nil, arith}
 use Rattle.std.proofs.Math.ListN.{drop_of_length-le}
 use Rattle.std.proofs.Math.Nat.{mod-eq_of_lt}
 use Rattle.std.proofs.Math.Pow.{pow_mono}
+use Rattle.sl_word.proofs.Powers.{bytes-bits}
 use Rattle.sl_rules.specs.Names.{Name}
 use Rattle.sl_spec.specs.Tables.{Register}
 use Rattle.sl_registers.proofs.FreshLemmas.{rest_at}
@@ -76,20 +76,13 @@ module _ (space offset size : ℕ) (names : List Name) (before : List Register) 
 
 -- ---- how many addresses there are
 
-power_of_bytes : (i : ℕ) → 256 ^ i ≡ 2 ^ (8 * i)
-power_of_bytes zero = refl
-power_of_bytes (suc i) =
-    let e : 8 * suc i ≡ 8 + 8 * i = omega arith in
-    let step : 256 ^ suc i ≡ 256 * 256 ^ i = omega arith in
-    step ∙ ap (λ (x : ℕ). 256 * x) (power_of_bytes i) ∙ sym (pow-add 2 8 (8 * i)) ∙ ap (λ (k : ℕ). 2 ^ k) (sym e)
-
 -- the number of addresses, as the code reckons it
 pub top_is : (bytes k : ℕ) → k ≡ bytes → k ≤ 8 → 1 * 2 ^ (8 * k) % 340282366920938463463374607431768211456 ≡ 256 ^ bytes
 top_is bytes k e h =
     let small : 2 ^ (8 * k) ≤ 2 ^ 64 = pow_mono {i = 8 * k} {j = 64} (omega arith) in
     let below : 1 * 2 ^ (8 * k) < 340282366920938463463374607431768211456 = omega (arith, small) in
     let once : 1 * 2 ^ (8 * k) ≡ 2 ^ (8 * k) = omega arith in
-    mod-eq_of_lt below ∙ once ∙ ap (λ (j : ℕ). 2 ^ (8 * j)) e ∙ sym (power_of_bytes bytes)
+    mod-eq_of_lt below ∙ once ∙ ap (λ (j : ℕ). 2 ^ (8 * j)) e ∙ sym (bytes-bits bytes)
 
 pub top_is_small : (k : ℕ) → k ≤ 8 → 1 * 2 ^ (8 * k) % 340282366920938463463374607431768211456 ≤ 2 ^ 64
 top_is_small k h =

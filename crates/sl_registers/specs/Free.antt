@@ -1,4 +1,4 @@
--- step: no list has something of a name.
+-- meaning: no list has something of a name.
 use Rattle.std.specs.Prelude.{◌≡◌, false, true, List, map}
 use Rattle.sl_rules.specs.Names.{Name, differ_behind}
 use Rattle.sl_spec.specs.Named.{has_name}

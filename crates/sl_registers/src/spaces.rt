@@ -1,9 +1,9 @@
 //! Address spaces: rules 4 and 5.
 
-ghost use Rattle.std.specs.Prelude.{◌≡◌, ◌≤◌, List, map, count_by, find, option_map, None, Ok};
+ghost use Rattle.std.specs.Prelude.{◌≡◌, ◌≤◌, map, count_by, find, option_map, None, Ok};
 ghost use Rattle.std.specs.List.{list_all, list_any};
 ghost use Rattle.sl_ast.specs.Views.{space_attribute_of};
-ghost use Rattle.sl_rules.specs.Demands.{Gives, first_broken, judged};
+ghost use Rattle.sl_rules.specs.Demands.{Gives, first_broken};
 ghost use Rattle.sl_registers.specs.Free.{IsFree};
 ghost use Rattle.sl_registers.specs.SpaceRules.{attribute_fits, has_size_and_type, is_kind};
 ghost use Rattle.sl_registers.specs.SpaceRules.{is_default_attribute, is_only_default, is_size};

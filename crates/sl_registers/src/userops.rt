@@ -23,7 +23,7 @@ fn add<'a>(userops: &mut Named<'a, UserOp<'a>>, names: &[&'a [u8]]) -> Result<()
     Ok(())
 }
 
-/// Defines user operations. Takes memory for the test of the names alone.
+/// Defines user operations. `alloc` is for the test that no two of the names are the same.
 #[tactic(auto, using(crate::proofs::FreshLemmas::are_free))]
 pub fn define_userops<'a>(
     alloc: Global,

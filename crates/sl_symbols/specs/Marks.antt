@@ -1,4 +1,4 @@
--- The marks of the language by their bytes.
+-- meaning: the marks of the language by their bytes.
 use Rattle.std.specs.Prelude.{ℕ, List, [], ◌∷◌, unwrap_or, codes}
 use Rattle.sl_ast.specs.Symbols.{find}
 use Rattle.sl_ast.specs.declared.symbols.Mark.{Mark}

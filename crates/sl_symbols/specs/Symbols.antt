@@ -1,4 +1,4 @@
--- Tokens as symbols.
+-- meaning: tokens as symbols.
 use Rattle.std.specs.Prelude.{ℕ, List, map}
 use Rattle.sl_ast.specs.Symbols.{word_of, Sym, number, word, text, mark, blank, caret, char}
 use Rattle.sl_lex.specs.Reading.{Token}

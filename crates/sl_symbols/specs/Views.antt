@@ -1,4 +1,4 @@
--- The symbols of the program as those of the definitions.
+-- view: the symbols of the program as those of the definitions.
 use Rattle.std.specs.Prelude.{◌≡◌}
 use Rattle.sl_ast.specs.Symbols.{word_of, plain, quoted, Sym, number, word, text, mark, blank, caret, char}
 use Rattle.sl_symbols.specs.declared.Symbol.{Symbol}
