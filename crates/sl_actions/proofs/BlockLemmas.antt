@@ -3,10 +3,9 @@ use Rattle.std.proofs.Common.{◌≡◌, ◌&&◌, ◌||◌, ℕ, zero, suc, ◌
 use Rattle.std.specs.List.{AllByRecursion, list_all, list_any}
 use Rattle.std.specs.Str.{bytes_eq}
 use Rattle.std.proofs.lemmas.Bool.{cases_lt}
-use Rattle.std.proofs.lemmas.List.{map-append, take-append-le, take_all}
+use Rattle.std.proofs.lemmas.List.{map-append, take-append-le, take_all, take_more}
 use Rattle.std.proofs.lemmas.List.Folds.{list_any-append}
 use Rattle.std.proofs.Math.Path.{fun_ext}
-use Rattle.std.proofs.Math.Seq.{take-suc}
 use Rattle.sl_ast.specs.Trees.{Action, Constructor, Head, Pattern}
 use Rattle.sl_ast.specs.Unfolding.{under as under_pattern, written}
 use Rattle.sl_ast.specs.Views.{head_of}
@@ -19,6 +18,7 @@ use Rattle.sl_spec.specs.Unfolded.{heads_of, under}
 use Rattle.sl_spec.specs.declared.tables.Tables.{Tables}
 use Rattle.sl_spec.specs.declared.unfolded.Around.{Around}
 use Rattle.sl_spec.proofs.KeyedLemmas.{all_push}
+use Rattle.sl_spec.proofs.MadeLemmas.{told_at}
 use Rattle.sl_parts.specs.Parts.{Part, parts, parts_of}
 use Rattle.sl_actions.specs.ActionNames.{action_names}
 use Rattle.sl_actions.specs.ActionRules.{action_demands, action_demands_by, each_holds}
@@ -81,15 +81,8 @@ module _ (all : List Table) (t : Tables) (head_at : ℕ → Head) where
 
 -- ---- blocks that are entered
 
-told_at : (head_at : ℕ → Head) (blocks : List Around) (i : ℕ) (b : Around) → i < length blocks → b ≡ get_or blocks i b → AreTold head_at blocks → head_at b.number ≡ head_of b.head.now
-told_at head_at [] i b below at told = absurd (omega arith)
-told_at head_at (a ∷ as') zero b below at told = subst (λ (x : Around). head_at x.number ≡ head_of x.head.now) (sym at) told.0
-told_at head_at (a ∷ as') (suc i) b below at told = told_at head_at as' i b (omega arith) at told.1
-
 took_more : (blocks : List Around) (i : ℕ) (b : Around) → i < length blocks → b ≡ get_or blocks i b → take (i + 1) blocks ≡ take i blocks ++ b ∷ []
-took_more blocks i b below at =
-    let next : i + 1 ≡ suc i = omega arith in
-    ap (λ n. take n blocks) next ∙ take-suc blocks i b below ∙ ap (λ (z : Around). take i blocks ++ z ∷ []) (sym at)
+took_more blocks i b below at = take_more blocks i b below ∙ ap (λ (z : Around). take i blocks ++ z ∷ []) (sym at)
 
 module _ (all : List Table) (t : Tables) (blocks : List Around) where
   -- those of the first blocks, which stay right

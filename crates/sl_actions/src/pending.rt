@@ -2,7 +2,6 @@
 
 ghost use Rattle.std.specs.Prelude.{◌≡◌, ◌&&◌, ◌||◌, Bool, OnOk, IfOk};
 ghost use Rattle.std.specs.List.{list_all};
-ghost use Rattle.sl_actions.specs.ActionNames.{with_name};
 ghost use Rattle.sl_actions.specs.Pending.{all_stand, broken, hanging_on, settled};
 ghost use Rattle.sl_rules.specs.Names.{Name, is_among};
 

@@ -1,6 +1,6 @@
 -- What was made of blocks, constructor by constructor.
-use Rattle.std.proofs.Common.{◌≡◌, ℕ, zero, suc, ◌<◌, false, List, [], ◌∷◌, ◌++◌, length, get_or, Ok, sym, ap, subst, ◌∙◌, arith}
-use Rattle.sl_ast.specs.Trees.{Constructor, Head, constructor}
+use Rattle.std.proofs.Common.{◌≡◌, ℕ, ◌<◌, false, List, [], ◌∷◌, ◌++◌, length, get_or, Ok, sym, subst, ◌∙◌, arith}
+use Rattle.sl_ast.specs.Trees.{Constructor, constructor}
 use Rattle.sl_bind.proofs.GrowLemmas.{begins_as, came_of, constructor_added, is_kept, put}
 use Rattle.sl_bind.proofs.WalkLemmas.{put_known, rules_of_section, unplaced}
 use Rattle.sl_bind.specs.Steps.{IsMadeForAll}
@@ -17,10 +17,11 @@ use Rattle.sl_definitions.specs.Beginning.{begin}
 use Rattle.sl_definitions.specs.Items.{with_tables}
 use Rattle.sl_definitions.specs.declared.known.Known.{Known}
 use Rattle.sl_section_rules.specs.WholeText.{Whole}
-use Rattle.sl_spec.specs.Numbers.{AreNumbered, AreNumberedBelow, AreTold, AreToldOf}
+use Rattle.sl_spec.specs.Numbers.{AreNumbered, AreNumberedBelow}
 use Rattle.sl_spec.specs.Tables.{Ctor, Table}
 use Rattle.sl_spec.specs.declared.tables.Tables.{Tables}
 use Rattle.sl_spec.specs.declared.unfolded.Unfolded.{Unfolded}
+use Rattle.sl_spec.proofs.MadeLemmas.{told_round}
 use Rattle.sl_spec.proofs.NumberLemmas.{none_numbered, numbers_all, numbers_more}
 
 -- the constructors of an item, numbered behind nothing
@@ -30,21 +31,16 @@ fresh_numbered n next old new none numbered =
 
 -- ---- constructors one by one
 
-told_at : (head_at : ℕ → Head) (us : List Unfolded) (i : ℕ) (u : Unfolded) → i < length us → u ≡ get_or us i u → AreToldOf head_at us → AreTold head_at u.heads.items
-told_at head_at [] i u below at told = absurd (omega arith)
-told_at head_at (v ∷ vs) zero u below at told = subst (λ (x : Unfolded). AreTold head_at x.heads.items) (sym at) told.0
-told_at head_at (v ∷ vs) (suc i) u below at told = told_at head_at vs i u (omega arith) at told.1
-
 module _ (tables : List Table) (t : Tables) (us : List Unfolded) where
   pub none_made : (made : MadeOfBlocks) → IsMadeAnyway made → AreNumbered us → IsMadeForAll tables t us made
   none_made made right numbered = (numbered.0, numbered.1, right tables t numbered.0)
 
   module _ (i : ℕ) (u : Unfolded) (below : i < length us) (at : u ≡ get_or us i u) (now : MadeOfBlocks) where
     pub made_for_one : IsMadeForAll tables t us now → IsMadeFor tables t u.heads.items now
-    made_for_one made = (made.0, told_at made.0 us i u below at made.1, made.2)
+    made_for_one made = (made.0, told_round made.0 us i u below at made.1, made.2)
 
     pub made_behind_one : (new : MadeOfBlocks) → StaysMade tables t u.heads.items now new → IsMadeForAll tables t us now → IsMadeForAll tables t us new
-    made_behind_one new kept made = (made.0, made.1, kept made.0 (told_at made.0 us i u below at made.1) made.2)
+    made_behind_one new kept made = (made.0, made.1, kept made.0 (told_round made.0 us i u below at made.1) made.2)
 
 -- ---- a constructor defines nothing else
 

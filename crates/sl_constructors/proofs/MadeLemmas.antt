@@ -1,24 +1,19 @@
 -- What was made of the blocks round a constructor, block by block.
-use Rattle.std.proofs.Common.{◌≡◌, ℕ, zero, suc, ◌<◌, List, [], ◌∷◌, length, get_or, None, Some, Result, Ok, Err, sym, ap, subst, ◌∙◌, arith}
+use Rattle.std.proofs.Common.{◌≡◌, ℕ, ◌<◌, List, [], ◌∷◌, length, get_or, None, Some, Result, Ok, Err, sym, ap, ◌∙◌}
 use Rattle.std.specs.Prelude.{IfOk}
 use Rattle.sl_ast.specs.Trees.{Head}
-use Rattle.sl_ast.specs.Views.{head_of}
-use Rattle.sl_spec.specs.Numbers.{AreMade, AreMadeFor, AreTold, KeepsMade, made_of}
+use Rattle.sl_spec.specs.Numbers.{AreMade, AreMadeFor, KeepsMade, made_of}
 use Rattle.sl_spec.specs.declared.unfolded.Around.{Around}
-
-told_at : (head_at : ℕ → Head) (blocks : List Around) (i : ℕ) (a : Around) → i < length blocks → a ≡ get_or blocks i a → AreTold head_at blocks → AreTold head_at (a ∷ [])
-told_at head_at [] i a below at told = absurd (omega arith)
-told_at head_at (b ∷ bs) zero a below at told = (subst (λ (x : Around). head_at x.number ≡ head_of x.head.now) (sym at) told.0, tt)
-told_at head_at (b ∷ bs) (suc i) a below at told = told_at head_at bs i a (omega arith) at told.1
+use Rattle.sl_spec.proofs.MadeLemmas.{told_at}
 
 module _ {V : Type 0} (IsRight : Head → V → Type 0) (blocks : List Around) (i : ℕ) (a : Around) (below : i < length blocks) (at : a ≡ get_or blocks i a) (old now : List (ℕ × V)) where
   -- what was made so far is right for the next block
   pub right_at : AreMadeFor IsRight blocks old → KeepsMade IsRight blocks old now → AreMadeFor IsRight (a ∷ []) now
-  right_at made kept = (made.0, told_at made.0 blocks i a below at made.1, kept made.0 made.1 made.2)
+  right_at made kept = (made.0, (told_at made.0 blocks i a below at made.1, tt), kept made.0 made.1 made.2)
 
   -- and stays so
   pub keeps_more : (new : List (ℕ × V)) → KeepsMade IsRight (a ∷ []) now new → KeepsMade IsRight blocks old now → KeepsMade IsRight blocks old new
-  keeps_more new one kept = λ head_at told made. one head_at (told_at head_at blocks i a below at told) (kept head_at told made)
+  keeps_more new one kept = λ head_at told made. one head_at (told_at head_at blocks i a below at told, tt) (kept head_at told made)
 
 -- where nothing was made
 pub none_made : {V : Type 0} (IsRight : Head → V → Type 0) (head_at : ℕ → Head) (made : List (ℕ × V)) → made ≡ [] → AreMade IsRight head_at made

@@ -1,7 +1,6 @@
 //! Attributes of fields: rule 12, and the tests of a field alone.
 
-ghost use Rattle.std.specs.Prelude.{◌≡◌, ◌≤◌, ◌<◌, true, count_by};
-ghost use Rattle.std.specs.List.{list_any};
+ghost use Rattle.std.specs.Prelude.{◌≡◌};
 ghost use Rattle.sl_ast.specs.Views.{field_of as seen};
 ghost use Rattle.sl_definitions.specs.FieldRules.{at_most_once, has, has_attributes_once};
 ghost use Rattle.sl_definitions.specs.FieldRules.{is_dec, is_hex, is_in_order, is_noflow};

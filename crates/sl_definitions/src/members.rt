@@ -1,6 +1,6 @@
 //! Members of attached lists: rule 14, and the entries that they give.
 
-ghost use Rattle.std.specs.Prelude.{◌≡◌, ◌≤◌, not, find, map, IfOk, option_copied, option_map, Some};
+ghost use Rattle.std.specs.Prelude.{◌≡◌, not, find, map, IfOk, option_copied, option_map, Some};
 ghost use Rattle.std.specs.List.{list_all};
 ghost use Rattle.sl_ast.specs.Views.{member_of};
 ghost use Rattle.sl_spec.specs.Views.{entries_of};

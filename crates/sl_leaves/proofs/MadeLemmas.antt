@@ -1,15 +1,10 @@
 -- What was made of the blocks round constructors.
-use Rattle.std.proofs.Common.{◌≡◌, ℕ, zero, suc, ◌<◌, List, [], ◌∷◌, length, get_or, sym, subst, arith}
+use Rattle.std.proofs.Common.{◌≡◌, ℕ, ◌<◌, List, [], length, get_or}
 use Rattle.sl_ast.specs.Trees.{Head}
 use Rattle.sl_constructors.proofs.MadeLemmas.{none_made}
-use Rattle.sl_spec.specs.Numbers.{AreMade, AreMadeFor, AreNumbered, AreTold, AreToldOf, KeepsMade}
+use Rattle.sl_spec.specs.Numbers.{AreMade, AreMadeFor, AreNumbered, AreToldOf, KeepsMade}
 use Rattle.sl_spec.specs.declared.unfolded.Unfolded.{Unfolded}
-
-pub told_at : (head_at : ℕ → Head) (us : List Unfolded) (i : ℕ) (u : Unfolded) → i < length us → u ≡ get_or us i u
-    → AreToldOf head_at us → AreTold head_at u.heads.items
-told_at head_at [] i u below at told = absurd (omega arith)
-told_at head_at (v ∷ vs) zero u below at told = subst (λ (x : Unfolded). AreTold head_at x.heads.items) (sym at) told.0
-told_at head_at (v ∷ vs) (suc i) u below at told = told_at head_at vs i u (omega arith) at told.1
+use Rattle.sl_spec.proofs.MadeLemmas.{told_round}
 
 module _ {V : Type 0} (IsRight : Head → V → Type 0) (us : List Unfolded) where
   -- It is right for the heads of all blocks round these constructors.
@@ -21,7 +16,7 @@ module _ {V : Type 0} (IsRight : Head → V → Type 0) (us : List Unfolded) whe
 
   module _ (i : ℕ) (u : Unfolded) (below : i < length us) (at : u ≡ get_or us i u) (made : List (ℕ × V)) where
     pub made_for : AreMadeOf made → AreMadeFor IsRight u.heads.items made
-    made_for of = (of.0, told_at of.0 us i u below at of.1, of.2)
+    made_for of = (of.0, told_round of.0 us i u below at of.1, of.2)
 
     pub keeps_of : (new : List (ℕ × V)) → KeepsMade IsRight u.heads.items made new → AreMadeOf made → AreMadeOf new
-    keeps_of new keeps of = (of.0, of.1, keeps of.0 (told_at of.0 us i u below at of.1) of.2)
+    keeps_of new keeps of = (of.0, of.1, keeps of.0 (told_round of.0 us i u below at of.1) of.2)

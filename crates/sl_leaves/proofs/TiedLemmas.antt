@@ -19,6 +19,7 @@ use Rattle.sl_spec.specs.Tables.{Name, Operand}
 use Rattle.sl_spec.specs.declared.constructors.Means.{Means}
 use Rattle.sl_spec.specs.declared.constructors.Means.TheVariants as means
 use Rattle.sl_spec.specs.declared.tables.Tables.{Tables}
+use Rattle.sl_spec.proofs.KeyedLemmas.{all_push}
 
 -- ---- lists, one by one
 
@@ -36,11 +37,6 @@ module _ {X : Type 0} (P : X → Type 0) (xs : List X) where
 
   pub none_left : (Q : Type 0) (i : ℕ) → length xs ≤ i → IsLeft Q i → Q
   none_left Q i end left = left (subst (AllByRecursion P) (sym (drop_of_length-le xs end)) tt)
-
-pub all_push : {X : Type 0} (P : X → Type 0) (xs : List X) (x : X) → AllByRecursion P xs → P x
-    → AllByRecursion P (xs ++ x ∷ [])
-all_push P [] x all its = (its, tt)
-all_push P (y ∷ ys) x all its = (all.0, all_push P ys x all.1 its)
 
 pub all_but_last : {X : Type 0} (P : X → Type 0) (xs : List X) (x : X) → AllByRecursion P (xs ++ x ∷ [])
     → AllByRecursion P xs × P x

@@ -3,7 +3,6 @@ use Rattle.std.proofs.Common.{◌≡◌, ℕ, ◌+◌, ◌<◌, ◌≤◌, List,
 use Rattle.std.proofs.lemmas.List.{drop_more, map-append}
 use Rattle.std.proofs.Math.ListN.{drop_of_length-le}
 use Rattle.sl_ast.specs.Trees.{Constructor, Pattern}
-use Rattle.sl_ast.specs.Unfolding.{in_block}
 use Rattle.sl_ast.specs.Unfolding as u
 use Rattle.sl_ast.specs.Views.{head_of}
 use Rattle.sl_decoding.specs.Actions.{Own, look}

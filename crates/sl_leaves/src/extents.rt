@@ -62,22 +62,22 @@ pub fn again(e: &Extent) -> Result<Extent, AllocError>
 /// them than to make them anew.
 const COMPARED: u32 = 64;
 
-/// Whether both have the same parts; false once no more of them may be compared.
-fn has_same_parts(a: &Extent, b: &Extent, left: &mut u32) -> bool
+/// Whether both have the same parts; false once `room`, how many may still be compared, is 0.
+fn has_same_parts(a: &Extent, b: &Extent, room: &mut u32) -> bool
     ensures { IsTrue result → (lengths : List ℕ) → extent a.now lengths ≡ extent b.now lengths }
 {
-    if *left == 0 {
+    if *room == 0 {
         return false;
     }
-    *left -= 1;
+    *room -= 1;
     match (a, b) {
         (Extent::Fixed(n), Extent::Fixed(m)) => *n == *m,
         (Extent::Operand(n), Extent::Operand(m)) => *n == *m,
         (Extent::Sum(a, x), Extent::Sum(b, y)) => {
-            has_same_parts(a, b, left) && has_same_parts(x, y, left)
+            has_same_parts(a, b, room) && has_same_parts(x, y, room)
         }
         (Extent::Greater(a, x), Extent::Greater(b, y)) => {
-            has_same_parts(a, b, left) && has_same_parts(x, y, left)
+            has_same_parts(a, b, room) && has_same_parts(x, y, room)
         }
         _ => false,
     }
@@ -88,8 +88,8 @@ fn has_same_parts(a: &Extent, b: &Extent, left: &mut u32) -> bool
 pub fn is_same(a: &Extent, b: &Extent) -> bool
     ensures { IsTrue result → (lengths : List ℕ) → extent a.now lengths ≡ extent b.now lengths }
 {
-    let mut left = COMPARED;
-    has_same_parts(a, b, &mut left)
+    let mut room = COMPARED;
+    has_same_parts(a, b, &mut room)
 }
 
 /// Whether it is no byte, whatever the lengths are.

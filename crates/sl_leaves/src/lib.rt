@@ -11,7 +11,7 @@ mod patterns;
 mod steps;
 mod whole;
 
-pub use blocks::{BlockLeaves, Tied, are_plain, leaves_among, leaves_of, whole_among, whole_anew};
+pub use blocks::{BlockLeaves, are_plain, leaves_among, leaves_of, whole_among, whole_anew};
 pub use extents::{Extent, again, extent_of, greater, is_same, sum};
 pub use joined::{JoinedLeaves, bare, first_in, place_of};
 pub use leaves::Leaf;

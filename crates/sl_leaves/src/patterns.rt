@@ -4,7 +4,6 @@ ghost use Rattle.std.specs.Prelude.{◌≡◌, ◌++◌, ◌<◌, ◌^◌, ℕ, 
 ghost use Rattle.std.specs.Prelude.{None, Some};
 ghost use Rattle.sl_ast.specs.Views.{head_of, pattern_of};
 ghost use Rattle.sl_decoding.specs.Kinds.{kind_of};
-ghost use Rattle.sl_decoding.specs.Places as spec;
 ghost use Rattle.sl_decoding.specs.Places.{covers, leaves, length_in, length_of, means_table};
 ghost use Rattle.sl_decoding.specs.Places.{next_slot, place_beside, slot_from};
 ghost use Rattle.sl_leaves.specs.Extents.{extent, leaves_at};

@@ -16,7 +16,7 @@ use Rattle.sl_leaves.specs.Extents.{leaf_at, leaves_at}
 use Rattle.sl_leaves.specs.Joined.{all_leaves}
 use Rattle.sl_leaves.specs.declared.leaves.Leaf as l
 use Rattle.sl_leaves.specs.declared.pattern_leaves.PatternLeaves.{PatternLeaves}
-use Rattle.sl_leaves.proofs.MadeLemmas.{told_at as told_among}
+use Rattle.sl_spec.proofs.MadeLemmas.{told_at, told_round}
 use Rattle.sl_plan.specs.Settled.{AddsUnsettled, BeginsWith, IsInside}
 use Rattle.sl_plan.specs.Open.{AreCommon, AreEntered, AreRight, AreRightAnyway, AreRightFor, AreRightInside, AreStepsOf, IsFront, IsOpened, IsRight, StandAlike, StayRight, front_of, innermost, leaves_of, numbers_of, unsettled_of}
 use Rattle.sl_plan.specs.Rights.{AreSteps}
@@ -162,12 +162,6 @@ told_taken head_at heads zero told = tt
 told_taken head_at [] (suc i) told = tt
 told_taken head_at (a ∷ heads) (suc i) told = (told.0, told_taken head_at heads i told.1)
 
-told_at : (head_at : ℕ → Head) (heads : List Around) (i : ℕ) (a : Around) → i < length heads → a ≡ get_or heads i a → AreTold head_at heads
-    → head_at a.number ≡ head_of a.head.now
-told_at head_at [] i a below at told = absurd (omega arith)
-told_at head_at (b ∷ bs) zero a below at told = subst (λ (x : Around). head_at x.number ≡ head_of x.head.now) (sym at) told.0
-told_at head_at (b ∷ bs) (suc i) a below at told = told_at head_at bs i a (omega arith) at told.1
-
 steps_push : (t : Tables) (os : List Operand) (ls : List l.Leaf) (xs : List OpenBlock) (heads : List Around) (x : OpenBlock) (a : Around) → length xs ≡ length heads
     → AreStepsOf t os ls xs heads → AreSteps t os ls (written (head_of a.head.now).actions) x.steps → AreStepsOf t os ls (xs ++ x ∷ []) (heads ++ a ∷ [])
 steps_push t os ls [] [] x a same steps its = (its, tt)
@@ -284,7 +278,7 @@ module _ (t : Tables) (us : List Unfolded) where
 
   module _ (i : ℕ) (u : Unfolded) (below : i < length us) (at : u ≡ get_or us i u) (old : List OpenBlock) where
     pub right_among : AreRightAmong old → AreRightFor t u.heads.items old
-    right_among among = (among.0, told_among among.0 us i u below at among.1, among.2)
+    right_among among = (among.0, told_round among.0 us i u below at among.1, among.2)
 
     pub stays_among : (new : List OpenBlock) → StayRight t u.heads.items old new → AreRightAmong old → AreRightAmong new
-    stays_among new stay among = (among.0, among.1, stay among.0 (told_among among.0 us i u below at among.1) among.2)
+    stays_among new stay among = (among.0, among.1, stay among.0 (told_round among.0 us i u below at among.1) among.2)

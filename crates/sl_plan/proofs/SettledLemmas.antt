@@ -13,7 +13,8 @@ use Rattle.sl_leaves.specs.Extents.{extent, leaves_at}
 use Rattle.sl_leaves.specs.declared.extents.Extent.{Extent}
 use Rattle.sl_leaves.specs.declared.leaves.Leaf as l
 use Rattle.sl_leaves.proofs.LeafLemmas.{first_append}
-use Rattle.sl_leaves.proofs.TiedLemmas.{all_but_last, all_push, kind_plain}
+use Rattle.sl_leaves.proofs.TiedLemmas.{all_but_last, kind_plain}
+use Rattle.sl_spec.proofs.KeyedLemmas.{all_push}
 use Rattle.sl_plan.specs.Settled.{AddsUnsettled, BeginsWith, IsSettled}
 use Rattle.sl_plan.specs.Uses.{IsSameName, ReadAsBefore, ReadsAsBefore, read_at}
 use Rattle.sl_plan.specs.declared.uses.Used.{Used}

@@ -31,8 +31,8 @@ use Rattle.sl_leaves.specs.Extents.{extent, leaves_at}
 use Rattle.sl_plan.specs.Uses.{IsSameAction, IsSameAddress, IsSameName, IsSameValue, ReadAsBefore, ReadsAsBefore, Uses, read_at}
 use Rattle.sl_leaves.specs.declared.leaves.Leaf as l
 use Rattle.sl_plan.specs.declared.uses.Used.{Used}
-use Rattle.sl_leaves.proofs.TiedLemmas.{all_but_last, all_push}
-use Rattle.sl_spec.proofs.KeyedLemmas.{none_from}
+use Rattle.sl_leaves.proofs.TiedLemmas.{all_but_last}
+use Rattle.sl_spec.proofs.KeyedLemmas.{all_push, none_from}
 use Rattle.sl_spec.specs.FieldValues.{number_in, token_of}
 use Rattle.sl_spec.specs.Named.{has_name}
 use Rattle.sl_spec.specs.Tables.{Field, Name, Operand, Token}

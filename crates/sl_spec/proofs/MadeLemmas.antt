@@ -1,5 +1,5 @@
 -- What was made of blocks is right for their heads.
-use Rattle.std.proofs.Common.{◌≡◌, ℕ, Bool, true, false, cond, List, Option, Some, refl, sym, subst, ap, ◌∙◌}
+use Rattle.std.proofs.Common.{◌≡◌, ℕ, zero, suc, ◌<◌, Bool, true, false, cond, List, [], ◌∷◌, length, get_or, Option, Some, refl, sym, subst, ap, ◌∙◌, arith}
 use Rattle.std.proofs.lemmas.Cmp.{ranked}
 use Rattle.std.specs.Ordering.{is_eq, nat_cmp}
 use Rattle.std.specs.Prelude.{unwrap_or}
@@ -7,8 +7,23 @@ use Rattle.std.specs.declared.cmp.Ordering.{Ordering}
 use Rattle.std.specs.declared.cmp.Ordering.TheVariants.{Less, Equal, Greater}
 use Rattle.sl_ast.specs.Trees.{Head}
 use Rattle.sl_ast.specs.Views.{head_of}
-use Rattle.sl_spec.specs.Numbers.{AreMade, is_number, made_of}
+use Rattle.sl_spec.specs.Numbers.{AreMade, AreTold, AreToldOf, is_number, made_of}
 use Rattle.sl_spec.specs.declared.unfolded.Around.{Around}
+use Rattle.sl_spec.specs.declared.unfolded.Unfolded.{Unfolded}
+
+-- one block of those that are told
+pub told_at : (head_at : ℕ → Head) (blocks : List Around) (i : ℕ) (a : Around) → i < length blocks → a ≡ get_or blocks i a
+    → AreTold head_at blocks → head_at a.number ≡ head_of a.head.now
+told_at head_at [] i a below at told = absurd (omega arith)
+told_at head_at (b ∷ bs) zero a below at told = subst (λ (x : Around). head_at x.number ≡ head_of x.head.now) (sym at) told.0
+told_at head_at (b ∷ bs) (suc i) a below at told = told_at head_at bs i a (omega arith) at told.1
+
+-- those round one constructor
+pub told_round : (head_at : ℕ → Head) (us : List Unfolded) (i : ℕ) (u : Unfolded) → i < length us → u ≡ get_or us i u
+    → AreToldOf head_at us → AreTold head_at u.heads.items
+told_round head_at [] i u below at told = absurd (omega arith)
+told_round head_at (v ∷ vs) zero u below at told = subst (λ (x : Unfolded). AreTold head_at x.heads.items) (sym at) told.0
+told_round head_at (v ∷ vs) (suc i) u below at told = told_round head_at vs i u (omega arith) at told.1
 
 same_number : (k n : ℕ) (o : Ordering) → nat_cmp k n ≡ o → is_eq o ≡ true → k ≡ n
 same_number k n Less is e = absurd (cc e)
