@@ -148,7 +148,8 @@ impl<'a> OpenBlocks<'a> {
         most
     }
 
-    /// How many of those have steps that are right for it.
+    /// How many of the blocks are those round a constructor with this pattern, and have steps that are
+    /// right for it, the outermost first. Most often all that it shares with the last one are.
     fn front(
         &self,
         t: &Tables,
