@@ -13,12 +13,7 @@ const ROOM: usize = 96;
 
 /// Appends an operation, on a line of its own behind two spaces. What `text` has is replaced by the
 /// text of the operation.
-fn push_op(
-    op: &Op,
-    names: &Names,
-    text: &mut String,
-    out: &mut Vec<u8>,
-) -> Result<(), AllocError>
+fn push_op(op: &Op, names: &Names, text: &mut String, out: &mut Vec<u8>) -> Result<(), AllocError>
     ensures { OnOk result (out.new.items ≡ out.old.items ++ op_line names.now op.now) }
 {
     text.clear();
