@@ -1,4 +1,4 @@
--- What the tree without blocks comes to.
+-- law: what the tree without blocks comes to.
 use Rattle.std.specs.Prelude.{◌≡◌, List, [], ◌∷◌, ◌++◌, Option, None, Some}
 use Rattle.sl_ast.specs.Trees.{Name, Pattern, group, joined, Action, Piece, Section, Constructor, Head, nothing, constructor_then, block_then, constructor, block}
 use Rattle.sl_ast.specs.Unfolding.{unfolded}

@@ -1,4 +1,4 @@
--- The operators: their marks, how tight they bind, and which expressions take them.
+-- meaning: the operators: their marks, how tight they bind, and which expressions take them.
 use Rattle.std.specs.Prelude.{ℕ, suc, Bool, true, false, cond, ◌==◌, Option, List, [], ◌∷◌, codes}
 use Rattle.sl_ast.specs.Symbols.{find}
 use Rattle.sl_ast.specs.Trees.{Name, Expression, integer, named, paren, call, binary, Pattern, bare, constraint, group, joined}

@@ -1,4 +1,4 @@
--- What the grammar sees of a token.
+-- meaning: what the grammar sees of a token.
 use Rattle.std.specs.Prelude.{ℕ, Bool, cond, List, [], ◌∷◌, Option, None, Some, codes, ◌==◌, ◌&&◌, true, false}
 use Rattle.sl_ast.specs.declared.symbols.Keyword.{Keyword}
 use Rattle.sl_ast.specs.declared.symbols.Keyword.TheVariants as k

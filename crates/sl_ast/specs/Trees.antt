@@ -1,4 +1,4 @@
--- The trees of a specification, without the places of their tokens.
+-- meaning: the trees of a specification, without the places of their tokens.
 use Rattle.std.specs.Prelude.{ℕ, List, Option}
 use Rattle.sl_ast.specs.Symbols.{Word}
 use Rattle.sl_ast.specs.declared.definitions.AttachKind.{AttachKind}

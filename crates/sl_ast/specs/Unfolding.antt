@@ -1,4 +1,4 @@
--- A specification without its `with` blocks: each constructor of a block stands in the block's place, with the
+-- meaning: a specification without its `with` blocks: each constructor of a block stands in the block's place, with the
 -- table, the pattern and the actions that the blocks round it give it (SLEIGH manual, "The with block").
 use Rattle.std.specs.Prelude.{ℕ, ◌+◌, List, [], ◌∷◌, ◌++◌, length, Option, None, Some}
 use Rattle.sl_ast.specs.Trees.{Pattern, group, joined, Action, Constructor, Head, Inside, nothing, constructor_then, block_then, Item, constructor, block}

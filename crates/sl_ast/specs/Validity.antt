@@ -1,4 +1,4 @@
--- Which trees stand for a text: operators bind as the language says, each form stands where it may, no form
+-- meaning: which trees stand for a text: operators bind as the language says, each form stands where it may, no form
 -- is left out by the language, and no expression, pattern or block goes past its limit.
 use Rattle.std.specs.Prelude.{◌≡◌, ℕ, zero, suc, ◌+◌, ◌≤◌, true, List, [], ◌∷◌, Option, None, Some}
 use Rattle.sl_ast.specs.Symbols.{Word, plain, quoted}

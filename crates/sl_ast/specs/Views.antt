@@ -1,4 +1,4 @@
--- The trees of the program as trees of the definitions: names as their bytes, lists as lists.
+-- meaning: the trees of the program as trees of the definitions: names as their bytes, lists as lists.
 use Rattle.std.specs.Prelude.{ℕ, List, [], ◌∷◌, ◌++◌, map, option_map}
 use denote.Ref.{Bor}
 use Rattle.sl_ast.specs.Symbols.{word_of}

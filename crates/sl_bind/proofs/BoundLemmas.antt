@@ -9,13 +9,13 @@ use Rattle.sl_bind.proofs.RunLemmas.{all_taken}
 use Rattle.sl_bind.proofs.TakenLemmas.{AreTaken}
 use Rattle.sl_bind.proofs.WalkLemmas.{none_broken}
 use Rattle.sl_bind.specs.Verdict.{taken}
-use Rattle.sl_constructors.specs.Listed.{AreListed, NameOperands, NamesTable}
-use Rattle.sl_constructors.specs.WholeText.{all_tables}
-use Rattle.sl_levels.specs.Orders.{NoneReaches}
-use Rattle.sl_levels.specs.Reaching.{Graph, successors}
-use Rattle.sl_spec.specs.Unfolded.{constructors_in}
+use Rattle.sl_spec_constructors.specs.Listed.{AreListed, NameOperands, NamesTable}
+use Rattle.sl_spec_constructors.specs.WholeText.{all_tables}
+use Rattle.sl_base_graphs.specs.Orders.{NoneReaches}
+use Rattle.sl_base_graphs.specs.Reaching.{Graph, successors}
+use Rattle.sl_spec.specs.ConstructorItems.{constructors_in}
 use Rattle.sl_spec.specs.declared.tables.Tables.{Tables}
-use Rattle.sl_tables.specs.TableRules.{late_fault}
+use Rattle.sl_spec_tables.specs.TableRules.{late_fault}
 
 -- All items were taken, and no rule over the whole is broken.
 pub record IsWhole (cs : List (Placed Constructor)) (t : Tables) : Type 0 where

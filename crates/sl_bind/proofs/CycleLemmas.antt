@@ -5,23 +5,23 @@ use Rattle.std.proofs.lemmas.Bool.{false≢true}
 use Rattle.std.proofs.lemmas.Option.{slice_get_read}
 use Rattle.sl_ast.specs.Trees.{Constructor}
 use Rattle.sl_ast.specs.Unfolding.{Placed}
-use Rattle.sl_constructors.proofs.MemberLemmas.{in_filter, in_gathered}
-use Rattle.sl_constructors.specs.Listed.{AreListed, NamesTable}
-use Rattle.sl_levels.proofs.Closure.{has_successors, some_successor, told}
-use Rattle.sl_levels.proofs.Seen.{at_map}
-use Rattle.sl_levels.specs.Orders.{NoneReaches}
-use Rattle.sl_levels.specs.Reaching.{Graph, Reaches, direct, further, reaches_itself, successors}
-use Rattle.sl_rules.specs.Gathered.{gathered}
+use Rattle.sl_spec_constructors.proofs.MemberLemmas.{in_filter, in_gathered}
+use Rattle.sl_spec_constructors.specs.Listed.{AreListed, NamesTable}
+use Rattle.sl_base_graphs.proofs.Closure.{has_successors, some_successor, told}
+use Rattle.sl_base_graphs.proofs.Seen.{at_map}
+use Rattle.sl_base_graphs.specs.Orders.{NoneReaches}
+use Rattle.sl_base_graphs.specs.Reaching.{Graph, Reaches, direct, further, reaches_itself, successors}
+use Rattle.sl_spec_rules.specs.Gathered.{gathered}
 use Rattle.sl_spec.specs.Tables.{Ctor, Operand}
 use Rattle.sl_spec.specs.declared.constructors.Means.TheVariants as means
 use Rattle.sl_spec.specs.declared.tables.Tables.{Tables}
-use Rattle.sl_tables.proofs.JudgeLemmas.{none_reaches}
-use Rattle.sl_tables.proofs.RowLemmas.{group_at}
-use Rattle.sl_tables.specs.Rows.{Row, graph, groups, is_of, rows, table_of, tables_in, tables_of}
-use Rattle.sl_tables.specs.TableRules.{broken_at, fault_or, has_default, has_instruction, late_fault, past_most, reaching_place}
-use Rattle.sl_tables.specs.declared.faults.LateFault.{LateFault}
-use Rattle.sl_tables.specs.declared.faults.Place.{Place}
-use Rattle.sl_tables.specs.declared.faults.Place.TheVariants.{End}
+use Rattle.sl_spec_tables.proofs.JudgeLemmas.{none_reaches}
+use Rattle.sl_spec_tables.proofs.RowLemmas.{group_at}
+use Rattle.sl_spec_tables.specs.Rows.{Row, graph, groups, is_of, rows, table_of, tables_in, tables_of}
+use Rattle.sl_spec_tables.specs.TableRules.{broken_at, fault_or, has_default, has_instruction, late_fault, past_most, reaching_place}
+use Rattle.sl_spec_tables.specs.declared.faults.LateFault.{LateFault}
+use Rattle.sl_spec_tables.specs.declared.faults.Place.{Place}
+use Rattle.sl_spec_tables.specs.declared.faults.Place.TheVariants.{End}
 
 -- ---- rules 33 and 34
 

@@ -8,21 +8,21 @@ use Rattle.std.proofs.lemmas.Slice.Eq.{bytes_eq-Decides}
 use Rattle.sl_ast.specs.Trees as tree
 use Rattle.sl_ast.specs.Trees.{Constructor}
 use Rattle.sl_ast.specs.Unfolding.{written}
-use Rattle.sl_constructors.specs.Operands.{operand_names}
-use Rattle.sl_constructors.specs.Steps.{added, constructor_step, demands, operands_of, with_ctor}
-use Rattle.sl_constructors.specs.WholeText.{table_name}
-use Rattle.sl_definitions.specs.AttachRules.{attach_demands}
-use Rattle.sl_definitions.specs.Beginning.{begin, is_alignment, is_due, with_alignment, with_endian}
-use Rattle.sl_definitions.specs.FieldRules.{context_demands, field_names, field_of, token_demands}
-use Rattle.sl_definitions.specs.Items.{all_names, defined, taken, with_tables}
-use Rattle.sl_definitions.specs.declared.known.Known.{Known}
-use Rattle.sl_parts.specs.Parts.{parts_of}
-use Rattle.sl_registers.proofs.BoolLemmas.{and_parts, not_true, or_false}
-use Rattle.sl_registers.specs.NewNames.{are_new, is_defined, is_new, reserved_words}
-use Rattle.sl_registers.specs.RegisterRules.{bit_range_demands, register_demands}
-use Rattle.sl_registers.specs.SpaceRules.{space_demands}
-use Rattle.sl_rules.specs.Demands.{◌>>=◌, Demand, first_broken, judged, unless_broken}
-use Rattle.sl_rules.specs.Names.{Name, are_distinct, is_among}
+use Rattle.sl_spec_constructors.specs.Operands.{operand_names}
+use Rattle.sl_spec_constructors.specs.Steps.{added, constructor_step, demands, operands_of, with_ctor}
+use Rattle.sl_spec_constructors.specs.WholeText.{table_name}
+use Rattle.sl_spec_definitions.specs.AttachRules.{attach_demands}
+use Rattle.sl_spec_definitions.specs.Beginning.{begin, is_alignment, is_due, with_alignment, with_endian}
+use Rattle.sl_spec_definitions.specs.FieldRules.{context_demands, field_names, field_of, token_demands}
+use Rattle.sl_spec_definitions.specs.Items.{all_names, defined, taken, with_tables}
+use Rattle.sl_spec_definitions.specs.declared.known.Known.{Known}
+use Rattle.sl_spec_actions.specs.Parts.{parts_of}
+use Rattle.sl_spec_registers.proofs.BoolLemmas.{and_parts, not_true, or_false}
+use Rattle.sl_spec_registers.specs.NewNames.{are_new, is_defined, is_new, reserved_words}
+use Rattle.sl_spec_registers.specs.RegisterRules.{bit_range_demands, register_demands}
+use Rattle.sl_spec_registers.specs.SpaceRules.{space_demands}
+use Rattle.sl_spec_rules.specs.Demands.{◌>>=◌, Demand, first_broken, judged, unless_broken}
+use Rattle.sl_spec_rules.specs.Names.{Name, are_distinct, is_among}
 use Rattle.sl_spec.specs.Named.{has_name}
 use Rattle.sl_spec.specs.Tables.{Ctor, Field, Table}
 use Rattle.sl_spec.specs.declared.tables.Tables.{Tables}

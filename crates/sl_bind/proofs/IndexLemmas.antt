@@ -14,12 +14,13 @@ use Rattle.sl_ast.specs.declared.items.Item.{Item}
 use Rattle.sl_ast.specs.declared.items.Spec.{Spec}
 use Rattle.sl_bind.specs.Indexes.{indexes_in}
 use Rattle.sl_bind.specs.Binding.{Binds}
-use Rattle.sl_bind.specs.Refusals.{HasFault, IsErrorOf, Refuses, TellsFault, token_of}
+use Rattle.sl_bind.specs.Refusals.{IsErrorOf, Refuses, TellsFault}
+use Rattle.sl_bind.specs.BindFaults.{HasFault, token_of}
 use Rattle.sl_bind.specs.declared.bound.BindError.{BindError}
 use Rattle.sl_bind.specs.declared.bound.BindError.TheVariants as be
 use Rattle.sl_bind.specs.declared.fault.BindFault.{BindFault}
 use Rattle.sl_bind.specs.declared.fault.BindFault.TheVariants as fault
-use Rattle.sl_rules.specs.Gathered.{gathered}
+use Rattle.sl_spec_rules.specs.Gathered.{gathered}
 
 pub joined_is_gathered : {X : Type 0} (f : X → List ℕ) (xs : List X) → joined_lists (map f xs) ≡ gathered f xs
 unfolding gathered

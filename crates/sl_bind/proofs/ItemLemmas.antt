@@ -12,10 +12,11 @@ use Rattle.sl_ast.specs.Unfolding.{Placed, all_in_block, as_items, constructors_
 use Rattle.sl_bind.specs.Steps.{FailsAt, GivesAt, GoesOn, constructor_item}
 use Rattle.sl_bind.specs.declared.stop.Stop.{Stop}
 use Rattle.sl_bind.specs.declared.stop.Stop.TheVariants.{Rule, NoMemory}
-use Rattle.sl_rules.specs.Demands.{◌>>=◌, run}
-use Rattle.sl_rules.proofs.RunLaws.{run-append}
-use Rattle.sl_rules.proofs.Runs.{IsRun, run_fails}
-use Rattle.sl_spec.specs.Unfolded.{all_placed, constructors_in, unfolded_one}
+use Rattle.sl_spec_rules.specs.Demands.{◌>>=◌, run}
+use Rattle.sl_spec_rules.proofs.RunLaws.{run-append}
+use Rattle.sl_spec_rules.proofs.Runs.{IsRun, run_fails}
+use Rattle.sl_spec.specs.Unfolded.{all_placed, unfolded_one}
+use Rattle.sl_spec.specs.ConstructorItems.{constructors_in}
 use Rattle.sl_spec.specs.declared.unfolded.Unfolded.{Unfolded}
 
 -- ---- one item

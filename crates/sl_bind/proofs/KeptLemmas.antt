@@ -1,6 +1,6 @@
 -- What holds of what is there and of the members that were taken, step by step.
 use Rattle.std.proofs.Common.{◌≡◌, List, [], ◌∷◌, ◌++◌, Result, Ok, Err, refl, sym, subst, ◌∙◌, append_assoc, append-nil}
-use Rattle.sl_rules.specs.Demands.{◌>>=◌, run}
+use Rattle.sl_spec_rules.specs.Demands.{◌>>=◌, run}
 
 module _ {S X E : Type 0} (step : S → X → Result S E) (whole : List X) (Holds : List X → S → Type 0) where
   -- One step more keeps it.

@@ -10,15 +10,15 @@ use Rattle.std.proofs.lemmas.List.Elements.{filter-append}
 use Rattle.std.proofs.lemmas.Option.{slice_get_past}
 use Rattle.sl_ast.specs.Trees.{Constructor}
 use Rattle.sl_ast.specs.Unfolding.{Placed}
-use Rattle.sl_rules.specs.Names.{Name, is_among}
+use Rattle.sl_spec_rules.specs.Names.{Name, is_among}
 use Rattle.sl_spec.specs.Begun.{with_constructor, with_number}
 use Rattle.sl_spec.specs.Named.{index_named, is_named}
 use Rattle.sl_spec.specs.Tables.{Ctor, Table}
 use Rattle.sl_spec.specs.declared.tables.Tables.{Tables}
-use Rattle.sl_actions.specs.ActionNames.{with_name}
-use Rattle.sl_constructors.proofs.NumberLemmas.{in_numbers}
-use Rattle.sl_constructors.specs.Laws.{names_of}
-use Rattle.sl_constructors.specs.Listed.{AreListed, is_of, numbers_of}
+use Rattle.sl_spec_actions.specs.ActionNames.{with_name}
+use Rattle.sl_spec_constructors.proofs.NumberLemmas.{in_numbers}
+use Rattle.sl_spec_constructors.specs.Laws.{names_of}
+use Rattle.sl_spec_constructors.specs.Listed.{AreListed, is_of, numbers_of}
 
 -- ---- the constructors of the table at an index
 

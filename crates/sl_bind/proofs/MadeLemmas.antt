@@ -6,16 +6,16 @@ use Rattle.sl_bind.proofs.WalkLemmas.{put_known, rules_of_section, unplaced}
 use Rattle.sl_bind.specs.Steps.{IsMadeForAll}
 use Rattle.sl_bind.specs.Verdict.{item_step, placed_step, section_step, with_constructor_of, with_known}
 use Rattle.sl_bind.specs.declared.items.Progress.{Progress}
-use Rattle.sl_constructors.specs.Made.{IsMadeAnyway, IsMadeFor, StaysMade}
-use Rattle.sl_actions.proofs.AlikeLemmas.{right_with}
-use Rattle.sl_constructors.specs.Steps.{constructor_step, with_ctor}
-use Rattle.sl_constructors.specs.WholeText.{table_name}
-use Rattle.sl_rules.specs.Names.{Name}
+use Rattle.sl_spec_constructors.specs.Made.{IsMadeAnyway, IsMadeFor, StaysMade}
+use Rattle.sl_spec_actions.proofs.AlikeLemmas.{right_with}
+use Rattle.sl_spec_constructors.specs.Steps.{constructor_step, with_ctor}
+use Rattle.sl_spec_constructors.specs.WholeText.{table_name}
+use Rattle.sl_spec_rules.specs.Names.{Name}
 use Rattle.sl_spec.specs.Begun.{with_constructor}
-use Rattle.sl_constructors.specs.declared.made.MadeOfBlocks.{MadeOfBlocks}
-use Rattle.sl_definitions.specs.Beginning.{begin}
-use Rattle.sl_definitions.specs.Items.{with_tables}
-use Rattle.sl_definitions.specs.declared.known.Known.{Known}
+use Rattle.sl_spec_constructors.specs.declared.made.MadeOfBlocks.{MadeOfBlocks}
+use Rattle.sl_spec_definitions.specs.Beginning.{begin}
+use Rattle.sl_spec_definitions.specs.Items.{with_tables}
+use Rattle.sl_spec_definitions.specs.declared.known.Known.{Known}
 use Rattle.sl_section_rules.specs.WholeText.{Whole}
 use Rattle.sl_spec.specs.Numbers.{AreNumbered, AreNumberedBelow}
 use Rattle.sl_spec.specs.Tables.{Ctor, Table}

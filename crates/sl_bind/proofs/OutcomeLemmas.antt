@@ -8,12 +8,12 @@ use Rattle.sl_ast.specs.Unfolding.{Placed}
 use Rattle.sl_bind.proofs.ListedLemmas.{all_listed, index_by_names}
 use Rattle.sl_bind.proofs.SideLemmas.{pair_at, pair_long}
 use Rattle.sl_bind.proofs.TakenLemmas.{AreTaken, HasOperands, as_names, some_named}
-use Rattle.sl_constructors.proofs.TableLemmas.{each_is_added}
-use Rattle.sl_constructors.specs.Laws.{names_of}
-use Rattle.sl_constructors.specs.Listed.{AreListed, MeansTable, NameOperands}
-use Rattle.sl_constructors.specs.WholeText.{all_tables}
-use Rattle.sl_parts.specs.Parts.{Part, is_table, parts, parts_of}
-use Rattle.sl_rules.specs.Names.{Name, is_among}
+use Rattle.sl_spec_constructors.proofs.TableLemmas.{each_is_added}
+use Rattle.sl_spec_constructors.specs.Laws.{names_of}
+use Rattle.sl_spec_constructors.specs.Listed.{AreListed, MeansTable, NameOperands}
+use Rattle.sl_spec_constructors.specs.WholeText.{all_tables}
+use Rattle.sl_spec_actions.specs.Parts.{Part, is_table, parts, parts_of}
+use Rattle.sl_spec_rules.specs.Names.{Name, is_among}
 use Rattle.sl_spec.specs.Named.{index_named}
 use Rattle.sl_spec.specs.Tables.{Ctor, Table}
 use Rattle.sl_spec.specs.declared.tables.Tables.{Tables}

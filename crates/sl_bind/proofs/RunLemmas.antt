@@ -5,18 +5,18 @@ use Rattle.std.proofs.lemmas.List.{map-append}
 use Rattle.std.proofs.lemmas.List.Sums.{fold-append}
 use Rattle.sl_ast.specs.Trees.{Constructor, Item, constructor}
 use Rattle.sl_ast.specs.Unfolding.{Placed, unfolded}
-use Rattle.sl_actions.specs.ActionNames.{with_name}
+use Rattle.sl_spec_actions.specs.ActionNames.{with_name}
 use Rattle.sl_bind.proofs.GrowLemmas.{grows_by_none, item_grows}
 use Rattle.sl_bind.proofs.TakenLemmas.{AreTaken, constructor_taken, names_added, none_taken, taken_grows}
 use Rattle.sl_bind.proofs.WalkLemmas.{EachAdds, constructors_around, taken_adds, whole_text}
 use Rattle.sl_bind.specs.Verdict.{taken, with_macro}
-use Rattle.sl_constructors.proofs.TableLemmas.{each_is_added}
-use Rattle.sl_constructors.specs.Laws.{names_of}
-use Rattle.sl_constructors.specs.Steps.{constructor_step}
-use Rattle.sl_constructors.specs.WholeText.{all_tables, table_name}
-use Rattle.sl_rules.specs.Names.{Name, is_among}
+use Rattle.sl_spec_constructors.proofs.TableLemmas.{each_is_added}
+use Rattle.sl_spec_constructors.specs.Laws.{names_of}
+use Rattle.sl_spec_constructors.specs.Steps.{constructor_step}
+use Rattle.sl_spec_constructors.specs.WholeText.{all_tables, table_name}
+use Rattle.sl_spec_rules.specs.Names.{Name, is_among}
 use Rattle.sl_spec.specs.Tables.{Table}
-use Rattle.sl_spec.specs.Unfolded.{constructors_in}
+use Rattle.sl_spec.specs.ConstructorItems.{constructors_in}
 use Rattle.sl_spec.specs.declared.tables.Tables.{Tables}
 
 -- ---- the names of tables are a front of those of all tables

@@ -12,25 +12,25 @@ use Rattle.std.proofs.lemmas.List.Sums.{fold-append}
 use Rattle.std.proofs.lemmas.Slice.Eq.{bytes_eq-Decides}
 use Rattle.sl_ast.specs.Trees.{Constructor}
 use Rattle.sl_ast.specs.Unfolding.{Placed, written}
-use Rattle.sl_actions.specs.ActionNames.{action_names, with_name}
+use Rattle.sl_spec_actions.specs.ActionNames.{action_names, with_name}
 use Rattle.sl_bind.proofs.GrowLemmas.{Grows, ctor_of, first_holds, is_kept, table_stands}
 use Rattle.sl_bind.proofs.ListedLemmas.{AreBegun, constructors_at, one_begun, same_index}
 use Rattle.sl_bind.proofs.SideLemmas.{EachPair, pair_each, pair_more}
-use Rattle.sl_constructors.proofs.MemberLemmas.{in_filter, in_map}
-use Rattle.sl_constructors.proofs.TableLemmas.{names_with}
-use Rattle.sl_constructors.specs.ConstructorRules.{may_begin}
-use Rattle.sl_constructors.specs.Laws.{names_of}
-use Rattle.sl_constructors.specs.Listed.{MeansTable}
-use Rattle.sl_constructors.specs.Operands.{action_operands, bare_names, bare_operand, is_epsilon, is_operand, meaning_by, operand_names}
-use Rattle.sl_constructors.specs.Steps.{constructor_step, demands, operands_of, with_ctor}
-use Rattle.sl_constructors.specs.WholeText.{table_name}
-use Rattle.sl_definitions.specs.Beginning.{no_tables}
-use Rattle.sl_parts.specs.Parts.{Part, parts_of}
-use Rattle.sl_registers.proofs.BoolLemmas.{and_parts, not_true, or_false}
-use Rattle.sl_registers.proofs.FreshLemmas.{field_free}
-use Rattle.sl_registers.specs.NewNames.{is_defined, is_new, reserved_words}
-use Rattle.sl_rules.proofs.ListLemmas.{any_map}
-use Rattle.sl_rules.specs.Names.{Name, is_among}
+use Rattle.sl_spec_constructors.proofs.MemberLemmas.{in_filter, in_map}
+use Rattle.sl_spec_constructors.proofs.TableLemmas.{names_with}
+use Rattle.sl_spec_constructors.specs.ConstructorRules.{may_begin}
+use Rattle.sl_spec_constructors.specs.Laws.{names_of}
+use Rattle.sl_spec_constructors.specs.Listed.{MeansTable}
+use Rattle.sl_spec_constructors.specs.Operands.{action_operands, bare_names, bare_operand, is_epsilon, is_operand, meaning_by, operand_names}
+use Rattle.sl_spec_constructors.specs.Steps.{constructor_step, demands, operands_of, with_ctor}
+use Rattle.sl_spec_constructors.specs.WholeText.{table_name}
+use Rattle.sl_spec_definitions.specs.Beginning.{no_tables}
+use Rattle.sl_spec_actions.specs.Parts.{Part, parts_of}
+use Rattle.sl_spec_registers.proofs.BoolLemmas.{and_parts, not_true, or_false}
+use Rattle.sl_spec_registers.proofs.FreshLemmas.{field_free}
+use Rattle.sl_spec_registers.specs.NewNames.{is_defined, is_new, reserved_words}
+use Rattle.sl_spec_rules.proofs.ListLemmas.{any_map}
+use Rattle.sl_spec_rules.specs.Names.{Name, is_among}
 use Rattle.sl_spec.specs.Named.{has_name, index_named}
 use Rattle.sl_spec.specs.Tables.{Ctor, Field, Table}
 use Rattle.sl_spec.specs.declared.tables.Tables.{Tables}

@@ -15,22 +15,22 @@ use Rattle.sl_bind.specs.declared.fault.Refusal.{Refusal}
 use Rattle.sl_bind.specs.declared.fault.Refusal.TheVariants as refusal
 use Rattle.sl_bind.specs.declared.stop.Stop.{Stop}
 use Rattle.sl_bind.specs.declared.stop.Stop.TheVariants as stop
-use Rattle.sl_flat_sections.proofs.ReachingLemmas.{none_reaches}
-use Rattle.sl_flat_sections.specs.FlatSections.{Flat, flat_sections, sections_fault}
-use Rattle.sl_flat_sections.specs.Scopes.{Scopes, scopes_of}
-use Rattle.sl_levels.specs.Orders.{NoneReaches}
-use Rattle.sl_order.specs.Orders.{graph}
-use Rattle.sl_rules.specs.Demands.{◌>>=◌}
+use Rattle.sl_section_all.proofs.ReachingLemmas.{none_reaches}
+use Rattle.sl_section_all.specs.FlatSections.{Flat, flat_sections, sections_fault}
+use Rattle.sl_section_all.specs.Scopes.{Scopes, scopes_of}
+use Rattle.sl_base_graphs.specs.Orders.{NoneReaches}
+use Rattle.sl_spec_order.specs.Orders.{graph}
+use Rattle.sl_spec_rules.specs.Demands.{◌>>=◌}
 use Rattle.sl_section_sizes.proofs.OneLemmas.{one_outcome}
 use Rattle.sl_section_sizes.proofs.SomeLemmas.{some_outcome_of_text}
-use Rattle.sl_surely.specs.Surely.{Surely}
-use Rattle.sl_surely.proofs.SurelyLemmas.{surely, surely_map}
+use Rattle.sl_base_surely.specs.Surely.{Surely}
+use Rattle.sl_base_surely.proofs.SurelyLemmas.{surely, surely_map}
 use Rattle.sl_section_sizes.specs.SectionSizes.{AreSizes, IsSizesError}
 use Rattle.sl_section_sizes.specs.declared.faults.SizesError.{SizesError}
 use Rattle.sl_section_sizes.specs.declared.faults.SizesError.TheVariants as sizes
 use Rattle.sl_spec.specs.declared.tables.Tables.{Tables}
-use Rattle.sl_tables.specs.TableRules.{late_fault}
-use Rattle.sl_tables.specs.declared.faults.LateFault.{LateFault}
+use Rattle.sl_spec_tables.specs.TableRules.{late_fault}
+use Rattle.sl_spec_tables.specs.declared.faults.LateFault.{LateFault}
 use Rattle.sl_word.specs.declared.word.Size.{Size}
 
 -- ---- the verdict is one, and surely some

@@ -7,22 +7,22 @@ use Rattle.sl_bind.proofs.KeptLemmas.{kept}
 use Rattle.sl_bind.specs.Verdict as verdict
 use Rattle.sl_bind.specs.Verdict.{Broken, at, beginning, item_step, known_behind, last_operands, macro_step, macro_taken, placed_step, section_step, single_step, unless_late, with_call_of, with_constructor_of, with_known, with_macro}
 use Rattle.sl_bind.specs.declared.items.Progress.{Progress}
-use Rattle.sl_constructors.specs.ConstructorRules.{is_of_root}
-use Rattle.sl_constructors.specs.Steps.{constructor_step}
-use Rattle.sl_constructors.specs.WholeText.{all_tables, table_name}
-use Rattle.sl_definitions.specs.Beginning.{begin, is_endian, no_tables}
-use Rattle.sl_definitions.specs.Items.{definition_step, taken, with_tables}
-use Rattle.sl_definitions.specs.declared.known.Known.{Known}
-use Rattle.sl_registers.specs.NewNames.{is_new}
-use Rattle.sl_rules.specs.Demands.{Demand, first_broken, run}
-use Rattle.sl_rules.specs.Names.{Name}
+use Rattle.sl_spec_constructors.specs.ConstructorRules.{is_of_root}
+use Rattle.sl_spec_constructors.specs.Steps.{constructor_step}
+use Rattle.sl_spec_constructors.specs.WholeText.{all_tables, table_name}
+use Rattle.sl_spec_definitions.specs.Beginning.{begin, is_endian, no_tables}
+use Rattle.sl_spec_definitions.specs.Items.{definition_step, taken, with_tables}
+use Rattle.sl_spec_definitions.specs.declared.known.Known.{Known}
+use Rattle.sl_spec_registers.specs.NewNames.{is_new}
+use Rattle.sl_spec_rules.specs.Demands.{Demand, first_broken, run}
+use Rattle.sl_spec_rules.specs.Names.{Name}
 use Rattle.sl_section_rules.specs.Macros.{Signature}
 use Rattle.sl_section_rules.specs.SectionRules.{macro_demands, section_demands}
 use Rattle.sl_section_rules.specs.WholeText.{Whole, whole_of}
-use Rattle.sl_spec.specs.Unfolded.{constructor_at, constructors_in}
+use Rattle.sl_spec.specs.ConstructorItems.{constructor_at, constructors_in}
 use Rattle.sl_spec.specs.declared.tables.Tables.{Tables}
-use Rattle.sl_tables.specs.TableRules.{late_fault}
-use Rattle.sl_tables.specs.declared.faults.LateFault.{LateFault}
+use Rattle.sl_spec_tables.specs.TableRules.{late_fault}
+use Rattle.sl_spec_tables.specs.declared.faults.LateFault.{LateFault}
 
 -- ---- the constructors among items
 

@@ -5,13 +5,13 @@ use Rattle.sl_ast.specs.Unfolding.{Placed, unfolded}
 use Rattle.sl_bind.specs.Verdict.{Broken, taken, unless_late}
 use Rattle.sl_bind.specs.declared.fault.BindFault.{BindFault}
 use Rattle.sl_bind.specs.declared.fault.BindFault.TheVariants.{Rule, SizeClash, SizeUnfixed}
-use Rattle.sl_flat_sections.specs.FlatSections.{flat_sections, sections_fault}
-use Rattle.sl_flat_sections.specs.Scopes.{Scopes, scopes_of}
-use Rattle.sl_rules.specs.Demands.{◌>>=◌}
-use Rattle.sl_section_sizes.specs.Laws.{ComesTo, Outcome}
+use Rattle.sl_section_all.specs.FlatSections.{flat_sections, sections_fault}
+use Rattle.sl_section_all.specs.Scopes.{Scopes, scopes_of}
+use Rattle.sl_spec_rules.specs.Demands.{◌>>=◌}
+use Rattle.sl_section_sizes.specs.Laws.{ComesTo, SizingOutcome}
 use Rattle.sl_section_sizes.specs.declared.faults.SizeFault.{SizeFault}
 use Rattle.sl_section_sizes.specs.declared.faults.SizeFault.TheVariants as sizes
-use Rattle.sl_spec.specs.Unfolded.{constructors_in}
+use Rattle.sl_spec.specs.ConstructorItems.{constructors_in}
 use Rattle.sl_spec.specs.declared.tables.Tables.{Tables}
 use Rattle.sl_word.specs.declared.word.Size.{Size}
 
@@ -35,7 +35,7 @@ fault_of sizes.Unfixed = SizeUnfixed
 fault_of sizes.Rule = Rule 40
 
 -- what sections come to, beside the tables
-abbrev pub with_tables : Tables → Outcome → Verdict
+abbrev pub with_tables : Tables → SizingOutcome → Verdict
 with_tables t (Ok sizes) = Ok (t, sizes)
 with_tables t (Err (item, fault)) = Err (fault_of fault, Some item)
 
@@ -43,7 +43,7 @@ with_tables t (Err (item, fault)) = Err (fault_of fault, Some item)
 -- or breaks rule 40, in the order in which constructors are shaped.
 abbrev pub EndsIn : Scopes → List (Placed Constructor) → Result Tables Broken → Verdict → Type 0
 EndsIn s cs (Err (rule, item)) verdict = verdict ≡ Err (Rule rule, item)
-EndsIn s cs (Ok t) verdict = (outcome : Outcome) × ComesTo t (flat_sections t s cs) outcome
+EndsIn s cs (Ok t) verdict = (outcome : SizingOutcome) × ComesTo t (flat_sections t s cs) outcome
     × (verdict ≡ with_tables t outcome)
 
 -- The items of a specification come to this verdict.

@@ -1,4 +1,4 @@
--- view: the first tokens of what stands in blocks.
+-- step: the first tokens of what stands in blocks.
 use Rattle.std.specs.Prelude.{ℕ, List}
 use Rattle.sl_ast.specs.Views.{inner_indexes_step}
 use Rattle.sl_ast.specs.declared.constructors.Inner.{Inner, fold-Inner}

@@ -1,12 +1,12 @@
--- meaning: that each text has one verdict, and what holds of the tables of a specification.
+-- law: that each text has one verdict, and what holds of the tables of a specification.
 use Rattle.std.specs.Prelude.{◌≡◌, ℕ, List, Ok}
 use Rattle.std.specs.List.{Contains}
 use Rattle.sl_ast.specs.Trees.{Item}
 use Rattle.sl_bind.specs.Binding.{Binds, Verdict as Outcome, constructors_of}
 use Rattle.sl_bind.specs.Verdict.{taken}
-use Rattle.sl_constructors.specs.Listed.{AreListed, NameOperands, NamesTable}
-use Rattle.sl_levels.specs.Orders.{NoneReaches}
-use Rattle.sl_levels.specs.Reaching.{Graph, successors}
+use Rattle.sl_spec_constructors.specs.Listed.{AreListed, NameOperands, NamesTable}
+use Rattle.sl_base_graphs.specs.Orders.{NoneReaches}
+use Rattle.sl_base_graphs.specs.Reaching.{Graph, successors}
 use Rattle.sl_spec.specs.declared.tables.Tables.{Tables}
 
 -- Items come to one verdict at most.

@@ -1,4 +1,4 @@
--- step: what is judged of flat sections, and what is handed on of a text.
+-- law: what is judged of flat sections, and what is handed on of a text.
 use Rattle.std.specs.Prelude.{◌≡◌, List, None, Some, Ok, Err}
 use Rattle.sl_ast.specs.Trees.{Constructor, Item}
 use Rattle.sl_ast.specs.Unfolding.{Placed}
@@ -9,8 +9,8 @@ use Rattle.sl_bind.specs.declared.fault.Refusal.{Refusal}
 use Rattle.sl_bind.specs.declared.fault.Refusal.TheVariants.{At, NoMemory}
 use Rattle.sl_bind.specs.declared.stop.Stop.{Stop}
 use Rattle.sl_bind.specs.declared.stop.Stop.TheVariants as stop
-use Rattle.sl_flat_sections.specs.FlatSections.{flat_sections, sections_fault}
-use Rattle.sl_flat_sections.specs.Scopes.{Scopes, scopes_of}
+use Rattle.sl_section_all.specs.FlatSections.{flat_sections, sections_fault}
+use Rattle.sl_section_all.specs.Scopes.{Scopes, scopes_of}
 use Rattle.sl_section_sizes.specs.SectionSizes.{AreSizes}
 use Rattle.sl_section_sizes.specs.declared.faults.SizesError.{SizesError}
 use Rattle.sl_section_sizes.specs.declared.faults.SizesError.TheVariants as sizes

@@ -5,10 +5,10 @@ use Rattle.sl_ast.specs.Unfolding.{Placed, unfolded_from}
 use Rattle.sl_bind.specs.Verdict.{Broken}
 use Rattle.sl_bind.specs.declared.stop.Stop.{Stop}
 use Rattle.sl_bind.specs.declared.stop.Stop.TheVariants.{Rule, NoMemory}
-use Rattle.sl_constructors.specs.Made.{IsMade}
-use Rattle.sl_constructors.specs.declared.made.MadeOfBlocks.{MadeOfBlocks}
-use Rattle.sl_rules.specs.declared.fault.Fault.{Fault}
-use Rattle.sl_rules.specs.declared.fault.Fault.TheVariants as fault
+use Rattle.sl_spec_constructors.specs.Made.{IsMade}
+use Rattle.sl_spec_constructors.specs.declared.made.MadeOfBlocks.{MadeOfBlocks}
+use Rattle.sl_spec_rules.specs.declared.fault.Fault.{Fault}
+use Rattle.sl_spec_rules.specs.declared.fault.Fault.TheVariants as fault
 use Rattle.sl_spec.specs.Numbers.{AreToldOf}
 use Rattle.sl_spec.specs.Tables.{Table}
 use Rattle.sl_spec.specs.Unfolded.{placed, unfolded_one}

@@ -4,25 +4,25 @@ use Rattle.std.specs.Prelude.{Option, Some, None, Result, Ok, Err}
 use Rattle.sl_ast.specs.Trees.{Constructor, Item, Macro, constructor, macro}
 use Rattle.sl_ast.specs.Unfolding.{Placed, unfolded}
 use Rattle.sl_bind.specs.declared.items.Progress.{Progress}
-use Rattle.sl_constructors.specs.ConstructorRules.{is_of_root}
-use Rattle.sl_constructors.specs.Steps.{all_tables, constructor_step}
-use Rattle.sl_constructors.specs.WholeText.{table_name}
-use Rattle.sl_definitions.specs.Beginning.{begin, opening}
-use Rattle.sl_definitions.specs.Items.{definition_step, with_tables}
-use Rattle.sl_definitions.specs.declared.known.Known.{Known}
-use Rattle.sl_registers.specs.NewNames.{is_new}
-use Rattle.sl_rules.specs.Demands.{◌>>=◌, judged, run}
-use Rattle.sl_rules.specs.Names.{Name}
+use Rattle.sl_spec_constructors.specs.ConstructorRules.{is_of_root}
+use Rattle.sl_spec_constructors.specs.Steps.{all_tables, constructor_step}
+use Rattle.sl_spec_constructors.specs.WholeText.{table_name}
+use Rattle.sl_spec_definitions.specs.Beginning.{begin, opening}
+use Rattle.sl_spec_definitions.specs.Items.{definition_step, with_tables}
+use Rattle.sl_spec_definitions.specs.declared.known.Known.{Known}
+use Rattle.sl_spec_registers.specs.NewNames.{is_new}
+use Rattle.sl_spec_rules.specs.Demands.{◌>>=◌, judged, run}
+use Rattle.sl_spec_rules.specs.Names.{Name}
 use Rattle.sl_section_rules.specs.Macros.{Signature, signature_of, with_signature}
 use Rattle.sl_section_rules.specs.SectionRules.{macro_demands, section_demands}
 use Rattle.sl_section_rules.specs.WholeText.{Whole, whole_of}
 use Rattle.sl_spec.specs.Tables.{Ctor, Operand, Table}
-use Rattle.sl_spec.specs.Unfolded.{constructors_in}
+use Rattle.sl_spec.specs.ConstructorItems.{constructors_in}
 use Rattle.sl_spec.specs.declared.tables.Tables.{Tables}
-use Rattle.sl_tables.specs.TableRules.{late_fault}
-use Rattle.sl_tables.specs.declared.faults.LateFault.{LateFault}
-use Rattle.sl_tables.specs.declared.faults.Place.{Place}
-use Rattle.sl_tables.specs.declared.faults.Place.TheVariants.{Item as AtItem, End}
+use Rattle.sl_spec_tables.specs.TableRules.{late_fault}
+use Rattle.sl_spec_tables.specs.declared.faults.LateFault.{LateFault}
+use Rattle.sl_spec_tables.specs.declared.faults.Place.{Place}
+use Rattle.sl_spec_tables.specs.declared.faults.Place.TheVariants.{Item as AtItem, End}
 
 -- ---- macros (SLEIGH manual, "P-code Macros")
 

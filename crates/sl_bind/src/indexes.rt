@@ -3,7 +3,7 @@
 ghost use Rattle.std.specs.Prelude.{◌≡◌, ◌++◌, IfOk, slice_get};
 ghost use Rattle.sl_ast.specs.Views.{item_indexes};
 ghost use Rattle.sl_bind.specs.Indexes.{indexes_in};
-ghost use Rattle.sl_rules.specs.Gathered.{gathered};
+ghost use Rattle.sl_spec_rules.specs.Gathered.{gathered};
 
 use sl_ast::constructors::Inner;
 use sl_ast::items::{Item, ItemKind};

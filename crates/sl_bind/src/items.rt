@@ -7,23 +7,24 @@ ghost use Rattle.sl_bind.specs.Steps.{GivesAt, GoesOn, constructor_item};
 ghost use Rattle.sl_bind.specs.Verdict.{at, beginning, item_step, last_operands, macro_step};
 ghost use Rattle.sl_bind.specs.Verdict.{macro_taken, placed_step, section_step, single_step};
 ghost use Rattle.sl_bind.specs.Verdict.{with_constructor_of};
-ghost use Rattle.sl_constructors.specs.ConstructorRules.{is_of_root};
-ghost use Rattle.sl_constructors.specs.Made.{IsMadeFor, StaysMade};
-ghost use Rattle.sl_constructors.specs.WholeText.{table_name};
-ghost use Rattle.sl_rules.specs.Demands.{Gives, first_broken, run};
+ghost use Rattle.sl_spec_constructors.specs.ConstructorRules.{is_of_root};
+ghost use Rattle.sl_spec_constructors.specs.Made.{IsMadeFor, StaysMade};
+ghost use Rattle.sl_spec_constructors.specs.WholeText.{table_name};
+ghost use Rattle.sl_spec_rules.specs.Demands.{Gives, first_broken, run};
 ghost use Rattle.sl_section_rules.specs.SectionRules.{section_demands};
 ghost use Rattle.sl_spec.specs.Numbers.{AreNumbered};
-ghost use Rattle.sl_spec.specs.Unfolded.{all_placed, constructors_in, placed, unfolded_one};
+ghost use Rattle.sl_spec.specs.Unfolded.{all_placed, placed, unfolded_one};
+ghost use Rattle.sl_spec.specs.ConstructorItems.{constructors_in};
 
 use crate::stop::{Stop, stop_at};
 use sl_ast::constructors::{Macro, Section};
 use sl_ast::items::{Item, ItemKind};
-use sl_constructors::{MadeOfBlocks, define_constructor, table_name};
-use sl_definitions::{Known, begin, define, opening};
-use sl_registers::is_new;
-use sl_rules::Fault;
 use sl_section_rules::{Signature, Whole, add_signature, judge_macro, judge_section, signature_of};
 use sl_spec::{Macro as MacroEntry, Named, Table, Tables, Unfolded, add_unfolded};
+use sl_spec_constructors::{MadeOfBlocks, define_constructor, table_name};
+use sl_spec_definitions::{Known, begin, define, opening};
+use sl_spec_registers::is_new;
+use sl_spec_rules::Fault;
 use std::alloc::{AllocError, Global};
 
 /// What is known before an item, and the macros so far as calls of them are judged.

@@ -6,18 +6,18 @@ ghost use Rattle.sl_bind.specs.Sections.{AreKept, StopsAt, TellsSizes};
 ghost use Rattle.sl_bind.specs.Verdict.{item_at};
 ghost use Rattle.sl_bind.specs.declared.fault.BindFault.TheVariants as fault;
 ghost use Rattle.sl_bind.specs.declared.fault.Refusal.TheVariants.{At};
-ghost use Rattle.sl_flat_sections.specs.Views.{scopes_view};
-ghost use Rattle.sl_levels.specs.Orders.{NoneReaches};
-ghost use Rattle.sl_order.specs.Orders.{graph};
-ghost use Rattle.sl_sizing.specs.Sizings.{lists_of};
+ghost use Rattle.sl_section_all.specs.Views.{scopes_view};
+ghost use Rattle.sl_base_graphs.specs.Orders.{NoneReaches};
+ghost use Rattle.sl_spec_order.specs.Orders.{graph};
+ghost use Rattle.sl_section_sizes.specs.Sizings.{lists_of};
 ghost use Rattle.sl_spec.specs.Unfolded.{all_placed};
-ghost use Rattle.sl_tables.specs.TableRules.{late_fault};
+ghost use Rattle.sl_spec_tables.specs.TableRules.{late_fault};
 
 use crate::fault::{BindFault, Refusal};
-use sl_flat_sections::{Judged, Scopes, judge_sections};
+use sl_section_all::{Judged, Scopes, judge_sections};
 use sl_section_sizes::{SizeFault, SizesError, section_sizes};
 use sl_spec::{Tables, Unfolded};
-use sl_tables::{LateFault, Place};
+use sl_spec_tables::{LateFault, Place};
 use sl_word::Size;
 use std::alloc::Global;
 

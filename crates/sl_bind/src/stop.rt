@@ -3,7 +3,7 @@
 ghost use Rattle.std.specs.Prelude.{◌≡◌};
 ghost use Rattle.sl_bind.specs.Steps.{stop_at};
 
-use sl_rules::Fault;
+use sl_spec_rules::Fault;
 use std::alloc::AllocError;
 
 /// The number of the broken rule with that of the item that breaks it, none for the text's end, or

@@ -10,16 +10,17 @@ use Rattle.sl_build.specs.declared.work.Work.{Work}
 use Rattle.sl_build.proofs.SiteLemmas.{address_fits}
 use Rattle.sl_build.proofs.StandLemmas.{gives_are, lists_are, sections_are, setting_is}
 use Rattle.sl_build.proofs.TreeLemmas.{first_list_is, length_rows}
-use Rattle.sl_code.specs.Nodes.{node_code, top_of}
-use Rattle.sl_code.proofs.Nodes.{code_is_faithful}
-use Rattle.sl_decoding.specs.Flat.{all_values, count, entries}
-use Rattle.sl_decoding.specs.Trees.{Node, Trees}
-use Rattle.sl_decoding.specs.declared.entries.Entry.{Entry}
-use Rattle.sl_emit.specs.Views.{number_of, operations_of}
-use Rattle.sl_instruction.specs.Instructions.{Specification, first_node, given_at, instruction, nodes_by, section_by, setting_of}
-use Rattle.sl_meaning.specs.Nodes as m
-use Rattle.sl_meaning.specs.References.{Reference, Setting}
-use Rattle.sl_operators.specs.Operators.{wrapped}
+use Rattle.sl_faithful_code.specs.Nodes.{node_code, top_of}
+use Rattle.sl_faithful_code.proofs.Nodes.{code_is_faithful}
+use Rattle.sl_decode_meaning.specs.Flat.{all_values, entries}
+use Rattle.sl_decode_meaning.specs.TreeCounts.{count}
+use Rattle.sl_decode_meaning.specs.Trees.{Node, Trees}
+use Rattle.sl_decode_meaning.specs.declared.entries.Entry.{Entry}
+use Rattle.sl_build_emit.specs.Views.{number_of, operations_of}
+use Rattle.sl_meaning_instruction.specs.Instructions.{Specification, first_node, given_at, instruction, nodes_by, section_by, setting_of}
+use Rattle.sl_meaning_sections.specs.Nodes as m
+use Rattle.sl_meaning_sections.specs.References.{Reference, Setting}
+use Rattle.sl_spec_operators.specs.Operators.{wrapped}
 use Rattle.sl_pcode.specs.WellFormed.{IsWellFormed}
 use Rattle.sl_pcode.specs.declared.operation.Op.{Op}
 use Rattle.sl_show.specs.Entries.{Row, row_of, rows, rows_of}

@@ -2,8 +2,8 @@
 use Rattle.std.proofs.Common.{◌≡◌, ℕ, ◌+◌, ◌<◌, ◌/◌, ◌^◌, List, length, drop, min, refl, sym, ap, ◌∙◌, arith, Option, Some, None, inl, inr}
 use Rattle.std.specs.Prelude.{if◌then◌else◌, slice_get}
 use Rattle.std.proofs.lemmas.Bool.{cases_lt, lt-leb}
-use Rattle.sl_decoding.specs.Lookups.{is_whole}
-use Rattle.sl_instruction.specs.Operands.{field_reference, field_reference_by, field_reference_if}
+use Rattle.sl_decode_meaning.specs.Lookups.{is_whole}
+use Rattle.sl_meaning_instruction.specs.Operands.{field_reference, field_reference_by, field_reference_if}
 use Rattle.sl_spec.specs.Attachments.{attached_to}
 use Rattle.sl_spec.specs.FieldValues.{number_in, token_of}
 use Rattle.sl_spec.specs.Tables.{Field, Token}

@@ -6,11 +6,11 @@ use Rattle.sl_build.specs.Pieces.{Making, Piece, behind_of, below_of, filled_lis
 use Rattle.sl_build.specs.Views.{piece_of, pieces_of}
 use Rattle.sl_build.specs.declared.trees.Tree.{Tree}
 use Rattle.sl_build.proofs.TreeLemmas.{behind_more, behind_none, below_more, below_none}
-use Rattle.sl_code.specs.Operations.{Operation}
-use Rattle.sl_decoding.specs.Trees.{Node}
-use Rattle.sl_decoding.specs.declared.entries.Entry.{Entry}
-use Rattle.sl_meaning.specs.Nodes.{Section}
-use Rattle.sl_meaning.specs.References.{Reference, Setting}
+use Rattle.sl_faithful_code.specs.Operations.{Operation}
+use Rattle.sl_decode_meaning.specs.Trees.{Node}
+use Rattle.sl_decode_meaning.specs.declared.entries.Entry.{Entry}
+use Rattle.sl_meaning_sections.specs.Nodes.{Section}
+use Rattle.sl_meaning_sections.specs.References.{Reference, Setting}
 use Rattle.sl_show.specs.Entries.{row_of, rows_of}
 
 -- what is left from an index on, as it is seen

@@ -11,9 +11,9 @@ use Rattle.sl_ast.specs.Trees.{Constructor}
 use Rattle.sl_ast.specs.Unfolding.{Placed}
 use Rattle.sl_build.specs.Views.{AreSlots, gives_by, slot_reference, slots_in}
 use Rattle.sl_build.specs.declared.slots.Slot.{Slot}
-use Rattle.sl_decoding.specs.Trees.{Node}
-use Rattle.sl_instruction.specs.Operands.{given_by}
-use Rattle.sl_meaning.specs.References.{Reference}
+use Rattle.sl_decode_meaning.specs.Trees.{Node}
+use Rattle.sl_meaning_instruction.specs.Operands.{given_by}
+use Rattle.sl_meaning_sections.specs.References.{Reference}
 use Rattle.sl_spec.specs.Tables.{Ctor}
 use Rattle.sl_spec.specs.Unfolded.{all_placed, placed}
 use Rattle.sl_spec.specs.declared.tables.Tables.{Tables}

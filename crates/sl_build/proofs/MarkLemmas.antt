@@ -8,10 +8,11 @@ use Rattle.std.proofs.lemmas.Option.{slice_get-map}
 use Rattle.sl_ast.specs.Trees.{Constructor}
 use Rattle.sl_ast.specs.Unfolding.{Placed}
 use Rattle.sl_build.specs.Views.{is_marked}
-use Rattle.sl_decoding.specs.Flat.{all_values, count, entries, entry_of}
-use Rattle.sl_decoding.specs.Trees.{Node, Trees, none, tree}
-use Rattle.sl_decoding.specs.declared.entries.Entry.{Entry}
-use Rattle.sl_instruction.specs.Instructions.{is_unimpl, is_unimpl_by, is_unimplemented}
+use Rattle.sl_decode_meaning.specs.Flat.{all_values, entries, entry_of}
+use Rattle.sl_decode_meaning.specs.TreeCounts.{count}
+use Rattle.sl_decode_meaning.specs.Trees.{Node, Trees, none, tree}
+use Rattle.sl_decode_meaning.specs.declared.entries.Entry.{Entry}
+use Rattle.sl_meaning_instruction.specs.Instructions.{is_unimpl, is_unimpl_by, is_unimplemented}
 use Rattle.sl_spec.specs.Unfolded.{all_placed, placed}
 use Rattle.sl_spec.specs.declared.unfolded.Unfolded.{Unfolded}
 

@@ -2,17 +2,17 @@
 use Rattle.std.proofs.Common.{◌≡◌, ℕ, ℤ, zero, suc, ◌≤◌, List, [], ◌∷◌, refl, arith}
 use Rattle.std.specs.Prelude.{slice_index}
 use Rattle.sl_build.specs.Exports.{exported_or, exports_in}
-use Rattle.sl_code.specs.Operations.{Operation}
-use Rattle.sl_emit.specs.Views.{references_of}
-use Rattle.sl_emit.specs.declared.reference.Reference.{Reference}
-use Rattle.sl_meaning.specs.Nodes.{exported}
-use Rattle.sl_meaning.specs.References.{Setting}
-use Rattle.sl_meaning.specs.Values.{Frame}
-use Rattle.sl_section.specs.Sections as s
-use Rattle.sl_section.specs.Sections.{Step}
-use Rattle.sl_template.specs.Pieces.{Part}
-use Rattle.sl_template.specs.Placed.{placed}
-use Rattle.sl_template.specs.Views.{size_in}
+use Rattle.sl_faithful_code.specs.Operations.{Operation}
+use Rattle.sl_build_emit.specs.Views.{references_of}
+use Rattle.sl_build_emit.specs.declared.reference.Reference.{Reference}
+use Rattle.sl_meaning_sections.specs.Nodes.{exported}
+use Rattle.sl_meaning_sections.specs.References.{Setting}
+use Rattle.sl_meaning_sections.specs.Values.{Frame}
+use Rattle.sl_section_flat.specs.Sections as s
+use Rattle.sl_section_flat.specs.Sections.{Step}
+use Rattle.sl_build_template.specs.Pieces.{Part}
+use Rattle.sl_build_template.specs.Placed.{placed}
+use Rattle.sl_build_template.specs.Views.{size_in}
 use Rattle.sl_word.specs.Sizes.{byte_counts}
 use Rattle.sl_word.specs.declared.word.AddressSize.{AddressSize}
 use Rattle.sl_word.specs.declared.word.Endian.{Endian}

@@ -6,16 +6,16 @@ use Rattle.sl_build.specs.Pieces.{section_list}
 use Rattle.sl_build.specs.Stands.{StandsFor}
 use Rattle.sl_build.specs.Views.{gives_in, list_in, section_in, setting_in}
 use Rattle.sl_build.specs.declared.work.Work.{Work}
-use Rattle.sl_emit.specs.Views.{number_of}
+use Rattle.sl_build_emit.specs.Views.{number_of}
 use Rattle.sl_ast.specs.Trees.{Constructor}
 use Rattle.sl_ast.specs.Unfolding.{Placed}
-use Rattle.sl_flat_sections.specs.FlatSections.{Flat, flat_sections, sections_by}
-use Rattle.sl_flat_sections.specs.Scopes.{Scopes}
-use Rattle.sl_instruction.specs.Instructions.{Specification, default_space, given_at, section_by, setting_of}
-use Rattle.sl_meaning.specs.Nodes.{frame_of}
-use Rattle.sl_meaning.specs.References.{Setting}
-use Rattle.sl_operators.specs.Operators.{wrapped}
-use Rattle.sl_sizing.specs.Sizings.{lists_of}
+use Rattle.sl_section_all.specs.FlatSections.{Flat, flat_sections, sections_by}
+use Rattle.sl_section_all.specs.Scopes.{Scopes}
+use Rattle.sl_meaning_instruction.specs.Instructions.{Specification, default_space, given_at, section_by, setting_of}
+use Rattle.sl_meaning_sections.specs.Nodes.{frame_of}
+use Rattle.sl_meaning_sections.specs.References.{Setting}
+use Rattle.sl_spec_operators.specs.Operators.{wrapped}
+use Rattle.sl_section_sizes.specs.Sizings.{lists_of}
 use Rattle.sl_spec.specs.declared.tables.Tables.{Tables}
 use Rattle.sl_word.specs.declared.word.Endian.{Endian}
 use Rattle.sl_word.specs.declared.word.Size.{Size}

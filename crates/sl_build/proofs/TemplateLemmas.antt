@@ -6,15 +6,15 @@ use Rattle.std.specs.Option.{option_map}
 use Rattle.std.specs.Prelude.{Vec, unwrap_or}
 use Rattle.std.specs.declared.alloc.Global.{Global}
 use Rattle.sl_build.specs.Views.{AreTemplates, form_by, form_of_sizes, template_at, templates_of}
-use Rattle.sl_flat_sections.specs.FlatSections.{Flat}
-use Rattle.sl_flat_sections.specs.Views.{flat_of, flats_of}
-use Rattle.sl_instruction.specs.Instructions.{no_steps, section_by}
-use Rattle.sl_section.specs.Sections.{Step}
-use Rattle.sl_section.specs.Views.{steps_of}
-use Rattle.sl_section.specs.declared.section.Section.{Section}
-use Rattle.sl_template.specs.Pieces.{Form, Part}
-use Rattle.sl_template.specs.Views.{IsTemplateOf, parts_of}
-use Rattle.sl_template.specs.declared.piece.Part as declared
+use Rattle.sl_section_all.specs.FlatSections.{Flat}
+use Rattle.sl_section_all.specs.Views.{flat_of, flats_of}
+use Rattle.sl_meaning_instruction.specs.Instructions.{no_steps, section_by}
+use Rattle.sl_section_flat.specs.Sections.{Step}
+use Rattle.sl_section_flat.specs.Views.{steps_of}
+use Rattle.sl_section_flat.specs.declared.section.Section.{Section}
+use Rattle.sl_build_template.specs.Pieces.{Form, Part}
+use Rattle.sl_build_template.specs.Views.{IsTemplateOf, parts_of}
+use Rattle.sl_build_template.specs.declared.piece.Part as declared
 use Rattle.sl_word.specs.Sizes.{byte_counts}
 use Rattle.sl_word.specs.declared.word.AddressSize.{AddressSize}
 use Rattle.sl_word.specs.declared.word.Size.{Size}

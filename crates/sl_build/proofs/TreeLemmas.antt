@@ -1,14 +1,14 @@
 -- The trees of a row, made from its last node to the first, are the nodes of the instruction.
 use Rattle.std.proofs.Common.{◌≡◌, ℕ, zero, suc, ◌+◌, ◌-◌, ◌<◌, List, [], ◌∷◌, ◌++◌, length, append-nil, append_assoc, length-append, refl, sym, ap, ◌∙◌, arith, Option, Some, None}
 use Rattle.sl_build.specs.Pieces.{Piece, behind_of, filled_lists, filled_references, first_code, below_of, lengths_in, piece_at, piece_before, piece_with, pieces, section_list}
-use Rattle.sl_code.specs.Nodes.{children_code, node_code}
-use Rattle.sl_code.specs.Operations.{Operation}
-use Rattle.sl_decoding.specs.Flat.{count}
-use Rattle.sl_decoding.specs.Trees.{Node, Trees, none, tree}
-use Rattle.sl_instruction.specs.Instructions.{filled, first_node, lengths_of, nodes_by}
-use Rattle.sl_meaning.specs.Nodes as m
-use Rattle.sl_meaning.specs.Nodes.{Section, node, nothing, reference_of, references_of}
-use Rattle.sl_meaning.specs.References.{Reference, Setting}
+use Rattle.sl_faithful_code.specs.Nodes.{children_code, node_code}
+use Rattle.sl_faithful_code.specs.Operations.{Operation}
+use Rattle.sl_decode_meaning.specs.TreeCounts.{count}
+use Rattle.sl_decode_meaning.specs.Trees.{Node, Trees, none, tree}
+use Rattle.sl_meaning_instruction.specs.Instructions.{filled, first_node, lengths_of, nodes_by}
+use Rattle.sl_meaning_sections.specs.Nodes as m
+use Rattle.sl_meaning_sections.specs.Nodes.{Section, node, nothing, reference_of, references_of}
+use Rattle.sl_meaning_sections.specs.References.{Reference, Setting}
 use Rattle.sl_show.specs.Entries.{Row, rows}
 
 -- ---- the first trees of some

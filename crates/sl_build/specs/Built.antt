@@ -1,14 +1,15 @@
--- meaning: what an instruction is built to.
+-- step: what an instruction is built to.
 use Rattle.std.specs.Prelude.{◌≡◌, ℕ, ◌<◌, ◌^◌, true, false, List, length, map}
 use Rattle.sl_build.specs.declared.built.Built.{Built}
 use Rattle.sl_build.specs.declared.built.Built.TheVariants.{Ops, Unimplemented}
-use Rattle.sl_code.specs.Nodes.{IsFaithful, LocalOf, NodeFits, node_code, top_of}
-use Rattle.sl_code.specs.Operations.{operation_of}
-use Rattle.sl_decoding.specs.Flat.{count}
-use Rattle.sl_decoding.specs.Trees.{Node, Trees}
-use Rattle.sl_instruction.specs.Instructions.{Specification, instruction, is_unimplemented}
-use Rattle.sl_meaning.specs.Nodes as m
-use Rattle.sl_meaning.specs.References.{Setting}
+use Rattle.sl_faithful_code.specs.Nodes.{LocalOf, NodeFits, node_code, top_of}
+use Rattle.sl_faithful_code.specs.Faithful.{IsFaithful}
+use Rattle.sl_faithful_code.specs.Operations.{operation_of}
+use Rattle.sl_decode_meaning.specs.TreeCounts.{count}
+use Rattle.sl_decode_meaning.specs.Trees.{Node, Trees}
+use Rattle.sl_meaning_instruction.specs.Instructions.{Specification, instruction, is_unimplemented}
+use Rattle.sl_meaning_sections.specs.Nodes as m
+use Rattle.sl_meaning_sections.specs.References.{Setting}
 use Rattle.sl_pcode.specs.Operations.{operations}
 use Rattle.sl_pcode.specs.WellFormed.{IsWellFormed}
 use Rattle.sl_pcode.specs.declared.operation.Op.{Op}

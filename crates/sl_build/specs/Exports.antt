@@ -1,9 +1,9 @@
 -- step: what a section exports, statement by statement.
 use Rattle.std.specs.Prelude.{Option, Some, None}
-use Rattle.sl_meaning.specs.Nodes.{export_reference}
-use Rattle.sl_meaning.specs.References.{Reference, Setting}
-use Rattle.sl_meaning.specs.Values.{Frame}
-use Rattle.sl_section.specs.Sections as s
+use Rattle.sl_meaning_sections.specs.Nodes.{export_reference}
+use Rattle.sl_meaning_sections.specs.References.{Reference, Setting}
+use Rattle.sl_meaning_sections.specs.Values.{Frame}
+use Rattle.sl_section_flat.specs.Sections as s
 
 -- what a statement exports, if it is an `export`
 abbrev pub exports_in : s.Step → Option s.Export

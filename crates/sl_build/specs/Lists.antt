@@ -3,13 +3,14 @@ use Rattle.std.specs.Prelude.{◌≡◌, ℕ, pos, List, length}
 use Rattle.sl_build.specs.Built.{IsListOf}
 use Rattle.sl_build.specs.Stands.{StandsFor}
 use Rattle.sl_build.specs.declared.work.Work.{Work}
-use Rattle.sl_code.specs.Nodes.{top_of}
-use Rattle.sl_decoding.specs.Flat.{all_values, count, entries}
-use Rattle.sl_decoding.specs.Trees.{Node, Trees}
-use Rattle.sl_decoding.specs.declared.entries.Entry.{Entry}
-use Rattle.sl_emit.specs.Views.{number_of}
-use Rattle.sl_instruction.specs.Instructions.{Specification, instruction, setting_of}
-use Rattle.sl_operators.specs.Operators.{wrapped}
+use Rattle.sl_faithful_code.specs.Nodes.{top_of}
+use Rattle.sl_decode_meaning.specs.Flat.{all_values, entries}
+use Rattle.sl_decode_meaning.specs.TreeCounts.{count}
+use Rattle.sl_decode_meaning.specs.Trees.{Node, Trees}
+use Rattle.sl_decode_meaning.specs.declared.entries.Entry.{Entry}
+use Rattle.sl_build_emit.specs.Views.{number_of}
+use Rattle.sl_meaning_instruction.specs.Instructions.{Specification, instruction, setting_of}
+use Rattle.sl_spec_operators.specs.Operators.{wrapped}
 use Rattle.sl_pcode.specs.declared.operation.Op.{Op}
 
 -- It is the list of the instruction that the row stands for.

@@ -1,10 +1,10 @@
 -- step: the lists of trees, made from the last node of a row to the first.
 use Rattle.std.specs.Prelude.{ℕ, zero, suc, ◌+◌, ◌-◌, List, [], ◌∷◌, Option, None, Some, map}
-use Rattle.sl_code.specs.Operations.{Operation}
-use Rattle.sl_code.specs.Statements.{section_code}
-use Rattle.sl_decoding.specs.Trees.{Node}
-use Rattle.sl_meaning.specs.Nodes.{Section, exported, frame_of, nothing}
-use Rattle.sl_meaning.specs.References.{Reference, Setting}
+use Rattle.sl_faithful_code.specs.Operations.{Operation}
+use Rattle.sl_faithful_code.specs.Statements.{section_code}
+use Rattle.sl_decode_meaning.specs.Trees.{Node}
+use Rattle.sl_meaning_sections.specs.Nodes.{Section, exported, frame_of, nothing}
+use Rattle.sl_meaning_sections.specs.References.{Reference, Setting}
 use Rattle.sl_show.specs.Entries.{Row}
 
 -- A tree: how many nodes it has, the length of its root in bytes, what it exports, and its list.

@@ -1,11 +1,11 @@
--- meaning: which specification sections are made of.
+-- view: which specification sections are made of.
 use Rattle.std.specs.Prelude.{◌≡◌, ℕ, List, map}
 use Rattle.sl_build.specs.Views.{AreTemplates, gives_by, templates_of}
 use Rattle.sl_build.specs.declared.sections.Sections.{Sections}
-use Rattle.sl_decoding.specs.Trees.{Node}
-use Rattle.sl_flat_sections.specs.Views.{flats_of}
-use Rattle.sl_instruction.specs.Instructions.{Specification, default_space, given_at, is_unimpl}
-use Rattle.sl_sizing.specs.Sizings.{lists_of}
+use Rattle.sl_decode_meaning.specs.Trees.{Node}
+use Rattle.sl_section_all.specs.Views.{flats_of}
+use Rattle.sl_meaning_instruction.specs.Instructions.{Specification, default_space, given_at, is_unimpl}
+use Rattle.sl_section_sizes.specs.Sizings.{lists_of}
 use Rattle.sl_word.specs.Sizes.{byte_counts}
 
 -- They are the sections of this specification.

@@ -9,23 +9,23 @@ use Rattle.sl_build.specs.declared.slots.Slot.{Slot}
 use Rattle.sl_build.specs.declared.slots.Slot.TheVariants as v
 use Rattle.sl_build.specs.declared.trees.Tree.{Tree}
 use Rattle.sl_build.specs.declared.work.Work.{Work}
-use Rattle.sl_decoding.specs.Trees.{Node}
-use Rattle.sl_decoding.specs.declared.entries.Entry.{Entry}
-use Rattle.sl_emit.specs.Views.{number_of, operations_of, reference_of}
-use Rattle.sl_flat_sections.specs.FlatSections.{Flat}
-use Rattle.sl_flat_sections.specs.Views.{flats_of}
-use Rattle.sl_instruction.specs.Instructions.{section_by}
-use Rattle.sl_instruction.specs.Operands.{action_reference, field_at, given_by}
-use Rattle.sl_meaning.specs.Nodes.{Section, frame_of}
-use Rattle.sl_meaning.specs.References.{Reference, Setting}
-use Rattle.sl_leaves.specs.Extents.{extent}
+use Rattle.sl_decode_meaning.specs.Trees.{Node}
+use Rattle.sl_decode_meaning.specs.declared.entries.Entry.{Entry}
+use Rattle.sl_build_emit.specs.Views.{number_of, operations_of, reference_of}
+use Rattle.sl_section_all.specs.FlatSections.{Flat}
+use Rattle.sl_section_all.specs.Views.{flats_of}
+use Rattle.sl_meaning_instruction.specs.Instructions.{section_by}
+use Rattle.sl_meaning_instruction.specs.Operands.{action_reference, field_at, given_by}
+use Rattle.sl_meaning_sections.specs.Nodes.{Section, frame_of}
+use Rattle.sl_meaning_sections.specs.References.{Reference, Setting}
+use Rattle.sl_decode_leaves.specs.Extents.{extent}
 use Rattle.sl_show.specs.Entries.{Row, rows_of}
-use Rattle.sl_sizing.specs.Sizings.{lists_of}
+use Rattle.sl_section_sizes.specs.Sizings.{lists_of}
 use Rattle.sl_spec.specs.declared.tables.Tables.{Tables}
-use Rattle.sl_template.specs.Pieces as t
-use Rattle.sl_template.specs.Placed.{placed}
-use Rattle.sl_template.specs.Views.{IsTemplateOf, parts_of, size_in}
-use Rattle.sl_template.specs.declared.piece.Part.{Part}
+use Rattle.sl_build_template.specs.Pieces as t
+use Rattle.sl_build_template.specs.Placed.{placed}
+use Rattle.sl_build_template.specs.Views.{IsTemplateOf, parts_of, size_in}
+use Rattle.sl_build_template.specs.declared.piece.Part.{Part}
 use Rattle.sl_word.specs.Sizes.{byte_counts}
 use Rattle.sl_word.specs.declared.word.Size.{Size}
 

@@ -1,20 +1,20 @@
 //! What sections export.
 
 ghost use Rattle.std.specs.Prelude.{◌≡◌, IfOk, option_map};
-ghost use Rattle.sl_emit.specs.Views.{frame_of, reference_of, setting_of};
+ghost use Rattle.sl_build_emit.specs.Views.{frame_of, reference_of, setting_of};
 ghost use Rattle.sl_build.specs.Exports.{exports_in};
-ghost use Rattle.sl_equations.specs.Equations.{size_at};
-ghost use Rattle.sl_meaning.specs.Nodes as meaning;
-ghost use Rattle.sl_meaning.specs.References as r;
-ghost use Rattle.sl_meaning.specs.Values.{space_of};
-ghost use Rattle.sl_section.specs.Sections as s;
-ghost use Rattle.sl_section.specs.Views.{export_of, number_of as space_number, step_of};
-ghost use Rattle.sl_section.specs.Views.{steps_of, term_of};
+ghost use Rattle.sl_section_equations.specs.Equations.{size_at};
+ghost use Rattle.sl_meaning_sections.specs.Nodes as meaning;
+ghost use Rattle.sl_meaning_sections.specs.References as r;
+ghost use Rattle.sl_meaning_sections.specs.Values.{space_of};
+ghost use Rattle.sl_section_flat.specs.Sections as s;
+ghost use Rattle.sl_section_flat.specs.Views.{export_of, number_of as space_number, step_of};
+ghost use Rattle.sl_section_flat.specs.Views.{steps_of, term_of};
 
 use crate::numbers::{cut_to, nothing};
 use crate::references::{meant, same_size, variable_size};
-use sl_emit::{Number, Reference, Site};
-use sl_section::{Export, Step, Term, variable};
+use sl_build_emit::{Number, Reference, Site};
+use sl_section_flat::{Export, Step, Term, variable};
 use sl_word::{Size, SpaceId};
 use std::alloc::{AllocError, Global};
 

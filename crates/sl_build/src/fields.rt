@@ -1,17 +1,16 @@
 //! What fields stand for.
 
 ghost use Rattle.std.specs.Prelude.{◌≡◌, ◌+◌, List, option_copied};
-ghost use Rattle.sl_emit.specs.Views.{reference_of};
-ghost use Rattle.sl_instruction.specs.Operands as spec;
-ghost use Rattle.sl_leaves.specs.Extents.{extent};
+ghost use Rattle.sl_build_emit.specs.Views.{reference_of};
+ghost use Rattle.sl_meaning_instruction.specs.Operands as spec;
+ghost use Rattle.sl_decode_leaves.specs.Extents.{extent};
 ghost use Rattle.sl_spec.specs.Attachments.{attached_to};
 ghost use Rattle.sl_spec.specs.Views.{entries_of};
 
 use crate::numbers::{nothing, plain};
 use crate::references::storage;
-use sl_emit::Reference;
-use sl_fields::{number_at, number_of, register_at};
-use sl_leaves::{Extent, extent_of};
+use sl_build_emit::Reference;
+use sl_decode_leaves::{Extent, extent_of, number_at, number_of, register_at};
 use sl_spec::{Entries, Field, FieldId, Register, Tables};
 
 fn register_reference(register: Option<&Register>) -> Reference

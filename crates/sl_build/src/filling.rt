@@ -4,9 +4,9 @@ ghost use Rattle.std.specs.Prelude.{◌≡◌, ◌++◌, ◌∷◌, List, Option
 ghost use Rattle.std.specs.Prelude.{[], drop, slice_get, take};
 ghost use Rattle.sl_build.specs.Pieces.{filled_lists, filled_references, lengths_in};
 ghost use Rattle.sl_build.specs.Views.{gives_in, pieces_of, slot_reference, slots_in};
-ghost use Rattle.sl_decoding.specs.Values.{value_or_zero};
-ghost use Rattle.sl_emit.specs.Views.{lists_of, operations_of, reference_of, references_of};
-ghost use Rattle.sl_meaning.specs.References.{Reference as ReferenceOf};
+ghost use Rattle.sl_decode_meaning.specs.Values.{value_or_zero};
+ghost use Rattle.sl_build_emit.specs.Views.{lists_of, operations_of, reference_of, references_of};
+ghost use Rattle.sl_meaning_sections.specs.References.{Reference as ReferenceOf};
 ghost use Rattle.sl_show.specs.Entries.{row_of};
 
 use crate::fields::field_at;
@@ -14,8 +14,8 @@ use crate::numbers::{nothing, plain};
 use crate::slots::Slot;
 use crate::trees::Tree;
 use crate::work::Work;
-use sl_decoding::Entry;
-use sl_emit::Reference;
+use sl_build_emit::Reference;
+use sl_decode_meaning::Entry;
 use sl_pcode::Op;
 use sl_spec::CtorId;
 use std::alloc::{AllocError, Global};

@@ -1,15 +1,15 @@
 //! Numbers for which operands stand.
 
 ghost use Rattle.std.specs.Prelude.{◌≡◌, ◌<◌, ◌%◌, ◌^◌, negsuc, pos};
-ghost use Rattle.sl_emit.specs.Views.{number_of, reference_of};
-ghost use Rattle.sl_meaning.specs.Nodes.{nothing};
-ghost use Rattle.sl_meaning.specs.Nodes as meaning;
-ghost use Rattle.sl_meaning.specs.References as r;
-ghost use Rattle.sl_operators.specs.Operators.{wrapped};
+ghost use Rattle.sl_build_emit.specs.Views.{number_of, reference_of};
+ghost use Rattle.sl_meaning_sections.specs.Nodes.{nothing};
+ghost use Rattle.sl_meaning_sections.specs.Nodes as meaning;
+ghost use Rattle.sl_meaning_sections.specs.References as r;
+ghost use Rattle.sl_spec_operators.specs.Operators.{wrapped};
 ghost use Rattle.sl_word.specs.Numbers as z;
 
-use sl_emit::{Number, Reference};
-use sl_operators::literal;
+use sl_build_emit::{Number, Reference};
+use sl_spec_operators::literal;
 use sl_word::Size;
 
 /// A number of 64 bits.

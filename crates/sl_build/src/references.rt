@@ -1,17 +1,17 @@
 //! What names and operands stand for at a node.
 
 ghost use Rattle.std.specs.Prelude.{◌≡◌, IfOk, option_map};
-ghost use Rattle.sl_emit.specs.Views.{frame_of, number_of, reference_of, references_of};
-ghost use Rattle.sl_emit.specs.Views.{setting_of};
-ghost use Rattle.sl_equations.specs.Equations.{size_at};
-ghost use Rattle.sl_meaning.specs.References as r;
-ghost use Rattle.sl_meaning.specs.Values as meaning;
-ghost use Rattle.sl_section.specs.Views.{number_of as space_number, symbol_of};
-ghost use Rattle.sl_template.specs.Views.{size_in};
+ghost use Rattle.sl_build_emit.specs.Views.{frame_of, number_of, reference_of, references_of};
+ghost use Rattle.sl_build_emit.specs.Views.{setting_of};
+ghost use Rattle.sl_section_equations.specs.Equations.{size_at};
+ghost use Rattle.sl_meaning_sections.specs.References as r;
+ghost use Rattle.sl_meaning_sections.specs.Values as meaning;
+ghost use Rattle.sl_section_flat.specs.Views.{number_of as space_number, symbol_of};
+ghost use Rattle.sl_build_template.specs.Views.{size_in};
 
 use crate::numbers::nothing;
-use sl_emit::{Number, Reference, Site};
-use sl_section::{Storage, Symbol};
+use sl_build_emit::{Number, Reference, Site};
+use sl_section_flat::{Storage, Symbol};
 use sl_word::{Size, SpaceId};
 use std::alloc::{AllocError, Global};
 

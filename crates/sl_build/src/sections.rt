@@ -3,10 +3,10 @@
 ghost use Rattle.std.specs.Prelude.{◌≡◌, position, IfOk};
 ghost use Rattle.sl_ast.specs.Views.{items_of};
 ghost use Rattle.sl_build.specs.Stands.{StandsFor};
-ghost use Rattle.sl_flat_sections.specs.FlatSections.{flat_sections};
-ghost use Rattle.sl_flat_sections.specs.Views.{scopes_view};
-ghost use Rattle.sl_instruction.specs.Instructions.{default_space, specification_of};
-ghost use Rattle.sl_sizing.specs.Sizings.{lists_of};
+ghost use Rattle.sl_section_all.specs.FlatSections.{flat_sections};
+ghost use Rattle.sl_section_all.specs.Views.{scopes_view};
+ghost use Rattle.sl_meaning_instruction.specs.Instructions.{default_space, specification_of};
+ghost use Rattle.sl_section_sizes.specs.Sizings.{lists_of};
 ghost use Rattle.sl_spec.specs.Numbers.{AreNumbered};
 ghost use Rattle.sl_spec.specs.Unfolded.{all_placed};
 
@@ -15,11 +15,11 @@ use crate::templates::all_templates;
 use crate::unimplemented::marks;
 use crate::work::small;
 use sl_bind::Bound;
-use sl_flat_sections::{Text, flat_sections, text_of};
-use sl_section::Section;
+use sl_build_template::Part;
+use sl_section_all::{Text, flat_sections, text_of};
+use sl_section_flat::Section;
 use sl_section_sizes::address_sizes;
 use sl_spec::Tables;
-use sl_template::Part;
 use sl_word::{AddressSize, Size, SpaceId};
 use std::alloc::{AllocError, Global};
 

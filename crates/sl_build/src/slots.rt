@@ -2,16 +2,16 @@
 
 ghost use Rattle.std.specs.Prelude.{◌≡◌, ℕ, List, IfOk, Some, map};
 ghost use Rattle.sl_build.specs.Views.{AreSlots, slot_reference};
-ghost use Rattle.sl_decoding.specs.Meanings.{leaves_by};
-ghost use Rattle.sl_decoding.specs.Trees.{Node};
-ghost use Rattle.sl_instruction.specs.Operands.{given_by, given_reference};
-ghost use Rattle.sl_leaves.specs.Blocks.{AreLeavesOfHead};
-ghost use Rattle.sl_leaves.specs.Extents.{leaves_at};
+ghost use Rattle.sl_decode_meaning.specs.Meanings.{leaves_by};
+ghost use Rattle.sl_decode_meaning.specs.Trees.{Node};
+ghost use Rattle.sl_meaning_instruction.specs.Operands.{given_by, given_reference};
+ghost use Rattle.sl_decode_leaves.specs.Blocks.{AreLeavesOfHead};
+ghost use Rattle.sl_decode_leaves.specs.Extents.{leaves_at};
 ghost use Rattle.sl_spec.specs.Numbers.{AreMadeFor, AreNumbered, KeepsMade};
 ghost use Rattle.sl_spec.specs.Unfolded.{all_placed, placed};
 ghost use Rattle.sl_spec.specs.declared.tables.Tables.{Tables as TablesOf};
 
-use sl_leaves::{BlockLeaves, Extent, JoinedLeaves, bare, leaves_among};
+use sl_decode_leaves::{BlockLeaves, Extent, JoinedLeaves, bare, leaves_among};
 use sl_spec::{ByBlock, Ctor, FieldId, Means, Operand, Tables, Unfolded};
 use std::alloc::{AllocError, Global};
 

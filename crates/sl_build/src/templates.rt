@@ -2,15 +2,15 @@
 
 ghost use Rattle.std.specs.Prelude.{◌≡◌, [], slice_get, unwrap_or, IfOk};
 ghost use Rattle.sl_build.specs.Views.{AreTemplates, form_of_sizes, templates_of};
-ghost use Rattle.sl_flat_sections.specs.Views.{flats_of};
-ghost use Rattle.sl_section.specs.Views.{steps_of};
-ghost use Rattle.sl_sizing.specs.Sizings.{lists_of};
-ghost use Rattle.sl_template.specs.Views.{IsTemplateOf, parts_of};
+ghost use Rattle.sl_section_all.specs.Views.{flats_of};
+ghost use Rattle.sl_section_flat.specs.Views.{steps_of};
+ghost use Rattle.sl_section_sizes.specs.Sizings.{lists_of};
+ghost use Rattle.sl_build_template.specs.Views.{IsTemplateOf, parts_of};
 ghost use Rattle.sl_word.specs.Sizes.{byte_counts};
 
-use sl_section::{Section, Step};
+use sl_build_template::{Form, Part, template};
+use sl_section_flat::{Section, Step};
 use sl_spec::CtorId;
-use sl_template::{Form, Part, template};
 use sl_word::{AddressSize, Size, SpaceId};
 use std::alloc::{AllocError, Global};
 

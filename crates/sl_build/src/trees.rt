@@ -5,21 +5,21 @@ ghost use Rattle.sl_build.specs.Pieces.{behind_of, first_code, below_of, piece_b
 ghost use Rattle.sl_build.specs.Pieces.{piece_with, pieces};
 ghost use Rattle.sl_build.specs.Views.{gives_in, list_in, piece_of, pieces_of, rows_in};
 ghost use Rattle.sl_build.specs.Views.{section_in, setting_in, template_in};
-ghost use Rattle.sl_emit.specs.Views as emit;
-ghost use Rattle.sl_emit.specs.Views.{operations_of, references_of};
-ghost use Rattle.sl_section.specs.Views.{steps_of};
+ghost use Rattle.sl_build_emit.specs.Views as emit;
+ghost use Rattle.sl_build_emit.specs.Views.{operations_of, references_of};
+ghost use Rattle.sl_section_flat.specs.Views.{steps_of};
 ghost use Rattle.sl_show.specs.Entries.{row_of};
-ghost use Rattle.sl_template.specs.Views.{parts_of};
+ghost use Rattle.sl_build_template.specs.Views.{parts_of};
 
 use crate::exports::exported;
 use crate::filling::{Operands, operands_of};
 use crate::templates::sizes_in;
 use crate::work::{Work, one_more, small};
-use sl_decoding::Entry;
-use sl_emit::{Reference, Site, place};
+use sl_build_emit::{Reference, Site, place};
+use sl_build_template::Part;
+use sl_decode_meaning::Entry;
 use sl_pcode::Op;
-use sl_section::Step;
-use sl_template::Part;
+use sl_section_flat::Step;
 use std::alloc::{AllocError, Global};
 use std::collections::VecDeque;
 

@@ -4,11 +4,11 @@ ghost use Rattle.std.specs.Prelude.{◌≡◌, IfOk, map};
 ghost use Rattle.std.specs.List.{list_any};
 ghost use Rattle.sl_ast.specs.Views.{section_of};
 ghost use Rattle.sl_build.specs.Views.{is_marked};
-ghost use Rattle.sl_instruction.specs.Instructions.{is_unimpl};
+ghost use Rattle.sl_meaning_instruction.specs.Instructions.{is_unimpl};
 ghost use Rattle.sl_spec.specs.Unfolded.{all_placed, placed};
 
 use sl_ast::constructors::Section;
-use sl_decoding::Entry;
+use sl_decode_meaning::Entry;
 use sl_spec::Unfolded;
 use std::alloc::{AllocError, Global};
 

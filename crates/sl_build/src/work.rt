@@ -1,10 +1,10 @@
 //! What all nodes of an instruction share.
 
 ghost use Rattle.std.specs.Prelude.{◌≡◌, ◌+◌, ◌≤◌, ◌^◌, ◌*◌, IfOk};
-ghost use Rattle.sl_code.specs.Nodes.{top_of};
+ghost use Rattle.sl_faithful_code.specs.Nodes.{top_of};
 
 use crate::sections::Sections;
-use sl_emit::Number;
+use sl_build_emit::Number;
 use std::alloc::AllocError;
 
 /// The most nodes of an instruction (rule 36).

@@ -7,11 +7,11 @@ use Rattle.std.proofs.lemmas.List.{get_or_default}
 use Rattle.std.proofs.lemmas.Option.{slice_get_read, slice_get_within}
 use Rattle.sl_cube.specs.declared.Point.{Point}
 use Rattle.sl_cube.specs.Points.{IsIn}
-use Rattle.sl_settle.specs.declared.CubeSet.{CubeSet}
-use Rattle.sl_settle.specs.Sets.{IsSettledAt}
-use Rattle.sl_settle.specs.Unions.{has_set, IsBelow}
-use Rattle.sl_settle.specs.Settled.{IsBest, Matches, HasBestAt}
-use Rattle.sl_settle.proofs.WithinLemmas.{below_irrefl}
+use Rattle.sl_cube_sets.specs.declared.CubeSet.{CubeSet}
+use Rattle.sl_cube_sets.specs.Sets.{IsSettledAt}
+use Rattle.sl_cube_sets.specs.Unions.{has_set, IsBelow}
+use Rattle.sl_cube_sets.specs.Settled.{IsBest, Matches, HasBestAt}
+use Rattle.sl_cube_sets.proofs.WithinLemmas.{below_irrefl}
 use Rattle.sl_choose.specs.Order.{NotAbove}
 use Rattle.sl_choose.specs.declared.Entry.{Entry}
 use Rattle.sl_choose.specs.Trees.{IsLeafOf}

@@ -6,7 +6,7 @@ use Rattle.std.proofs.lemmas.List.{get_or_default}
 use Rattle.std.proofs.lemmas.List.Elements.{Contains-append_left, Contains-push, Contains-push_cases}
 use Rattle.std.proofs.lemmas.Option.{slice_get_read, slice_get_within}
 use Rattle.sl_cube.specs.declared.Cube.{Cube}
-use Rattle.sl_settle.specs.declared.CubeSet.{CubeSet}
+use Rattle.sl_cube_sets.specs.declared.CubeSet.{CubeSet}
 use Rattle.sl_choose.specs.declared.Entry.{Entry}
 use Rattle.sl_choose.specs.Added.{AddsAll}
 use Rattle.sl_choose.specs.Choosers.{IsGiven, AreEntriesOf, cubes_in}

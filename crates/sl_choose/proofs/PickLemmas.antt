@@ -13,7 +13,7 @@ use Rattle.std.proofs.Common.{zero, suc, arith, subst}
 use Rattle.std.specs.Prelude.{Contains, if◌then◌else◌}
 use Rattle.std.specs.List.{HoldsAt}
 use Rattle.sl_cube.specs.Search.{Lacks}
-use Rattle.sl_settle.specs.declared.CubeSet.{CubeSet}
+use Rattle.sl_cube_sets.specs.declared.CubeSet.{CubeSet}
 use Rattle.sl_choose.specs.Choosers.{FirstHas, IsFirst}
 use Rattle.sl_choose.specs.Laws.{PicksAreChoices}
 use Rattle.sl_choose.specs.Picked.{is_in, lacks, leaf_at, leaf_in}

@@ -3,7 +3,7 @@ use Rattle.std.proofs.Common.{◌≡◌, ℕ, List, Bool, true, false, inl, inr,
 use Rattle.std.specs.Prelude.{Contains}
 use Rattle.sl_cube.specs.declared.Point.{Point}
 use Rattle.sl_cube.specs.Points.{IsIn}
-use Rattle.sl_settle.specs.declared.CubeSet.{CubeSet}
+use Rattle.sl_cube_sets.specs.declared.CubeSet.{CubeSet}
 use Rattle.sl_choose.specs.Order.{IsOrdered}
 use Rattle.sl_choose.specs.declared.Entry.{Entry}
 use Rattle.sl_choose.specs.declared.Node.{Node, Leaf, Test'}

@@ -1,4 +1,4 @@
--- meaning: the entries that stand for given constructors, and what a point picks.
+-- law: the entries that stand for given constructors, and what a point picks.
 use Rattle.std.specs.Prelude.{◌≡◌, ◌↔◌, ℕ, ◌+◌, ◌<◌, List, [], ◌∷◌, length, Option, Some, None, option_map, Contains, get_or, slice_get}
 use Rattle.std.specs.List.{HoldsAt}
 use Rattle.sl_cube.specs.declared.Point.{Point}
@@ -6,9 +6,9 @@ use Rattle.sl_cube.specs.Points.{IsIn}
 use Rattle.sl_choose.specs.declared.Entry.{Entry}
 use Rattle.sl_choose.specs.declared.chooser.Chooser.{Chooser}
 use Rattle.sl_choose.specs.Trees.{IsTreeOf}
-use Rattle.sl_settle.specs.declared.CubeSet.{CubeSet}
-use Rattle.sl_settle.specs.Sets.{IsChoice, IsUnmatched}
-use Rattle.sl_settle.specs.Unions.{has_set}
+use Rattle.sl_cube_sets.specs.declared.CubeSet.{CubeSet}
+use Rattle.sl_cube_sets.specs.Sets.{IsChoice, IsUnmatched}
+use Rattle.sl_cube_sets.specs.Unions.{has_set}
 
 -- The entry's constructor and set stand at its index in the lists, and its cube is one of the set's.
 pub record IsGiven (ctors : List ℕ) (sets : List CubeSet) (e : Entry) : Type 0 where

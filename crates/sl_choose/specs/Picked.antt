@@ -1,4 +1,4 @@
--- meaning: what a point picks, as the tree of a chooser finds it.
+-- law: what a point picks, as the tree of a chooser finds it.
 use Rattle.std.specs.Prelude.{ℕ, ◌==◌, ◌&&◌, Bool, List, Option, bit_and, find, if◌then◌else◌, option_map}
 use Rattle.sl_cube.specs.declared.Cube.{Cube}
 use Rattle.sl_cube.specs.declared.Point.{Point}

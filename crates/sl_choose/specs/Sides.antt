@@ -1,4 +1,4 @@
--- meaning: entries at the two sides of bits, and bits at which a split has to be made.
+-- law: entries at the two sides of bits, and bits at which a split has to be made.
 use Rattle.std.specs.Prelude.{◌≡◌, ℕ, ◌<◌, ◌^◌, ◌⊎◌, ◌==◌, ◌&&◌, Bool, List, [], ◌∷◌, ◌++◌, length, Contains, bit_and, count_by, not}
 use Rattle.sl_cube.specs.declared.Cube.{Cube}
 use Rattle.sl_cube.specs.declared.Point.{Point}

@@ -1,4 +1,4 @@
--- meaning: trees whose tests tell cubes apart, and whose leaves can be split no further within the room for entries.
+-- law: trees whose tests tell cubes apart, and whose leaves can be split no further within the room for entries.
 use Rattle.std.specs.Prelude.{ℕ, ◌+◌, ◌-◌, ◌<◌, ◌≤◌, ◌⊎◌, List, length, Contains}
 use Rattle.sl_cube.specs.declared.Point.{Point}
 use Rattle.sl_choose.specs.declared.Entry.{Entry}

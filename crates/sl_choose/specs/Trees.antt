@@ -1,11 +1,11 @@
--- meaning: trees of tests of bits, at one point.
+-- law: trees of tests of bits, at one point.
 use Rattle.std.specs.Prelude.{◌≡◌, ℕ, ◌+◌, ◌-◌, ◌≤◌, ◌⊎◌, List, length, Contains}
 use Rattle.sl_cube.specs.declared.Point.{Point}
 use Rattle.sl_cube.specs.Points.{IsIn}
 use Rattle.sl_cube.specs.Search.{Lacks}
 use Rattle.sl_choose.specs.declared.Entry.{Entry}
 use Rattle.sl_choose.specs.declared.Node.{Node, Leaf, Test'}
-use Rattle.sl_settle.specs.declared.CubeSet.{CubeSet}
+use Rattle.sl_cube_sets.specs.declared.CubeSet.{CubeSet}
 use Rattle.sl_choose.specs.Order.{IsInOrder}
 use Rattle.sl_choose.specs.Sides.{HasNoForced}
 use Rattle.sl_choose.specs.Splits.{HasEntry, IsGrown, TellsApart}

@@ -9,7 +9,7 @@ use super::ranks::ranks_of;
 use super::tree::{grow, leaf_of};
 use super::{Entry, Node};
 use sl_cube::Point;
-use sl_settle::CubeSet;
+use sl_cube_sets::CubeSet;
 use std::alloc::{AllocError, Global};
 
 /// Finds which of a list of constructors a point picks, by a tree of tests of bits. Its leaves have
@@ -27,9 +27,9 @@ pub struct Chooser {
 impl Chooser {
     ghost use Rattle.std.specs.Prelude.{◌≡◌, IfOk, List, ℕ, length, Contains};
     ghost use Rattle.sl_cube.specs.Points.{IsIn};
-    ghost use Rattle.sl_settle.specs.declared.CubeSet.{CubeSet};
-    ghost use Rattle.sl_settle.specs.Sets.{IsSettledAt};
-    ghost use Rattle.sl_settle.specs.Unions.{has_set};
+    ghost use Rattle.sl_cube_sets.specs.declared.CubeSet.{CubeSet};
+    ghost use Rattle.sl_cube_sets.specs.Sets.{IsSettledAt};
+    ghost use Rattle.sl_cube_sets.specs.Unions.{has_set};
     ghost use Rattle.sl_choose.specs.declared.Entry.{Entry};
     ghost use Rattle.sl_choose.specs.Sides.{HasNoForced};
     ghost use Rattle.sl_choose.specs.Choosers.{StandsFor, IsGiven, IsPick, HoldsPick};

@@ -8,7 +8,7 @@ ghost use Rattle.sl_choose.specs.Added.{AddsAll};
 
 use super::Entry;
 use sl_cube::{Cube, Point};
-use sl_settle::CubeSet;
+use sl_cube_sets::CubeSet;
 use std::alloc::{AllocError, Global};
 
 /// Puts an entry for each of the cubes behind the others.

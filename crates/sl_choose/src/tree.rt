@@ -2,7 +2,7 @@
 
 ghost use Rattle.std.specs.Prelude.{◌≡◌, ◌≤◌, Contains, List, IfOk, length};
 ghost use Rattle.sl_cube.specs.declared.Point.{Point};
-ghost use Rattle.sl_settle.specs.declared.CubeSet.{CubeSet};
+ghost use Rattle.sl_cube_sets.specs.declared.CubeSet.{CubeSet};
 ghost use Rattle.sl_choose.specs.declared.Entry.{Entry};
 ghost use Rattle.sl_choose.specs.Picked.{leaf_at};
 ghost use Rattle.sl_choose.specs.Ranks.{AreRanks};

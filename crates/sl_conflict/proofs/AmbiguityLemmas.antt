@@ -4,13 +4,13 @@ use Rattle.std.specs.Prelude.{slice_get}
 use Rattle.std.proofs.lemmas.Bool.{cases_eq, cases_lt, cases_order}
 use Rattle.std.proofs.lemmas.Option.{same_Some}
 use Rattle.sl_cube.specs.declared.Point.{Point}
-use Rattle.sl_settle.specs.Reports.{IsReport}
-use Rattle.sl_settle.specs.declared.report.Report.{Report}
-use Rattle.sl_settle.proofs.AlikeLemmas.{AreAlike, report_alike, settled_alike}
-use Rattle.sl_settle.proofs.OneReport.{report_is_one, settled_has_no_report}
-use Rattle.sl_settle.proofs.SomeReport.{some_report}
-use Rattle.sl_surely.specs.Surely.{Surely}
-use Rattle.sl_surely.proofs.SurelyLemmas.{IsLeastNumber, surely_each, surely_either, surely_function, surely_least, surely_map, surely_then}
+use Rattle.sl_cube_sets.specs.Reports.{IsReport}
+use Rattle.sl_cube_sets.specs.declared.report.Report.{Report}
+use Rattle.sl_cube_sets.proofs.AlikeLemmas.{AreAlike, report_alike, settled_alike}
+use Rattle.sl_cube_sets.proofs.OneReport.{report_is_one, settled_has_no_report}
+use Rattle.sl_cube_sets.proofs.SomeReport.{some_report}
+use Rattle.sl_base_surely.specs.Surely.{Surely}
+use Rattle.sl_base_surely.proofs.SurelyLemmas.{IsLeastNumber, surely_each, surely_either, surely_function, surely_least, surely_map, surely_then}
 use Rattle.sl_spec.specs.Tables.{Ctor}
 use Rattle.sl_conflict.specs.Ambiguity.{AppearsBefore, AreSettled, IsFirstAmbiguous, IsOf, IsTableSettled}
 

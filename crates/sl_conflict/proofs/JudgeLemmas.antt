@@ -4,8 +4,8 @@ use Rattle.std.specs.Prelude.{slice_get, option_map, All, IfErr}
 use Rattle.std.proofs.lemmas.Bool.{cases_eq}
 use Rattle.std.proofs.lemmas.List.{length-map}
 use Rattle.std.proofs.lemmas.Option.{same_Some, slice_get-get_or, slice_get-map, slice_get_within}
-use Rattle.sl_settle.specs.Reports.{IsReport}
-use Rattle.sl_settle.specs.declared.CubeSet.{CubeSet}
+use Rattle.sl_cube_sets.specs.Reports.{IsReport}
+use Rattle.sl_cube_sets.specs.declared.CubeSet.{CubeSet}
 use Rattle.sl_spec.specs.Tables.{Ctor}
 use Rattle.sl_conflict.specs.Ambiguity.{AreSettled, IsOf, IsTableSettled, Tells, has_in}
 use Rattle.sl_conflict.specs.Judged.{BeginsAt, IsJudged, IsReportAt, IsReportOf}

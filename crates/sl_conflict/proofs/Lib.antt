@@ -4,3 +4,4 @@ pub mod NumberLemmas
 pub mod RowLemmas
 pub mod SpreadLemmas
 pub mod TableLemmas
+pub mod SoundLemmas

@@ -5,9 +5,9 @@ use Rattle.std.specs.List.{range_with_len}
 use Rattle.std.proofs.lemmas.List.FromFn.{length-range_with_len}
 use Rattle.std.proofs.lemmas.Option.{same_Some}
 use Rattle.sl_cube.specs.declared.Point.{Point}
-use Rattle.sl_settle.specs.Unions.{has_set}
-use Rattle.sl_settle.specs.declared.CubeSet.{CubeSet}
-use Rattle.sl_settle.proofs.AlikeLemmas.{Alike, AreAlike, alike_each}
+use Rattle.sl_cube_sets.specs.Unions.{has_set}
+use Rattle.sl_cube_sets.specs.declared.CubeSet.{CubeSet}
+use Rattle.sl_cube_sets.proofs.AlikeLemmas.{Alike, AreAlike, alike_each}
 use Rattle.sl_spec.specs.Tables.{Ctor}
 use Rattle.sl_conflict.specs.Ambiguity.{IsOf, has_in}
 use Rattle.sl_conflict.specs.Rows.{Row, rows, rows_from}

@@ -3,13 +3,13 @@ use Rattle.std.proofs.Common.{◌≡◌, ℕ, ◌<◌, inl, inr, List, map, Opti
 use Rattle.std.specs.Prelude.{slice_get, option_map}
 use Rattle.std.proofs.lemmas.Option.{slice_get-map, same_Some}
 use Rattle.sl_cube.specs.declared.Point.{Point}
-use Rattle.sl_settle.specs.Reports.{DifferAs, IsLeastOnlyIn, IsReport}
-use Rattle.sl_settle.specs.Sets.{HasAt, IsChoice, IsFirstPair, IsLeastWhere, IsPair, IsSettled, IsUnsettledAt, IsWithin, LiesBelow}
-use Rattle.sl_settle.specs.Unions.{has_set}
-use Rattle.sl_settle.specs.declared.CubeSet.{CubeSet}
-use Rattle.sl_settle.specs.declared.report.Apart.{Apart}
-use Rattle.sl_settle.specs.declared.report.Apart.TheVariants.{Same, Two}
-use Rattle.sl_settle.specs.declared.report.Report.{Report}
+use Rattle.sl_cube_sets.specs.Reports.{DifferAs, IsLeastOnlyIn, IsReport}
+use Rattle.sl_cube_sets.specs.Sets.{HasAt, IsChoice, IsFirstPair, IsLeastWhere, IsPair, IsSettled, IsUnsettledAt, IsWithin, LiesBelow}
+use Rattle.sl_cube_sets.specs.Unions.{has_set}
+use Rattle.sl_cube_sets.specs.declared.CubeSet.{CubeSet}
+use Rattle.sl_cube_sets.specs.declared.report.Apart.{Apart}
+use Rattle.sl_cube_sets.specs.declared.report.Apart.TheVariants.{Same, Two}
+use Rattle.sl_cube_sets.specs.declared.report.Report.{Report}
 use Rattle.sl_conflict.specs.Ambiguity.{has_in}
 use Rattle.sl_conflict.specs.Rows.{Row, of_table}
 use Rattle.sl_conflict.proofs.RowLemmas.{down, keeps_order, up}

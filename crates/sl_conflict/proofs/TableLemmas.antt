@@ -5,12 +5,12 @@ use Rattle.std.specs.List.{HoldsAt}
 use Rattle.std.proofs.lemmas.Bool.{cases_eq}
 use Rattle.std.proofs.lemmas.List.{length-set, map_push}
 use Rattle.std.proofs.lemmas.Option.{slice_get_read, slice_get_within, same_Some}
-use Rattle.sl_settle.specs.declared.CubeSet.{CubeSet}
+use Rattle.sl_cube_sets.specs.declared.CubeSet.{CubeSet}
 use Rattle.sl_conflict.specs.Kept.{AreTablesOf, IsTableOf}
 use Rattle.sl_conflict.specs.Rows.{Row, of_table}
 use Rattle.sl_conflict.specs.declared.table_sets.TableSets.{TableSets}
 use Rattle.sl_conflict.proofs.RowLemmas.{more_of, same_of}
-use Rattle.sl_levels.proofs.ListLemmas.{get_set_other, get_set_same}
+use Rattle.sl_base_graphs.proofs.ListLemmas.{get_set_other, get_set_same}
 
 pub ok_then : {A E : Type 0} {P Q : Type 0} (r : Result A E) → OnOk r P → (P → Q) → OnOk r Q
 ok_then (Ok a) h f = f h

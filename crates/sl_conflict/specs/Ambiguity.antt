@@ -4,10 +4,10 @@ use Rattle.sl_cube.specs.declared.Point.{Point}
 use Rattle.sl_conflict.specs.Rows.{Row}
 use Rattle.sl_conflict.specs.declared.judging.ConflictError.{ConflictError}
 use Rattle.sl_conflict.specs.declared.judging.ConflictError.TheVariants.{Ambiguous, NoMemory}
-use Rattle.sl_settle.specs.Reports.{IsReport}
-use Rattle.sl_settle.specs.Sets.{IsSettled}
-use Rattle.sl_settle.specs.Unions.{has_set}
-use Rattle.sl_settle.specs.declared.report.Report.{Report}
+use Rattle.sl_cube_sets.specs.Reports.{IsReport}
+use Rattle.sl_cube_sets.specs.Sets.{IsSettled}
+use Rattle.sl_cube_sets.specs.Unions.{has_set}
+use Rattle.sl_cube_sets.specs.declared.report.Report.{Report}
 use Rattle.sl_spec.specs.Tables.{Ctor}
 
 -- The constructor of this number is one of the table.

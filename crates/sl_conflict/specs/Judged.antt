@@ -5,10 +5,10 @@ use Rattle.sl_conflict.specs.declared.judging.ConflictError.{ConflictError}
 use Rattle.sl_conflict.specs.declared.judging.ConflictError.TheVariants.{Ambiguous, NoMemory}
 use Rattle.sl_conflict.specs.declared.table_sets.TableSets.{TableSets}
 use Rattle.sl_cube.specs.declared.Point.{Point}
-use Rattle.sl_settle.specs.Reports.{IsReport}
-use Rattle.sl_settle.specs.Unions.{has_set}
-use Rattle.sl_settle.specs.declared.report.Apart.{Apart}
-use Rattle.sl_settle.specs.declared.report.Report.{Report}
+use Rattle.sl_cube_sets.specs.Reports.{IsReport}
+use Rattle.sl_cube_sets.specs.Unions.{has_set}
+use Rattle.sl_cube_sets.specs.declared.report.Apart.{Apart}
+use Rattle.sl_cube_sets.specs.declared.report.Report.{Report}
 
 -- The table isn't settled; the two constructors are those at the indexes that the report on its sets has.
 pub record IsReportOn (kept : TableSets) (first second : ℕ) (both : Point) (apart : Apart) : Type 0 where

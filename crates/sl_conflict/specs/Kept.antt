@@ -2,8 +2,8 @@
 use Rattle.std.specs.Prelude.{◌≡◌, ℕ, List, Some, length, map, slice_get}
 use Rattle.sl_conflict.specs.Rows.{Row, of_table}
 use Rattle.sl_conflict.specs.declared.table_sets.TableSets.{TableSets}
-use Rattle.sl_settle.specs.Sets.{IsSettled}
-use Rattle.sl_settle.specs.Unions.{has_set}
+use Rattle.sl_cube_sets.specs.Sets.{IsSettled}
+use Rattle.sl_cube_sets.specs.Unions.{has_set}
 
 -- The constructors and the sets of a table, side by side.
 pub record IsTableOf (rs : List Row) (table : ℕ) (kept : TableSets) : Type 0 where

@@ -1,7 +1,7 @@
--- meaning: constructors with their sets, and those of one table.
+-- view: constructors with their sets, and those of one table.
 use Rattle.std.specs.Prelude.{ℕ, suc, ◌==◌, List, [], ◌∷◌}
 use Rattle.std.specs.List.{filter}
-use Rattle.sl_settle.specs.declared.CubeSet.{CubeSet}
+use Rattle.sl_cube_sets.specs.declared.CubeSet.{CubeSet}
 use Rattle.sl_spec.specs.Tables.{Ctor}
 
 -- a constructor's number among all constructors, the number of its table, and its set

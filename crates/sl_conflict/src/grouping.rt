@@ -1,12 +1,12 @@
 //! Constructors with their sets, table by table.
 
 ghost use Rattle.std.specs.Prelude.{◌≡◌, ◌∷◌, [], ◌++◌, ◌+◌, ℕ, List, IfOk, OnOk, length};
-ghost use Rattle.sl_settle.specs.declared.CubeSet.{CubeSet};
+ghost use Rattle.sl_cube_sets.specs.declared.CubeSet.{CubeSet};
 ghost use Rattle.sl_conflict.specs.Rows.{Row, rows};
 ghost use Rattle.sl_conflict.specs.Kept.{AreTablesOf};
 
 use crate::table_sets::TableSets;
-use sl_settle::CubeSet;
+use sl_cube_sets::CubeSet;
 use sl_spec::{Ctor, TableId};
 use std::alloc::{AllocError, Global};
 

@@ -6,14 +6,14 @@ ghost use Rattle.sl_conflict.specs.Ambiguity.{AreSettled, Tells, has_in};
 ghost use Rattle.sl_conflict.specs.Judged.{IsJudged, IsReportAt, IsReportOf};
 ghost use Rattle.sl_conflict.specs.Kept.{AreTablesOf, HasChoices, IsPaired};
 ghost use Rattle.sl_conflict.specs.Rows.{rows};
-ghost use Rattle.sl_settle.specs.Reports.{IsReport};
-ghost use Rattle.sl_settle.specs.Unions.{has_set};
-ghost use Rattle.sl_settle.specs.declared.CubeSet.{CubeSet};
+ghost use Rattle.sl_cube_sets.specs.Reports.{IsReport};
+ghost use Rattle.sl_cube_sets.specs.Unions.{has_set};
+ghost use Rattle.sl_cube_sets.specs.declared.CubeSet.{CubeSet};
 
 use crate::grouping::{index, tables_of};
 use crate::table_sets::TableSets;
 use sl_cube::Point;
-use sl_settle::{Apart, CubeSet, Report, first_unsettled};
+use sl_cube_sets::{Apart, CubeSet, Report, first_unsettled};
 use sl_spec::{Ctor, CtorId, TableId, Tables};
 use std::alloc::{AllocError, Global};
 

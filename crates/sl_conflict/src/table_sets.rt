@@ -2,7 +2,7 @@
 
 ghost use Rattle.std.specs.Prelude.{◌≡◌, ◌∷◌, [], ◌++◌, OnOk, IfOk};
 
-use sl_settle::CubeSet;
+use sl_cube_sets::CubeSet;
 use std::alloc::{AllocError, Global};
 
 /// The constructors of a table by their numbers among all constructors, in the order of the text,

@@ -4,7 +4,8 @@ use Rattle.std.specs.Int.{bit_at}
 use Rattle.std.proofs.lemmas.Nat.{and_le_l, or_lt, pow_below}
 use Rattle.std.proofs.lemmas.Nat.Bits.{bit_at_and, bit_at_or, bit_at_xor, bit_at-lt, same_from_bits, bit_at_above, bit_at-pow_same, bit_at-pow_other}
 use Rattle.std.proofs.lemmas.Bool.{cases_lt, cases_eq}
-use Rattle.sl_cube.specs.Bits.{Agrees, IncludesBelow}
+use Rattle.sl_cube.specs.Bits.{Agrees}
+use Rattle.sl_cube.specs.TopBits.{IncludesBelow}
 
 -- ---- a value within a mask
 

@@ -4,8 +4,10 @@ use Rattle.std.specs.Int.{bit_at}
 use Rattle.std.proofs.Math.Nat.{eq-or-lt_of_le}
 use Rattle.std.proofs.lemmas.Bool.{cases_eq}
 use Rattle.std.proofs.lemmas.Nat.{or_lt}
-use Rattle.sl_cube.specs.Bits.{Agrees, IncludesBelow}
-use Rattle.sl_cube.specs.Points.{InRange, IsIn, Includes, DoMeet, AllHave, HasShared, IsHull, NotAfter}
+use Rattle.sl_cube.specs.Bits.{Agrees}
+use Rattle.sl_cube.specs.TopBits.{IncludesBelow}
+use Rattle.sl_cube.specs.Points.{InRange, IsIn, NotAfter}
+use Rattle.sl_cube.specs.Cubes.{Includes, DoMeet, AllHave, HasShared, IsHull}
 use Rattle.sl_cube.specs.declared.Cube.{Cube}
 use Rattle.sl_cube.specs.declared.Point.{Point}
 use Rattle.sl_cube.proofs.BitLemmas.{agrees_joined, agrees_from_and, and_from_agrees, hull_mask, hull_has, hull_agrees}

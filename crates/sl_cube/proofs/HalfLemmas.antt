@@ -7,7 +7,8 @@ use Rattle.std.proofs.Math.Nat.{div-lt_iff_lt-mul}
 use Rattle.std.proofs.lemmas.Nat.{and_le_r, le_or_l, shr-shr, shr_split, le-div, div_below, leading_top, one_shl, pow_pos}
 use Rattle.std.proofs.lemmas.Nat.Bits.{bit_at_and, bit_at_or, bit_at_xor, bit_at_not, bit_at-lt, bit_at-zero, same_from_bits, same_from_bits_below, bit_at_above, bit_at-pow_same, and_pow}
 use Rattle.std.proofs.lemmas.Bool.{cases_lt, cases_eq}
-use Rattle.sl_cube.specs.Bits.{Agrees, IsTopBit}
+use Rattle.sl_cube.specs.Bits.{Agrees}
+use Rattle.sl_cube.specs.TopBits.{IsTopBit}
 use Rattle.sl_cube.proofs.BitLemmas.{within_bit, clash, pow_bit}
 
 -- ---- the bits of `!n`

@@ -5,7 +5,8 @@ use Rattle.std.specs.List.{All, AllWithin, HoldsAt, Contains}
 use Rattle.std.proofs.lemmas.Nat.{le_or_l}
 use Rattle.std.proofs.lemmas.List.Elements.{Contains-append_left, Contains-push, Contains-push_cases, Contains-get_or, at_read}
 use Rattle.std.proofs.lemmas.Bool.{false≢true}
-use Rattle.sl_cube.specs.Points.{InRange, IsIn, Includes, DoMeet, NotAfter, IsLeast, IsInSome, Covers, AreMeeting, IsOutside, IsLeastOutside}
+use Rattle.sl_cube.specs.Points.{InRange, IsIn, NotAfter, IsInSome}
+use Rattle.sl_cube.specs.Cubes.{Includes, DoMeet, IsLeast, Covers, AreMeeting, IsOutside, IsLeastOutside}
 use Rattle.sl_cube.specs.Search.{IsNoWider, Reduces, IsRest, Narrows, KeepsMeeting, IsSomeFound, Lacks, Has, IsNoBit, IsHighest, LeavesOpen, IsPart, IsNarrower, IsSplit, IsSingle, IsHalved, FixesNoMore}
 use Rattle.sl_cube.specs.declared.Cube.{Cube}
 use Rattle.sl_cube.specs.declared.Point.{Point}

@@ -1,7 +1,9 @@
--- meaning: halves of cubes at bits; and, for private clauses, what the search for a point outside keeps.
+-- law: halves of cubes at bits; and, for private clauses, what the search for a point outside keeps.
 use Rattle.std.specs.Prelude.{◌≡◌, ◌↔◌, ◌<◌, ◌≤◌, ◌⊎◌, List, Option, Some, None, bit_and, bit_or}
-use Rattle.sl_cube.specs.Bits.{Agrees, IsTopBit}
-use Rattle.sl_cube.specs.Points.{InRange, IsIn, NotAfter, IsInSome, Covers, IsOutside}
+use Rattle.sl_cube.specs.Bits.{Agrees}
+use Rattle.sl_cube.specs.TopBits.{IsTopBit}
+use Rattle.sl_cube.specs.Points.{InRange, IsIn, NotAfter, IsInSome}
+use Rattle.sl_cube.specs.Cubes.{Covers, IsOutside}
 use Rattle.sl_cube.specs.declared.Cube.{Cube}
 use Rattle.sl_cube.specs.declared.Point.{Point}
 

@@ -1,4 +1,4 @@
--- meaning: bits that a region leaves open and the shortest of some cubes fix.
+-- view: bits that a region leaves open and the shortest of some cubes fix.
 use Rattle.std.specs.Prelude.{◌≡◌, ℕ, ◌⊎◌, List, Option, Some, None}
 use Rattle.std.specs.Int.{bit_at}
 use Rattle.std.specs.List.{All}

@@ -33,7 +33,8 @@ pub struct Cube {
 }
 
 impl Cube {
-    ghost use Rattle.sl_cube.specs.Points.{IsIn, Includes, DoMeet, AreApart, IsMeet, FixesBoth, IsHull, IsLeast};
+    ghost use Rattle.sl_cube.specs.Points.{IsIn};
+    ghost use Rattle.sl_cube.specs.Cubes.{Includes, DoMeet, AreApart, IsMeet, FixesBoth, IsHull, IsLeast};
 
     /// Whether the point is in the cube.
     pub fn has(&self, point: &Point) -> bool

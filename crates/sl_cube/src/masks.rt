@@ -1,7 +1,8 @@
 //! Numbers that have the bits of a value under a mask.
 
 ghost use Rattle.std.specs.Prelude.{◌≡◌, ◌↔◌, ◌<◌, ◌^◌, ℕ, IsTrue, bit_and};
-ghost use Rattle.sl_cube.specs.Bits.{Agrees, IncludesBelow, IsTopBit};
+ghost use Rattle.sl_cube.specs.Bits.{Agrees};
+ghost use Rattle.sl_cube.specs.TopBits.{IncludesBelow, IsTopBit};
 
 /// Whether the number has each bit that the mask fixes.
 pub fn agrees(mask: u128, value: u128, number: u128) -> bool

@@ -5,8 +5,9 @@
 //! one is reached bit by bit, from the highest bit down.
 
 ghost use Rattle.std.specs.Prelude.{◌↔◌, ◌≢◌, ◌⊎◌, IsTrue, MatchOption, IfOk, All};
-ghost use Rattle.sl_cube.specs.Points.{Includes, Covers, IsFound, IsInSome, IsOutside};
-ghost use Rattle.sl_cube.specs.Points.{IsLeastOutside, AreMeeting};
+ghost use Rattle.sl_cube.specs.Points.{IsInSome};
+ghost use Rattle.sl_cube.specs.Cubes.{Includes, Covers, IsFound, IsOutside};
+ghost use Rattle.sl_cube.specs.Cubes.{IsLeastOutside, AreMeeting};
 ghost use Rattle.sl_cube.specs.Search.{Reduces, IsRest, Narrows, IsSomeFound, FixesNoMore, IsHalved};
 
 use super::halves::{highest, parts, split};

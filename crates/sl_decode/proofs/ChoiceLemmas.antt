@@ -4,10 +4,10 @@ use Rattle.std.specs.Prelude.{option_and_then}
 use Rattle.sl_decode.specs.Outcomes.{Fails}
 use Rattle.sl_decode.specs.declared.outcomes.DecodeError.{DecodeError}
 use Rattle.sl_decode.specs.declared.outcomes.DecodeError.TheVariants as e
-use Rattle.sl_decoding.specs.Decoding.{Chosen, chosen, with_meaning}
-use Rattle.sl_decoding.specs.Meanings.{Meaning}
-use Rattle.sl_decoding.specs.Outcomes.{or_fault}
-use Rattle.sl_decoding.specs.declared.faults.Fault.{Fault}
+use Rattle.sl_decode_meaning.specs.Decoding.{Chosen, chosen, with_meaning}
+use Rattle.sl_decode_meaning.specs.Meanings.{Meaning}
+use Rattle.sl_decode_meaning.specs.Outcomes.{or_fault}
+use Rattle.sl_decode_meaning.specs.declared.faults.Fault.{Fault}
 
 was_some : {A : Type 0} (fault : Fault) (o : Option A) (x : A) → or_fault fault o ≡ Ok x → o ≡ Some x
 was_some fault None x h = cc

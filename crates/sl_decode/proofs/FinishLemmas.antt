@@ -2,30 +2,31 @@
 use Rattle.std.proofs.Common.{◌≡◌, ℕ, suc, ◌+◌, ◌<◌, ℤ, List, [], ◌∷◌, ◌++◌, length, take}
 use Rattle.std.proofs.Common.{drop, get_or, drop-cons, add-one, Result, Ok, Err, refl, sym, ap, ◌∙◌}
 use Rattle.std.proofs.Common.{arith, append_assoc, append-nil, length-append, zero-add, add-zero}
-use Rattle.sl_contexts.specs.declared.commits.Commit.{Commit}
+use Rattle.sl_decode_contexts.specs.declared.commits.Commit.{Commit}
 use Rattle.sl_decode.specs.Finishing.{Kept, Told, begun_of, commits_kept, finish_kept, keep, kept}
 use Rattle.sl_decode.specs.Finishing.{roots, told, told_of}
 use Rattle.sl_decode.specs.Sprouts.{all_notes, sprout_of, sprouts}
 use Rattle.sl_decode.specs.declared.walk.Sprout.{Sprout}
 use Rattle.sl_decode.proofs.SproutLemmas.{length_sprouts}
-use Rattle.sl_leaves.proofs.RunLemmas.{bind_alike}
-use Rattle.sl_decoding.specs.Actions.{Own, own}
-use Rattle.sl_decoding.specs.Decoding.{Ended, Input, commits_in, commits_of, ended, finish}
-use Rattle.sl_decoding.specs.Decoding.{finish_node, trees_of, values_in}
-use Rattle.sl_decoding.specs.Flat.{all_values, count, entries, entry_of}
-use Rattle.sl_decoding.specs.Outcomes.{◌>>=◌, in_turn}
-use Rattle.sl_decoding.specs.Trees.{Begun, Node, Trees, lengths_of, none, tree, with_values}
-use Rattle.sl_decoding.specs.declared.entries.Entry.{Entry}
-use Rattle.sl_decoding.specs.Values.{Site}
-use Rattle.sl_decoding.specs.declared.faults.Fault.{Fault}
-use Rattle.sl_plan.specs.Plans.{done}
-use Rattle.sl_leaves.specs.Looks.{look_step}
-use Rattle.sl_plan.specs.Steps.{late_step}
-use Rattle.sl_plan.specs.declared.late.Late.{Late}
-use Rattle.sl_leaves.specs.declared.looks.Look.{Look}
-use Rattle.sl_plan.specs.declared.plans.Plan.{Plan}
+use Rattle.sl_decode_leaves.proofs.RunLemmas.{bind_alike}
+use Rattle.sl_decode_meaning.specs.Actions.{Own, own}
+use Rattle.sl_decode_meaning.specs.Decoding.{Ended, Input, commits_in, commits_of, ended, finish}
+use Rattle.sl_decode_meaning.specs.Decoding.{finish_node, trees_of, values_in}
+use Rattle.sl_decode_meaning.specs.Flat.{all_values, entries, entry_of}
+use Rattle.sl_decode_meaning.specs.TreeCounts.{count}
+use Rattle.sl_decode_meaning.specs.Outcomes.{◌>>=◌, in_turn}
+use Rattle.sl_decode_meaning.specs.Trees.{Begun, Node, Trees, lengths_of, none, tree, with_values}
+use Rattle.sl_decode_meaning.specs.declared.entries.Entry.{Entry}
+use Rattle.sl_decode_meaning.specs.Values.{Site}
+use Rattle.sl_decode_meaning.specs.declared.faults.Fault.{Fault}
+use Rattle.sl_decode_plan.specs.Plans.{done}
+use Rattle.sl_decode_leaves.specs.Looks.{look_step}
+use Rattle.sl_decode_plan.specs.Steps.{late_step}
+use Rattle.sl_decode_plan.specs.declared.late.Late.{Late}
+use Rattle.sl_decode_leaves.specs.declared.looks.Look.{Look}
+use Rattle.sl_decode_plan.specs.declared.plans.Plan.{Plan}
 use Rattle.sl_spec.specs.declared.tables.Tables.{Tables}
-use Rattle.sl_decoding.specs.declared.notes.Noted.{Noted}
+use Rattle.sl_decode_meaning.specs.declared.notes.Noted.{Noted}
 
 -- ---- a node at which nothing is left to do
 

@@ -9,19 +9,20 @@ use Rattle.sl_decode.specs.declared.outcomes.DecodeError.{DecodeError}
 use Rattle.sl_decode.specs.declared.outcomes.DecodeError.TheVariants as e
 use Rattle.sl_decode.specs.declared.walk.Sprout.{Sprout}
 use Rattle.sl_decode.proofs.FinishLemmas.{kept_tree, kept_with}
-use Rattle.sl_decoding.specs.Actions.{address_in}
+use Rattle.sl_decode_meaning.specs.Actions.{address_in}
 use Rattle.sl_ast.specs.Trees.{Constructor}
 use Rattle.sl_ast.specs.Unfolding.{Placed}
-use Rattle.sl_decoding.specs.Decoding.{Ended, Grown, Input, decoded, decoded_of, ended, finish, grow}
-use Rattle.sl_decoding.specs.Decoding.{read}
-use Rattle.sl_decoding.specs.Laws.{Choice, input}
-use Rattle.sl_decoding.specs.Meanings.{says}
-use Rattle.sl_plan.specs.Plans.{done_by}
-use Rattle.sl_plan.specs.declared.plans.Plan.{Plan}
+use Rattle.sl_decode_meaning.specs.Decoding.{Ended, Grown, Input, decoded, decoded_of, ended, finish, grow}
+use Rattle.sl_decode_meaning.specs.Decoding.{read}
+use Rattle.sl_decode_meaning.specs.Laws.{input}
+use Rattle.sl_decode_meaning.specs.Choices.{Choice}
+use Rattle.sl_decode_meaning.specs.Meanings.{says}
+use Rattle.sl_decode_plan.specs.Plans.{done_by}
+use Rattle.sl_decode_plan.specs.declared.plans.Plan.{Plan}
 use Rattle.std.proofs.Math.Path.{fun_ext}
-use Rattle.sl_decoding.specs.Outcomes.{◌>>=◌}
-use Rattle.sl_decoding.specs.declared.faults.Fault.{Fault}
-use Rattle.sl_decoding.specs.declared.notes.Noted.{Noted}
+use Rattle.sl_decode_meaning.specs.Outcomes.{◌>>=◌}
+use Rattle.sl_decode_meaning.specs.declared.faults.Fault.{Fault}
+use Rattle.sl_decode_meaning.specs.declared.notes.Noted.{Noted}
 use Rattle.sl_spec.specs.declared.tables.Tables.{Tables}
 
 -- with the length and the address behind

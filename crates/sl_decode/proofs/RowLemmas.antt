@@ -6,17 +6,17 @@ use Rattle.std.specs.declared.rc.Rc.{Rc}
 use Rattle.sl_decode.specs.Outcomes.{Fails}
 use Rattle.sl_decode.specs.declared.outcomes.DecodeError.{DecodeError}
 use Rattle.sl_decode.specs.declared.outcomes.DecodeError.TheVariants as e
-use Rattle.sl_decoding.specs.Actions.{Changed, changed}
-use Rattle.sl_decoding.specs.Decoding.{Input, site_at}
-use Rattle.sl_decoding.specs.Outcomes.{◌>>=◌, in_turn}
-use Rattle.sl_decoding.specs.declared.faults.Fault.{Fault}
-use Rattle.sl_plan.specs.Rows.{all_steps}
-use Rattle.sl_plan.specs.Steps.{early_step}
-use Rattle.sl_plan.specs.declared.early.Early.{Early}
-use Rattle.sl_plan.specs.declared.early.Early.TheVariants.{Set, Note}
-use Rattle.sl_leaves.proofs.RunLemmas.{bind_alike}
+use Rattle.sl_decode_meaning.specs.Actions.{Changed, changed}
+use Rattle.sl_decode_meaning.specs.Decoding.{Input, site_at}
+use Rattle.sl_decode_meaning.specs.Outcomes.{◌>>=◌, in_turn}
+use Rattle.sl_decode_meaning.specs.declared.faults.Fault.{Fault}
+use Rattle.sl_decode_plan.specs.Rows.{all_steps}
+use Rattle.sl_decode_plan.specs.Steps.{early_step}
+use Rattle.sl_decode_plan.specs.declared.early.Early.{Early}
+use Rattle.sl_decode_plan.specs.declared.early.Early.TheVariants.{Set, Note}
+use Rattle.sl_decode_leaves.proofs.RunLemmas.{bind_alike}
 use Rattle.sl_spec.specs.declared.tables.Tables.{Tables}
-use Rattle.sl_leaves.proofs.WholeLemmas.{turn_append}
+use Rattle.sl_decode_leaves.proofs.WholeLemmas.{turn_append}
 
 module _ {T X : Type 0} (step : T → X → Result X Fault) (rows : List (Rc (Vec T Global) Global)) (i : ℕ) (row : Rc (Vec T Global) Global)
     (xs : List T) (below : i < length rows) (is : row ≡ get_or rows i row) (its : xs ≡ row.value.items) (x : X) (whole : Result X Fault)

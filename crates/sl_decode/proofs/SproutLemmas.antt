@@ -8,24 +8,24 @@ use Rattle.sl_decode.specs.Sprouts.{sprouts}
 use Rattle.sl_decode.specs.declared.outcomes.DecodeError.{DecodeError}
 use Rattle.sl_decode.specs.declared.outcomes.DecodeError.TheVariants as e
 use Rattle.sl_decode.specs.declared.walk.Sprout.{Sprout}
-use Rattle.sl_decoding.specs.Actions.{Changed, changed}
-use Rattle.sl_decoding.specs.Decoding.{Chosen, Grove, Grower, Input, chosen, chosen_at, grow}
-use Rattle.sl_decoding.specs.Decoding.{opened, operands, site_at, with_operands}
-use Rattle.sl_decoding.specs.Flat.{count}
-use Rattle.sl_decoding.specs.Meanings.{Meaning}
-use Rattle.sl_decoding.specs.Outcomes.{◌>>=◌, in_turn, or_fault}
-use Rattle.sl_decoding.specs.Trees.{Begun, Trees, none, tree}
-use Rattle.sl_decoding.specs.Values.{Site}
-use Rattle.sl_decoding.specs.declared.faults.Fault.{Fault}
-use Rattle.sl_decoding.specs.declared.faults.Fault.TheVariants.{NoConstructor}
-use Rattle.sl_decoding.specs.declared.notes.Noted.{Noted}
-use Rattle.sl_leaves.specs.Extents.{extent}
-use Rattle.sl_plan.specs.Plans.{done, done_slot}
-use Rattle.sl_plan.specs.Steps.{early_step}
-use Rattle.sl_plan.specs.Values.{value_in}
-use Rattle.sl_plan.specs.declared.early.Early.{Early}
-use Rattle.sl_plan.specs.declared.early.Early.TheVariants.{Set, Note}
-use Rattle.sl_plan.specs.declared.plans.Plan.{Plan}
+use Rattle.sl_decode_meaning.specs.Actions.{Changed, changed}
+use Rattle.sl_decode_meaning.specs.Decoding.{Chosen, Grove, Grower, Input, chosen, chosen_at, grow}
+use Rattle.sl_decode_meaning.specs.Decoding.{opened, operands, site_at, with_operands}
+use Rattle.sl_decode_meaning.specs.TreeCounts.{count}
+use Rattle.sl_decode_meaning.specs.Meanings.{Meaning}
+use Rattle.sl_decode_meaning.specs.Outcomes.{◌>>=◌, in_turn, or_fault}
+use Rattle.sl_decode_meaning.specs.Trees.{Begun, Trees, none, tree}
+use Rattle.sl_decode_meaning.specs.Values.{Site}
+use Rattle.sl_decode_meaning.specs.declared.faults.Fault.{Fault}
+use Rattle.sl_decode_meaning.specs.declared.faults.Fault.TheVariants.{NoConstructor}
+use Rattle.sl_decode_meaning.specs.declared.notes.Noted.{Noted}
+use Rattle.sl_decode_leaves.specs.Extents.{extent}
+use Rattle.sl_decode_plan.specs.Plans.{done, done_slot}
+use Rattle.sl_decode_plan.specs.Steps.{early_step}
+use Rattle.sl_decode_plan.specs.Values.{value_in}
+use Rattle.sl_decode_plan.specs.declared.early.Early.{Early}
+use Rattle.sl_decode_plan.specs.declared.early.Early.TheVariants.{Set, Note}
+use Rattle.sl_decode_plan.specs.declared.plans.Plan.{Plan}
 use Rattle.sl_spec.specs.declared.tables.Tables.{Tables}
 
 -- ---- notes behind others

@@ -1,17 +1,17 @@
 -- step: the late moments over nodes as they are kept.
 use Rattle.std.specs.Prelude.{ℕ, zero, suc, ℤ, List, [], ◌∷◌, ◌++◌, length, take, drop}
 use Rattle.std.specs.Prelude.{Result, Ok, Err}
-use Rattle.sl_contexts.specs.declared.commits.Commit.{Commit}
+use Rattle.sl_decode_contexts.specs.declared.commits.Commit.{Commit}
 use Rattle.sl_decode.specs.declared.walk.Sprout.{Sprout}
 use Rattle.sl_decode.specs.declared.walk.Walk.{Walk}
-use Rattle.sl_decoding.specs.Actions.{Own, own}
-use Rattle.sl_decoding.specs.Decoding.{Input, finish_node}
-use Rattle.sl_decoding.specs.Flat.{entry_of}
-use Rattle.sl_decoding.specs.Outcomes.{◌>>=◌}
-use Rattle.sl_decoding.specs.Trees.{Begun, with_values}
-use Rattle.sl_decoding.specs.declared.entries.Entry.{Entry}
-use Rattle.sl_decoding.specs.declared.faults.Fault.{Fault}
-use Rattle.sl_decoding.specs.declared.notes.Noted.{Noted}
+use Rattle.sl_decode_meaning.specs.Actions.{Own, own}
+use Rattle.sl_decode_meaning.specs.Decoding.{Input, finish_node}
+use Rattle.sl_decode_meaning.specs.Flat.{entry_of}
+use Rattle.sl_decode_meaning.specs.Outcomes.{◌>>=◌}
+use Rattle.sl_decode_meaning.specs.Trees.{Begun, with_values}
+use Rattle.sl_decode_meaning.specs.declared.entries.Entry.{Entry}
+use Rattle.sl_decode_meaning.specs.declared.faults.Fault.{Fault}
+use Rattle.sl_decode_meaning.specs.declared.notes.Noted.{Noted}
 
 -- the values of one node, and all commits so far
 pub data Told : Type 0 where

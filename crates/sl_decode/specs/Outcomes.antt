@@ -1,9 +1,9 @@
--- meaning: what is owed of a part of a decode: its value, or its fault; memory may run out at any
+-- view: what is owed of a part of a decode: its value, or its fault; memory may run out at any
 -- point.
 use Rattle.std.specs.Prelude.{◌≡◌, Result, Ok, Err}
 use Rattle.sl_decode.specs.declared.outcomes.DecodeError.{DecodeError}
 use Rattle.sl_decode.specs.declared.outcomes.DecodeError.TheVariants as e
-use Rattle.sl_decoding.specs.declared.faults.Fault.{Fault}
+use Rattle.sl_decode_meaning.specs.declared.faults.Fault.{Fault}
 
 -- the error is the fault of the outcome
 abbrev pub Fails : {Y : Type 0} → DecodeError → Result Y Fault → Type 0

@@ -2,11 +2,11 @@
 use Rattle.std.specs.Prelude.{ℕ, List, [], ◌∷◌, ◌++◌, length, Result, Ok, Err}
 use Rattle.sl_decode.specs.declared.walk.Growth.{Growth}
 use Rattle.sl_decode.specs.declared.walk.Sprout.{Sprout}
-use Rattle.sl_decoding.specs.Decoding.{Grove, Grown}
-use Rattle.sl_decoding.specs.Flat.{count}
-use Rattle.sl_decoding.specs.Trees.{Begun, Trees, none, tree}
-use Rattle.sl_decoding.specs.declared.faults.Fault.{Fault}
-use Rattle.sl_decoding.specs.declared.notes.Noted.{Noted}
+use Rattle.sl_decode_meaning.specs.Decoding.{Grove, Grown}
+use Rattle.sl_decode_meaning.specs.TreeCounts.{count}
+use Rattle.sl_decode_meaning.specs.Trees.{Begun, Trees, none, tree}
+use Rattle.sl_decode_meaning.specs.declared.faults.Fault.{Fault}
+use Rattle.sl_decode_meaning.specs.declared.notes.Noted.{Noted}
 
 abbrev pub sprout_of : Begun → ℕ → Sprout
 sprout_of n below = record {

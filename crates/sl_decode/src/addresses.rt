@@ -1,7 +1,7 @@
 //! Addresses of the default space.
 
 ghost use Rattle.std.specs.Prelude.{◌≡◌, ◌+◌, ◌%◌, ◌^◌, find, option_copied};
-ghost use Rattle.sl_decoding.specs.Actions.{address_bytes, address_in};
+ghost use Rattle.sl_decode_meaning.specs.Actions.{address_bytes, address_in};
 
 use sl_spec::{Space, Tables};
 use sl_word::AddressSize;

@@ -4,19 +4,19 @@ ghost use Rattle.std.specs.Prelude.{◌≡◌, ◌+◌, ℕ, List, Option, Match
 ghost use Rattle.sl_cube.specs.declared.Point.{Point as PointOf};
 ghost use Rattle.sl_decode.specs.Outcomes.{Gives};
 ghost use Rattle.sl_decode.specs.declared.outcomes.DecodeError.TheVariants.{NoMemory};
-ghost use Rattle.sl_decoding.specs.Decoding as spec;
-ghost use Rattle.sl_decoding.specs.Outcomes.{or_fault};
-ghost use Rattle.sl_decoding.specs.declared.faults.Fault.TheVariants.{NoConstructor};
-ghost use Rattle.sl_leaves.specs.Extents.{extent};
-ghost use Rattle.sl_plan.specs.Plans.{done, done_by};
-ghost use Rattle.sl_plan.specs.Values.{site_of, value_in};
+ghost use Rattle.sl_decode_meaning.specs.Decoding as spec;
+ghost use Rattle.sl_decode_meaning.specs.Outcomes.{or_fault};
+ghost use Rattle.sl_decode_meaning.specs.declared.faults.Fault.TheVariants.{NoConstructor};
+ghost use Rattle.sl_decode_leaves.specs.Extents.{extent};
+ghost use Rattle.sl_decode_plan.specs.Plans.{done, done_by};
+ghost use Rattle.sl_decode_plan.specs.Values.{site_of, value_in};
 
 use crate::outcomes::DecodeError;
 use crate::points::point_at;
 use sl_cube::Point;
-use sl_decoding::Fault;
-use sl_leaves::{Extent, extent_of};
-use sl_plan::{Plan, Scope, Value, reckon};
+use sl_decode_leaves::{Extent, extent_of};
+use sl_decode_meaning::Fault;
+use sl_decode_plan::{Plan, Scope, Value, reckon};
 use sl_spec::{CtorId, TableId, Tables};
 
 /// Which constructor of a table is chosen at a point.

@@ -7,7 +7,7 @@ ghost use Rattle.sl_decode.specs.Disassemblers.{StandsFor};
 ghost use Rattle.sl_decode.specs.Inputs.{input_of};
 ghost use Rattle.sl_decode.specs.Outcomes.{Gives};
 ghost use Rattle.sl_decode.specs.Walks.{walk_of, walked};
-ghost use Rattle.sl_decoding.specs.Decoding.{decoded, read};
+ghost use Rattle.sl_decode_meaning.specs.Decoding.{decoded, read};
 ghost use Rattle.sl_spec.specs.Numbers.{AreNumbered};
 ghost use Rattle.sl_spec.specs.Unfolded.{all_placed};
 ghost use Rattle.sl_spec.specs.declared.tables.Tables.{Tables as TablesOf};
@@ -16,7 +16,7 @@ use crate::addresses::address_behind;
 use crate::decode::{Choose, Decode};
 use crate::outcomes::DecodeError;
 use crate::walk::{Instruction, Walk};
-use sl_plan::{Plan, make_plans};
+use sl_decode_plan::{Plan, make_plans};
 use sl_spec::{TableId, Tables, Unfolded};
 use std::alloc::{AllocError, Global};
 

@@ -3,16 +3,16 @@
 ghost use Rattle.std.specs.Prelude.{◌≡◌, ◌*◌, ◌%◌, ◌^◌, ℕ, []};
 ghost use Rattle.sl_decode.specs.Inputs.{input_of};
 ghost use Rattle.sl_decode.specs.Outcomes.{Gives};
-ghost use Rattle.sl_decoding.specs.Actions as spec;
-ghost use Rattle.sl_decoding.specs.Actions.{changed};
-ghost use Rattle.sl_decoding.specs.Decoding.{site_at};
-ghost use Rattle.sl_decoding.specs.Outcomes.{in_turn};
-ghost use Rattle.sl_plan.specs.Steps.{early_step};
+ghost use Rattle.sl_decode_meaning.specs.Actions as spec;
+ghost use Rattle.sl_decode_meaning.specs.Actions.{changed};
+ghost use Rattle.sl_decode_meaning.specs.Decoding.{site_at};
+ghost use Rattle.sl_decode_meaning.specs.Outcomes.{in_turn};
+ghost use Rattle.sl_decode_plan.specs.Steps.{early_step};
 
 use crate::decode::{Choose, Decode, value_of};
 use crate::outcomes::DecodeError;
-use sl_decoding::Noted;
-use sl_plan::{Early, Plan, Scope};
+use sl_decode_meaning::Noted;
+use sl_decode_plan::{Early, Plan, Scope};
 use sl_spec::CtorId;
 
 /// A number moved up by so many bits.

@@ -1,25 +1,25 @@
 //! The late moments of a decode: all nodes once more in the same order.
 
 ghost use Rattle.std.specs.Prelude.{◌≡◌, ◌++◌, ◌∷◌, [], List, length, IsTrue, IfOk, OnOk};
-ghost use Rattle.sl_contexts.specs.declared.commits.Commit.{Commit as CommitOf};
+ghost use Rattle.sl_decode_contexts.specs.declared.commits.Commit.{Commit as CommitOf};
 ghost use Rattle.sl_decode.specs.Finishing as spec;
 ghost use Rattle.sl_decode.specs.Finishing.{begun_of, finish_kept, kept, kept_of, roots};
 ghost use Rattle.sl_decode.specs.Finishing.{told, told_of};
 ghost use Rattle.sl_decode.specs.Inputs.{input_of};
 ghost use Rattle.sl_decode.specs.Outcomes.{Gives};
 ghost use Rattle.sl_decode.specs.declared.walk.Sprout.{Sprout as SproutOf};
-ghost use Rattle.sl_decoding.specs.Actions as at;
-ghost use Rattle.sl_decoding.specs.Decoding.{finish_node, site_at};
-ghost use Rattle.sl_plan.specs.Plans.{done};
+ghost use Rattle.sl_decode_meaning.specs.Actions as at;
+ghost use Rattle.sl_decode_meaning.specs.Decoding.{finish_node, site_at};
+ghost use Rattle.sl_decode_plan.specs.Plans.{done};
 
 use crate::decode::{Choose, Decode};
 use crate::late::{look_all, tell_all};
 use crate::outcomes::DecodeError;
 use crate::points::divided;
 use crate::walk::{NodeRoom, Sprout, Walk};
-use sl_contexts::Commit;
-use sl_decoding::{Entry, Noted};
-use sl_plan::{Plan, Scope};
+use sl_decode_contexts::Commit;
+use sl_decode_meaning::{Entry, Noted};
+use sl_decode_plan::{Plan, Scope};
 use sl_spec::{CtorId, TableId};
 use std::alloc::AllocError;
 

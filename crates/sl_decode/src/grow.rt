@@ -4,16 +4,16 @@ ghost use Rattle.std.specs.Prelude.{◌≡◌, ◌+◌, ◌≤◌, [], map, leng
 ghost use Rattle.sl_decode.specs.Inputs.{input_of};
 ghost use Rattle.sl_decode.specs.Outcomes.{Gives};
 ghost use Rattle.sl_decode.specs.Sprouts.{flat, laid, laid_grove, measured, row_of};
-ghost use Rattle.sl_decoding.specs.Decoding as spec;
-ghost use Rattle.sl_decoding.specs.Decoding.{operands};
-ghost use Rattle.sl_leaves.specs.Extents.{extent};
-ghost use Rattle.sl_plan.specs.Plans.{done_slot};
+ghost use Rattle.sl_decode_meaning.specs.Decoding as spec;
+ghost use Rattle.sl_decode_meaning.specs.Decoding.{operands};
+ghost use Rattle.sl_decode_leaves.specs.Extents.{extent};
+ghost use Rattle.sl_decode_plan.specs.Plans.{done_slot};
 
 use crate::decode::{Choose, Decode, length_of, place_behind};
 use crate::outcomes::DecodeError;
 use crate::walk::{Growth, Sprout};
-use sl_decoding::Fault;
-use sl_plan::Plan;
+use sl_decode_meaning::Fault;
+use sl_decode_plan::Plan;
 use sl_spec::TableId;
 
 /// The most table operands of a constructor. More would be want of memory.

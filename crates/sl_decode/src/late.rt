@@ -3,20 +3,20 @@
 ghost use Rattle.std.specs.Prelude.{◌≡◌};
 ghost use Rattle.sl_decode.specs.Outcomes.{Gives};
 ghost use Rattle.sl_decode.specs.Finishing.{told, told_of};
-ghost use Rattle.sl_decoding.specs.Actions as spec;
-ghost use Rattle.sl_decoding.specs.Actions.{Own, at_values, own};
-ghost use Rattle.sl_decoding.specs.Outcomes.{in_turn};
-ghost use Rattle.sl_leaves.specs.Looks.{look_step};
-ghost use Rattle.sl_plan.specs.Steps.{late_step};
-ghost use Rattle.sl_plan.specs.Values.{site_of, value_in};
+ghost use Rattle.sl_decode_meaning.specs.Actions as spec;
+ghost use Rattle.sl_decode_meaning.specs.Actions.{Own, at_values, own};
+ghost use Rattle.sl_decode_meaning.specs.Outcomes.{in_turn};
+ghost use Rattle.sl_decode_leaves.specs.Looks.{look_step};
+ghost use Rattle.sl_decode_plan.specs.Steps.{late_step};
+ghost use Rattle.sl_decode_plan.specs.Values.{site_of, value_in};
 
 use crate::addresses::address_in;
 use crate::decode::value_of;
 use crate::outcomes::DecodeError;
-use sl_contexts::Commit;
-use sl_decoding::Noted;
-use sl_leaves::Look;
-use sl_plan::{Late, Scope, Steps, Value, look_up};
+use sl_decode_contexts::Commit;
+use sl_decode_leaves::Look;
+use sl_decode_meaning::Noted;
+use sl_decode_plan::{Late, Scope, Steps, Value, look_up};
 use sl_spec::Tables;
 
 /// The look-ups of a node.

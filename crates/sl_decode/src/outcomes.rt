@@ -1,6 +1,6 @@
 //! Why bytes aren't decoded.
 
-use sl_decoding::Fault;
+use sl_decode_meaning::Fault;
 use std::alloc::{AllocError, AllocFailed};
 
 #[derive(Clone, Copy, Debug, PartialEq, Eq)]

@@ -1,7 +1,7 @@
 //! Points of nodes.
 
 ghost use Rattle.std.specs.Prelude.{◌≡◌, ◌≤◌, take, drop, length};
-ghost use Rattle.sl_decoding.specs.Decoding.{point_at};
+ghost use Rattle.sl_decode_meaning.specs.Decoding.{point_at};
 ghost use Rattle.sl_spec.specs.FieldValues.{token_integer};
 
 use sl_cube::Point;

@@ -1,7 +1,7 @@
 //! Buffers of a decode.
 
-use sl_contexts::Commit;
-use sl_decoding::{Entry, Noted};
+use sl_decode_contexts::Commit;
+use sl_decode_meaning::{Entry, Noted};
 use sl_spec::CtorId;
 use std::alloc::Global;
 

@@ -1,4 +1,4 @@
--- meaning: how the run of a list ends, as a runner answers it.
+-- view: how the run of a list ends, as a runner answers it.
 use Rattle.std.specs.Prelude.{◌≡◌, ℕ, List, IsSomeAnd}
 use Rattle.sl_word.specs.Bytes.{address_sizes, byte_at, endian_of}
 use Rattle.sl_word.specs.Memories.{Memory}

@@ -1,4 +1,4 @@
--- meaning: what the printed text of operations fixes.
+-- law: what the printed text of operations fixes.
 use Rattle.std.specs.Prelude.{◌≡◌, ◌≢◌, ℕ, ◌<◌, List, [], ◌∷◌, length, codes, IfSome}
 use Rattle.sl_word.specs.Memories.{Memory}
 use Rattle.sl_word.specs.Sizes.{byte_counts}

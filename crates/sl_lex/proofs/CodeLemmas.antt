@@ -6,7 +6,7 @@ use Rattle.std.proofs.lemmas.Bool.Decides.{nat_tests, Decides-eqb}
 use Rattle.std.proofs.lemmas.List.{take-append-drop, length-take-le}
 use Rattle.sl_lex.specs.Bytes.{is_blank, is_hash, is_quote, is_digit, begins_word, is_comment_byte}
 use Rattle.sl_lex.specs.Found.{class_of, StandsAs}
-use Rattle.sl_lex.specs.Lexemes.{BeginsWith, IsRun, IsWord, HasNoDots, IsInteger, IsQuoted, IsComment, IsCodeLexeme, IsLexeme}
+use Rattle.sl_lex.specs.Lexemes.{BeginsWith, IsSpan, IsWord, HasNoDots, IsInteger, IsQuoted, IsComment, IsCodeLexeme, IsLexeme}
 use Rattle.sl_lex.specs.Marks.{marks_of}
 use Rattle.sl_lex.specs.declared.mode.Mode.{Mode}
 use Rattle.sl_lex.specs.declared.mode.Mode.TheVariants.{Top, Head, Plain, Body, Display, Pattern}
@@ -117,7 +117,7 @@ kept_class Caret h = omega arith
 kept_class Char h = omega arith
 
 only_gap : (mode : Mode) (kind : Option TokKind) (front rest : List ℕ) (b : ℕ) (bs : List ℕ) → class_of b ≡ 2 → b ∷ bs ≡ front ++ rest
-    → IsCodeLexeme (marks_of mode) kind front rest → IsRun is_blank front ⊎ IsComment front
+    → IsCodeLexeme (marks_of mode) kind front rest → IsSpan is_blank front ⊎ IsComment front
 only_gap mode None front rest b bs c e h = h
 only_gap mode (Some kind) front rest b bs c e h = absurd (kept_class kind (sym (class_of_kind mode (Some kind) front rest b bs e h) ∙ c))
 

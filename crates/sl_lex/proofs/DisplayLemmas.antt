@@ -6,7 +6,7 @@ use Rattle.std.proofs.lemmas.Bool.Decides.{nat_tests}
 use Rattle.std.proofs.lemmas.List.{length-take-le}
 use Rattle.sl_lex.specs.Bytes.{is_blank, is_quote, is_caret, is_char, begins_word, is_word_byte}
 use Rattle.sl_lex.specs.Found.{StandsAs}
-use Rattle.sl_lex.specs.Lexemes.{BeginsWith, IsRun, IsOne, IsWord, IsQuoted, IsDisplayLexeme, HasNoLexeme}
+use Rattle.sl_lex.specs.Lexemes.{BeginsWith, IsSpan, IsOne, IsWord, IsQuoted, IsDisplayLexeme, HasNoLexeme}
 use Rattle.sl_lex.specs.declared.mode.Mode.TheVariants.{Display}
 use Rattle.sl_lex.specs.declared.TokKind.{TokKind}
 use Rattle.sl_lex.specs.declared.TokKind.TheVariants.{Word, Integer, Text, Mark, Blank, Caret, Char}
@@ -84,7 +84,7 @@ display_text (Some Text) front rest b bs c e h = h
 display_text kind front rest b bs c e h = let wrong : display_kind kind ≡ 1 = sym (display_class_of_kind kind front rest b bs e h) ∙ quote_is b c in absurd (omega arith)
 
 only_blank : (kind : Option TokKind) (front rest : List ℕ) (b : ℕ) (bs : List ℕ) → is_blank b ≡ true → b ∷ bs ≡ front ++ rest
-    → IsDisplayLexeme kind front → IsRun is_blank front
+    → IsDisplayLexeme kind front → IsSpan is_blank front
 only_blank (Some Blank) front rest b bs c e h = h
 only_blank kind front rest b bs c e h = let wrong : display_kind kind ≡ 2 = sym (display_class_of_kind kind front rest b bs e h) ∙ blank_is b c in absurd (omega arith)
 

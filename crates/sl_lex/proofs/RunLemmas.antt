@@ -2,7 +2,7 @@
 use Rattle.std.proofs.Common.{◌≡◌, ℕ, ◌+◌, ◌<◌, ◌≤◌, Bool, true, false, List, [], ◌∷◌, ◌++◌, take, drop, length, arith, refl, ap, ap₂, sym, ◌∙◌, ◌&&◌, cond, zero, suc, subst}
 use Rattle.std.specs.List.{list_all, prefix_len}
 use Rattle.std.proofs.lemmas.List.Sums.{prefix_len-le-length}
-use Rattle.sl_lex.specs.Lexemes.{BeginsWith, Stops, IsRun}
+use Rattle.sl_lex.specs.Lexemes.{BeginsWith, Stops, IsSpan}
 
 pub both_true : (a b : Bool) → (a && b) ≡ true → (a ≡ true) × (b ≡ true)
 both_true true b h = (refl, h)
@@ -80,7 +80,7 @@ pub begins_front : (p : ℕ → Bool) (b n : ℕ) (bs : List ℕ) → 0 < n → 
 begins_front p b zero bs some h = absurd (omega arith)
 begins_front p b (suc n) bs some h = h
 
-pub run_begins : (p : ℕ → Bool) (bytes : List ℕ) → IsRun p bytes → BeginsWith p bytes
+pub run_begins : (p : ℕ → Bool) (bytes : List ℕ) → IsSpan p bytes → BeginsWith p bytes
 run_begins p [] h = absurd (let some : 0 < length {A = ℕ} [] = h.0 in omega arith)
 run_begins p (b ∷ bs) h = (both_true (p b) (list_all p bs) h.1).0
 

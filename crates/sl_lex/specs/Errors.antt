@@ -1,4 +1,4 @@
--- meaning: the errors of the lexer.
+-- view: the errors of the lexer.
 use Rattle.std.specs.Prelude.{ℕ, List}
 use Rattle.sl_lex.specs.Faults.Fault.{NoLexeme, OpenQuote, TooWide}
 use Rattle.sl_lex.specs.Reading.{HasBadPlace}

@@ -1,4 +1,4 @@
--- meaning: laws of the definitions.
+-- law: laws of the definitions.
 use Rattle.std.specs.Prelude.{◌≡◌, ℕ, ◌+◌, ◌<◌, ◌≤◌, List, [], ◌∷◌, length, take, drop, All}
 use Rattle.std.specs.Prelude.{◌⊎◌, Option, Some}
 use Rattle.sl_lex.specs.Faults.{Fault}

@@ -19,8 +19,8 @@ Stops test [] = Unit {0}
 Stops test (b ∷ bs) = test b ≡ false
 
 -- Some bytes, each of which passes the test.
-abbrev pub IsRun : (ℕ → Bool) → List ℕ → Type 0
-IsRun test bytes = (0 < length bytes) × (list_all test bytes ≡ true)
+abbrev pub IsSpan : (ℕ → Bool) → List ℕ → Type 0
+IsSpan test bytes = (0 < length bytes) × (list_all test bytes ≡ true)
 
 -- One byte, which passes the test.
 abbrev pub IsOne : (ℕ → Bool) → List ℕ → Type 0
@@ -42,7 +42,7 @@ HasNoDots (b ∷ bs) rest = (begins_with_dots (b ∷ bs ++ rest) ≡ false) × H
 
 -- The mark of a base, and then digits of that base that spell the number.
 abbrev pub IsSpelled : List ℕ → (ℕ → Bool) → ℕ → ℕ → List ℕ → Type 0
-IsSpelled mark is_digit_of base value bytes = (digits : List ℕ) × (bytes ≡ mark ++ digits) × IsRun is_digit_of digits × (number base digits ≡ value)
+IsSpelled mark is_digit_of base value bytes = (digits : List ℕ) × (bytes ≡ mark ++ digits) × IsSpan is_digit_of digits × (number base digits ≡ value)
 
 -- Decimal digits, `0x` and hexadecimal digits, or `0b` and binary digits.
 abbrev pub IsInteger : ℕ → List ℕ → Type 0
@@ -61,7 +61,7 @@ IsComment bytes = BeginsWith is_hash bytes × (list_all is_comment_byte bytes �
 abbrev pub IsDisplayLexeme : Option TokKind → List ℕ → Type 0
 IsDisplayLexeme (Some Word) bytes = IsWord bytes
 IsDisplayLexeme (Some Text) bytes = IsQuoted bytes
-IsDisplayLexeme (Some Blank) bytes = IsRun is_blank bytes
+IsDisplayLexeme (Some Blank) bytes = IsSpan is_blank bytes
 IsDisplayLexeme (Some Caret) bytes = bytes ≡ codes "^"
 IsDisplayLexeme (Some Char) bytes = IsOne is_char bytes
 IsDisplayLexeme (Some (Integer value)) bytes = ⊥
@@ -74,7 +74,7 @@ IsCodeLexeme marks (Some Word) bytes rest = IsWord bytes × HasNoDots bytes rest
 IsCodeLexeme marks (Some (Integer value)) bytes rest = IsInteger value bytes
 IsCodeLexeme marks (Some Text) bytes rest = IsQuoted bytes
 IsCodeLexeme marks (Some Mark) bytes rest = Contains marks bytes
-IsCodeLexeme marks None bytes rest = IsRun is_blank bytes ⊎ IsComment bytes
+IsCodeLexeme marks None bytes rest = IsSpan is_blank bytes ⊎ IsComment bytes
 IsCodeLexeme marks (Some Blank) bytes rest = ⊥
 IsCodeLexeme marks (Some Caret) bytes rest = ⊥
 IsCodeLexeme marks (Some Char) bytes rest = ⊥

@@ -1,4 +1,4 @@
--- meaning: files and a sink in memory, and their numbered calls.
+-- view: files and a sink in memory, and their numbered calls.
 use Rattle.std.specs.Prelude.{◌≡◌, ℕ, ◌-◌, List, ◌++◌, [], ◌∷◌, min, map, option_map, string_bytes, Contains, Option, Some, None, ◌⊎◌, Result, Ok, Err}
 use Rattle.std.specs.BTreeMap.{get_by_text}
 use Rattle.sl_outside.specs.Causes.{next_count}

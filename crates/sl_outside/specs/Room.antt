@@ -1,4 +1,4 @@
--- meaning: the room of a sink.
+-- view: the room of a sink.
 use Rattle.std.specs.Prelude.{ℕ, ◌-◌, min, option_map, Option, Some, None}
 
 -- how many of so many bytes fit

@@ -1,4 +1,4 @@
--- meaning: fetches that stop before their file is asked for.
+-- view: fetches that stop before their file is asked for.
 use Rattle.std.specs.Prelude.{Result, Ok, Err, ⊤}
 use Rattle.sl_outside.specs.declared.FetchError.{FetchError}
 use Rattle.sl_outside.specs.declared.FetchError.TheVariants.{Absent, TooLong, Failed, NoMemory}

@@ -5,7 +5,7 @@ ghost use Rattle.std.specs.Prelude.{◌≡◌, ℕ, ◌<◌, ◌≤◌, [], ◌�
 ghost use Rattle.std.specs.Result.{IsErrOf};
 ghost use Rattle.std.specs.Io.KnownBytes.{WriteAppends};
 ghost use Rattle.sl_outside.specs.Causes.{next_count};
-ghost use Rattle.sl_outside.specs.Folder.{Folder, Holds, Lacks, HoldsTooLong, size_limit};
+ghost use Rattle.sl_outside.specs.Folder.{Folder, FolderHas, Lacks, HoldsTooLong, size_limit};
 ghost use Rattle.sl_outside.specs.Stops.{IsStopped};
 ghost use Rattle.sl_outside.specs.Uses.{Names, UsesFiles, UsesSink};
 
@@ -54,7 +54,7 @@ pub trait Files {
     /// Puts the bytes of the named file in the place of what `into` holds.
     fn fetch(&mut self, name: &str, into: &mut Vec<u8>) -> Result<(), FetchError>
         ensures size { OnOk result (length into.new.items ≤ size_limit) }
-        ensures found { OnOk result (Holds (told self.old) name.now into.new.items) }
+        ensures found { OnOk result (FolderHas (told self.old) name.now into.new.items) }
 
         ensures absent { IsErrOf result FetchError.Absent → Lacks (told self.old) name.now }
         ensures too_long { IsErrOf result FetchError.TooLong → HoldsTooLong (told self.old) name.now }

@@ -101,7 +101,7 @@ impl MemFiles {
 }
 
 impl Files for MemFiles {
-    ghost use Rattle.sl_outside.specs.Folder.{Holds, HoldsTooLong, Lacks, size_limit};
+    ghost use Rattle.sl_outside.specs.Folder.{FolderHas, HoldsTooLong, Lacks, size_limit};
     ghost use Rattle.sl_outside.specs.Memory.{CountsCall, IsToFail};
     ghost use Rattle.sl_outside.specs.Memory.{asked_of, failed_fetches, fetches_of, told_of};
     ghost use Rattle.sl_outside.specs.Uses.{UsesFiles};
@@ -114,7 +114,7 @@ impl Files for MemFiles {
 
     fn fetch(&mut self, name: &str, into: &mut Vec<u8>) -> Result<(), FetchError>
         ensures size { OnOk result (length into.new.items ≤ size_limit) }
-        ensures found { OnOk result (Holds (told_of self.old) name.now into.new.items) }
+        ensures found { OnOk result (FolderHas (told_of self.old) name.now into.new.items) }
 
         ensures absent { IsErrOf result FetchError.Absent → Lacks (told_of self.old) name.now }
         ensures too_long { IsErrOf result FetchError.TooLong → HoldsTooLong (told_of self.old) name.now }

@@ -6,16 +6,16 @@ use Rattle.sl_ast.specs.Unfolding.{firsts}
 use Rattle.sl_ast.specs.Validity.{heaviest, deepest}
 use Rattle.sl_ast.specs.Views.{items_of, indexes_of}
 use Rattle.sl_ast.specs.declared.items.Spec.{Spec}
-use Rattle.sl_grammar.specs.Faults.{no_spelling, too_deep, left_out}
-use Rattle.sl_grammar.specs.Items.{is_there, value_of, item, specification_within, specification}
-use Rattle.sl_grammar.specs.Lists.{many}
-use Rattle.sl_grammar.specs.Reader.{Form, syntax, nesting, unsupported, fault, at, Input}
-use Rattle.sl_grammar.proofs.Faults.{sound}
-use Rattle.sl_places.proofs.Places.{faults_have_causes, place_within}
-use Rattle.sl_phrases.specs.Reads.{Stops}
-use Rattle.sl_phrases.specs.declared.stop.Form.TheVariants as fv
-use Rattle.sl_phrases.specs.declared.stop.Stop as s
-use Rattle.sl_phrases.specs.declared.stop.Stop.TheVariants as sv
+use Rattle.sl_parse_grammar.specs.Reasons.{no_spelling, too_deep, left_out}
+use Rattle.sl_parse_grammar.specs.Items.{is_there, value_of, item, specification_within, specification}
+use Rattle.sl_parse_grammar.specs.Lists.{many}
+use Rattle.sl_parse_grammar.specs.Reader.{Form, syntax, nesting, unsupported, fault, at, Input}
+use Rattle.sl_parse_grammar.proofs.Faults.{sound}
+use Rattle.sl_parse_faults.proofs.Places.{faults_have_causes, place_within}
+use Rattle.sl_parse_phrases.specs.Reads.{Stops}
+use Rattle.sl_parse_phrases.specs.declared.stop.Form.TheVariants as fv
+use Rattle.sl_parse_phrases.specs.declared.stop.Stop as s
+use Rattle.sl_parse_phrases.specs.declared.stop.Stop.TheVariants as sv
 use Rattle.sl_parse.specs.Parsing.{IsFaultOf, IsTree, error_of}
 
 refused : (symbols : List Sym) (form : Form) (left : _) → many is_there (item heaviest deepest) (at symbols 0) ≡ Err (fault form left) → specification symbols ≡ Err (fault form left)

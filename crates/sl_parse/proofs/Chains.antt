@@ -7,12 +7,12 @@ use Rattle.sl_ast.specs.Views.{chained}
 use Rattle.sl_ast.specs.declared.constructors.Inner.{Inner}
 use Rattle.sl_ast.specs.declared.symbols.Keyword.TheVariants as k
 use Rattle.sl_ast.specs.declared.symbols.Mark.TheVariants as m
-use Rattle.sl_grammar.specs.Items.{inside_by, inside_from, inside, constructor_here, block_at, head}
-use Rattle.sl_grammar.specs.Reader.{Input, Outcome, Reader, and_then, ◌>>=◌, left, pure, first, is_mark, is_keyword, same_keyword, expect}
-use Rattle.sl_grammar.proofs.Taken.{then_ok, same_state}
-use Rattle.sl_phrases.specs.Reads.{Stops}
-use Rattle.sl_phrases.specs.declared.stop.Stop as s
-use Rattle.sl_phrases.specs.declared.stop.Stop.TheVariants as sv
+use Rattle.sl_parse_grammar.specs.Items.{inside_by, inside_from, inside, constructor_here, block_at, head}
+use Rattle.sl_parse_grammar.specs.Reader.{Input, Outcome, Reader, and_then, ◌>>=◌, left, pure, first, is_mark, is_keyword, same_keyword, expect}
+use Rattle.sl_parse_grammar.proofs.Taken.{then_ok, same_state}
+use Rattle.sl_parse_phrases.specs.Reads.{Stops}
+use Rattle.sl_parse_phrases.specs.declared.stop.Stop as s
+use Rattle.sl_parse_phrases.specs.declared.stop.Stop.TheVariants as sv
 use Rattle.sl_parse.specs.Blocks.{chain_of, constructor_or_block}
 use Rattle.sl_parse.proofs.Lengths.{constructor_counts, item_counts}
 use Rattle.sl_parse.proofs.Spelled.{block_spelled, constructor_spelled}

@@ -3,7 +3,7 @@ use Rattle.std.proofs.Common.{◌≡◌, ℕ, ◌+◌, List, [], ◌∷◌, leng
 use Rattle.sl_ast.specs.Spelling.{spell_constructor, spell_head, spell_item}
 use Rattle.sl_ast.specs.Symbols.{Sym}
 use Rattle.sl_ast.specs.Trees.{Constructor, Head, Item}
-use Rattle.sl_grammar.proofs.Keeps.{keeps_constructor, keeps_head, keeps_item}
+use Rattle.sl_parse_grammar.proofs.Keeps.{keeps_constructor, keeps_head, keeps_item}
 
 -- the first list is so much longer
 Longer : ℕ → List Sym → List Sym → Type 0

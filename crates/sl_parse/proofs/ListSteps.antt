@@ -2,11 +2,11 @@
 use Rattle.std.proofs.Common.{◌≡◌, ℕ, suc, Bool, true, List, [], ◌∷◌, ◌++◌, Option, Ok, Err, refl, sym, ap, subst}
 use Rattle.sl_ast.specs.Symbols.{Sym}
 use Rattle.sl_ast.specs.declared.symbols.Mark.TheVariants as m
-use Rattle.sl_grammar.specs.Lists.{many_from, separated_from}
-use Rattle.sl_grammar.specs.Reader.{Fault, Input, Outcome, Reader, first, next, is_mark, refuse}
-use Rattle.sl_phrases.specs.Reads.{IsFault, Refuses, Stops}
-use Rattle.sl_phrases.specs.declared.stop.Stop as s
-use Rattle.sl_phrases.specs.declared.stop.Stop.TheVariants as sv
+use Rattle.sl_parse_grammar.specs.Lists.{many_from, separated_from}
+use Rattle.sl_parse_grammar.specs.Reader.{Fault, Input, Outcome, Reader, first, next, is_mark, refuse}
+use Rattle.sl_parse_phrases.specs.Reads.{IsFault, Refuses, Stops}
+use Rattle.sl_parse_phrases.specs.declared.stop.Stop as s
+use Rattle.sl_parse_phrases.specs.declared.stop.Stop.TheVariants as sv
 
 pub stops_along : {A : Type 0} (o p : Outcome A) (e : s.Stop) → o ≡ p → Stops p e → Stops o e
 stops_along o p e same h = let P : Outcome _ → Type 0 = λ x. Stops x e in subst P (sym same) h

@@ -11,8 +11,8 @@ use Rattle.sl_ast.specs.declared.constructors.Inner as n
 use Rattle.sl_ast.specs.declared.items.Item.{Item}
 use Rattle.sl_ast.specs.declared.items.ItemKind.{ItemKind}
 use Rattle.sl_ast.specs.declared.items.ItemKind.TheVariants as iv
-use Rattle.sl_grammar.specs.Items.{constructor_here, head, block_at, item}
-use Rattle.sl_grammar.specs.Reader.{Input, left, first}
+use Rattle.sl_parse_grammar.specs.Items.{constructor_here, head, block_at, item}
+use Rattle.sl_parse_grammar.specs.Reader.{Input, left, first}
 use Rattle.sl_parse.specs.Blocks.{KeepsPart, KeepsInside, KeepsBlock, KeepsItem, IsFlat, block_of, chain_of, constructor_or_block, inner_places, inside_of_vec}
 use Rattle.sl_parse.specs.declared.blocks.Block.{Block}
 use Rattle.sl_parse.proofs.Chains.{chained_more, map_more, part_within}

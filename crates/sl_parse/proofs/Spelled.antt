@@ -5,10 +5,10 @@ use Rattle.sl_ast.specs.Symbols.{mark}
 use Rattle.sl_ast.specs.Trees.{Constructor, Head, Inside, Item}
 use Rattle.sl_ast.specs.Validity.{heaviest, deepest}
 use Rattle.sl_ast.specs.declared.symbols.Mark.TheVariants as m
-use Rattle.sl_grammar.specs.Items.{constructor_here, head, block_at, item}
-use Rattle.sl_grammar.specs.Reader.{Input}
-use Rattle.sl_grammar.proofs.ConstructorRules.{constructor_rule, head_rule}
-use Rattle.sl_grammar.proofs.ItemRules.{item_rule, block_ok}
+use Rattle.sl_parse_grammar.specs.Items.{constructor_here, head, block_at, item}
+use Rattle.sl_parse_grammar.specs.Reader.{Input}
+use Rattle.sl_parse_grammar.proofs.ConstructorRules.{constructor_rule, head_rule}
+use Rattle.sl_parse_grammar.proofs.ItemRules.{item_rule, block_ok}
 
 pub constructor_spelled : (i j : Input) (c : Constructor) → constructor_here heaviest i ≡ Ok (c, j) → i.rest ≡ spell_constructor c j.rest
 constructor_spelled i j c h = ((constructor_rule heaviest).sound i j c h).tokens

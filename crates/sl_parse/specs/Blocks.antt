@@ -1,4 +1,4 @@
--- What stands inside a block, as what it puts before the rest of the block, and the indexes that are kept.
+-- step: what stands inside a block, as what it puts before the rest of the block, and the indexes that are kept.
 use Rattle.std.specs.Prelude.{◌≡◌, ℕ, ◌+◌, ◌-◌, ◌≤◌, List, [], ◌∷◌, ◌++◌, Option, Vec, if◌then◌else◌}
 use Rattle.std.specs.declared.alloc.Global.{Global}
 use Rattle.sl_ast.specs.Symbols.{Sym}
@@ -9,7 +9,7 @@ use Rattle.sl_ast.specs.declared.constructors.Inner.{Inner, fold-Inner}
 use Rattle.sl_ast.specs.declared.items.ItemKind.{ItemKind}
 use Rattle.sl_ast.specs.declared.items.ItemKind.TheVariants as iv
 use Rattle.sl_ast.specs.declared.symbols.Keyword.TheVariants as k
-use Rattle.sl_grammar.specs.Reader.{Input, left, Reader, ◌>>=◌, pure, is_keyword}
+use Rattle.sl_parse_grammar.specs.Reader.{Input, left, Reader, ◌>>=◌, pure, is_keyword}
 use Rattle.sl_parse.specs.declared.blocks.Block.{Block}
 
 abbrev pub inside_of_vec : Vec Inner Global → Inside

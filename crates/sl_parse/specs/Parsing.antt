@@ -1,4 +1,4 @@
--- What a parse tells of symbols.
+-- view: what a parse tells of symbols.
 use Rattle.std.specs.Prelude.{◌≡◌, ℕ, ◌-◌, List, Vec, map}
 use Rattle.std.specs.declared.alloc.Global.{Global}
 use Rattle.sl_ast.specs.Spelling.{spell}
@@ -11,12 +11,12 @@ use Rattle.sl_ast.specs.declared.items.Item.{Item}
 use Rattle.sl_ast.specs.declared.items.Spec.{Spec}
 use Rattle.sl_parse.specs.declared.parser.ParseError.{ParseError}
 use Rattle.sl_parse.specs.declared.parser.ParseError.TheVariants.{Syntax, Nesting, NotSupported, NoMemory}
-use Rattle.sl_places.specs.Causes.{IsFault, no_spelling, too_deep, left_out}
-use Rattle.sl_phrases.specs.Reads.{AllHaveTheirWords, syms_of}
-use Rattle.sl_phrases.specs.declared.stop.Form.TheVariants as fv
-use Rattle.sl_phrases.specs.declared.stop.Stop as s
-use Rattle.sl_phrases.specs.declared.stop.Stop.TheVariants as sv
-use Rattle.sl_symbols.specs.declared.Symbol.{Symbol}
+use Rattle.sl_parse_faults.specs.Causes.{IsFault, no_spelling, too_deep, left_out}
+use Rattle.sl_parse_phrases.specs.Reads.{AllHaveTheirWords, syms_of}
+use Rattle.sl_parse_phrases.specs.declared.stop.Form.TheVariants as fv
+use Rattle.sl_parse_phrases.specs.declared.stop.Stop as s
+use Rattle.sl_parse_phrases.specs.declared.stop.Stop.TheVariants as sv
+use Rattle.sl_parse_terminals.specs.declared.Symbol.{Symbol}
 
 -- The symbols are the spelling of the tree, which has no fault and keeps the index of each item's first symbol.
 pub record IsTree (symbols : List Sym) (spec : Spec) : Type 0 where

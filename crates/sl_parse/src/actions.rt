@@ -4,23 +4,23 @@ ghost use Rattle.std.specs.Prelude.{option_map};
 ghost use Rattle.sl_ast.specs.Validity.{heaviest};
 ghost use Rattle.sl_ast.specs.Views.{action_of};
 ghost use Rattle.sl_ast.specs.declared.symbols.Mark.TheVariants as m;
-ghost use Rattle.sl_grammar.specs.Reader.{is_mark, optional};
-ghost use Rattle.sl_grammar.specs.Statements as reader;
-ghost use Rattle.sl_phrases.specs.Reads.{Reads, ReadsAll, seen_by};
+ghost use Rattle.sl_parse_grammar.specs.Reader.{is_mark, optional};
+ghost use Rattle.sl_parse_grammar.specs.Statements as reader;
+ghost use Rattle.sl_parse_phrases.specs.Reads.{Reads, ReadsAll, seen_by};
 
 use crate::lists::{Part, Repeated, many};
 use crate::parts::operand;
 use sl_ast::patterns::Action;
 use sl_ast::symbols::{Keyword, Mark};
-use sl_phrases::expressions::whole;
-use sl_phrases::operators::Kind;
-use sl_phrases::stop::Stop;
-use sl_phrases::symbols::Symbols;
-use sl_symbols::Symbol;
+use sl_parse_phrases::expressions::whole;
+use sl_parse_phrases::operators::Kind;
+use sl_parse_phrases::stop::Stop;
+use sl_parse_phrases::symbols::Symbols;
+use sl_parse_terminals::Symbol;
 use std::alloc::Global;
 
 /// `globalset(address, field);`.
-#[tactic(auto, unfolding(sl_grammar::specs::Statements::global_set_here))]
+#[tactic(auto, unfolding(sl_parse_grammar::specs::Statements::global_set_here))]
 fn global_set_here<'a>(symbols: &mut Symbols<'_, 'a>) -> Result<Action<'a>, Stop>
     ensures { ReadsAll action_of (reader.global_set_here symbols.old) result symbols.new }
 {
@@ -35,7 +35,7 @@ fn global_set_here<'a>(symbols: &mut Symbols<'_, 'a>) -> Result<Action<'a>, Stop
 }
 
 /// `name = expression;`.
-#[tactic(auto, unfolding(sl_grammar::specs::Statements::set_here))]
+#[tactic(auto, unfolding(sl_parse_grammar::specs::Statements::set_here))]
 fn set_here<'a>(alloc: Global, symbols: &mut Symbols<'_, 'a>) -> Result<Action<'a>, Stop>
     ensures { Reads action_of (reader.set_here heaviest symbols.old) result symbols.new }
 {
@@ -55,7 +55,7 @@ impl<'a> Part<'a> for Action<'a> {
 
     ghost reader = { reader.action heaviest };
 
-    #[tactic(auto, unfolding(sl_grammar::specs::Statements::action))]
+    #[tactic(auto, unfolding(sl_parse_grammar::specs::Statements::action))]
     fn read(alloc: Global, symbols: &mut Symbols<'_, 'a>) -> Result<Action<'a>, Stop> {
         match symbols.peek() {
             Some(Symbol::Quoted(Keyword::GlobalSet, _)) => global_set_here(symbols),
@@ -73,7 +73,7 @@ impl<'a> Repeated<'a> for Action<'a> {
 }
 
 /// Actions in brackets.
-#[tactic(auto, unfolding(sl_grammar::specs::Statements::actions))]
+#[tactic(auto, unfolding(sl_parse_grammar::specs::Statements::actions))]
 fn actions<'a>(alloc: Global, symbols: &mut Symbols<'_, 'a>) -> Result<Vec<Action<'a>>, Stop>
     ensures { Reads (seen_by action_of) (reader.actions heaviest symbols.old) result symbols.new }
 {

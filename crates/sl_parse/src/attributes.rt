@@ -4,17 +4,17 @@ ghost use Rattle.std.specs.Prelude.{option_map};
 ghost use Rattle.sl_ast.specs.Views.{space_attribute_of};
 ghost use Rattle.sl_ast.specs.declared.symbols.Keyword.TheVariants as k;
 ghost use Rattle.sl_ast.specs.declared.symbols.Mark.TheVariants as m;
-ghost use Rattle.sl_grammar.specs.Definitions as reader;
-ghost use Rattle.sl_grammar.specs.Reader.{first, is_keyword, optional};
-ghost use Rattle.sl_grammar.specs.Statements.{until};
-ghost use Rattle.sl_phrases.specs.Reads.{Plain, ReadsAll};
+ghost use Rattle.sl_parse_grammar.specs.Definitions as reader;
+ghost use Rattle.sl_parse_grammar.specs.Reader.{first, is_keyword, optional};
+ghost use Rattle.sl_parse_grammar.specs.Statements.{until};
+ghost use Rattle.sl_parse_phrases.specs.Reads.{Plain, ReadsAll};
 
 use crate::lists::{Part, Repeated};
 use sl_ast::definitions::{ByteOrder, FieldAttribute, SpaceAttribute};
 use sl_ast::symbols::{Feature, Keyword, Mark};
-use sl_phrases::stop::Stop;
-use sl_phrases::symbols::Symbols;
-use sl_symbols::Symbol;
+use sl_parse_phrases::stop::Stop;
+use sl_parse_phrases::symbols::Symbols;
+use sl_parse_terminals::Symbol;
 use std::alloc::Global;
 
 /// The word for a byte order.
@@ -35,7 +35,7 @@ fn order_word(symbols: &mut Symbols) -> Result<ByteOrder, Stop>
 }
 
 /// `endian=` with a byte order.
-#[tactic(auto, unfolding(sl_grammar::specs::Definitions::order))]
+#[tactic(auto, unfolding(sl_parse_grammar::specs::Definitions::order))]
 pub fn order(symbols: &mut Symbols) -> Result<ByteOrder, Stop>
     ensures { ReadsAll Plain (reader.order symbols.old) result symbols.new }
 {
@@ -58,7 +58,7 @@ pub fn order_option(symbols: &mut Symbols) -> Result<Option<ByteOrder>, Stop>
 }
 
 /// `type=name`.
-#[tactic(auto, unfolding(sl_grammar::specs::Definitions::type_here))]
+#[tactic(auto, unfolding(sl_parse_grammar::specs::Definitions::type_here))]
 fn type_here<'a>(symbols: &mut Symbols<'_, 'a>) -> Result<SpaceAttribute<'a>, Stop>
     ensures { ReadsAll space_attribute_of (reader.type_here symbols.old) result symbols.new }
 {
@@ -69,7 +69,7 @@ fn type_here<'a>(symbols: &mut Symbols<'_, 'a>) -> Result<SpaceAttribute<'a>, St
 }
 
 /// `size=n`.
-#[tactic(auto, unfolding(sl_grammar::specs::Definitions::size_attribute))]
+#[tactic(auto, unfolding(sl_parse_grammar::specs::Definitions::size_attribute))]
 fn size_attribute<'a>(symbols: &mut Symbols<'_, 'a>) -> Result<SpaceAttribute<'a>, Stop>
     ensures { ReadsAll space_attribute_of (reader.size_attribute symbols.old) result symbols.new }
 {
@@ -80,7 +80,7 @@ fn size_attribute<'a>(symbols: &mut Symbols<'_, 'a>) -> Result<SpaceAttribute<'a
 }
 
 /// A word size, which is 1.
-#[tactic(auto, unfolding(sl_grammar::specs::Definitions::checked_size))]
+#[tactic(auto, unfolding(sl_parse_grammar::specs::Definitions::checked_size))]
 fn word_size<'a>(symbols: &mut Symbols<'_, 'a>) -> Result<SpaceAttribute<'a>, Stop>
     ensures { ReadsAll space_attribute_of (reader.word_size_by (first symbols.old.rest) symbols.old) result symbols.new }
 {
@@ -97,7 +97,7 @@ fn word_size<'a>(symbols: &mut Symbols<'_, 'a>) -> Result<SpaceAttribute<'a>, St
 }
 
 /// `wordsize=1`.
-#[tactic(auto, unfolding(sl_grammar::specs::Definitions::word_size_here))]
+#[tactic(auto, unfolding(sl_parse_grammar::specs::Definitions::word_size_here))]
 fn word_size_here<'a>(symbols: &mut Symbols<'_, 'a>) -> Result<SpaceAttribute<'a>, Stop>
     ensures { ReadsAll space_attribute_of (reader.word_size_here symbols.old) result symbols.new }
 {
@@ -116,7 +116,7 @@ impl<'a> Part<'a> for SpaceAttribute<'a> {
 
     ghost reader = { reader.space_attribute };
 
-    #[tactic(auto, unfolding(sl_grammar::specs::Definitions::space_attribute))]
+    #[tactic(auto, unfolding(sl_parse_grammar::specs::Definitions::space_attribute))]
     fn read(_alloc: Global, symbols: &mut Symbols<'_, 'a>) -> Result<SpaceAttribute<'a>, Stop> {
         match symbols.peek() {
             Some(Symbol::Quoted(Keyword::Type, _)) => type_here(symbols),
@@ -148,7 +148,7 @@ impl<'a> Part<'a> for FieldAttribute {
 
     ghost reader = { reader.attribute };
 
-    #[tactic(auto, unfolding(sl_grammar::specs::Definitions::attribute))]
+    #[tactic(auto, unfolding(sl_parse_grammar::specs::Definitions::attribute))]
     fn read(_alloc: Global, symbols: &mut Symbols<'_, 'a>) -> Result<FieldAttribute, Stop> {
         let found = match symbols.peek() {
             Some(Symbol::Quoted(Keyword::Signed, _)) => FieldAttribute::Signed,

@@ -2,16 +2,16 @@
 
 ghost use Rattle.std.specs.Prelude.{IfOk};
 ghost use Rattle.sl_ast.specs.Validity.{heaviest};
-ghost use Rattle.sl_grammar.specs.Items as reader;
-ghost use Rattle.sl_grammar.specs.Reader.{first};
+ghost use Rattle.sl_parse_grammar.specs.Items as reader;
+ghost use Rattle.sl_parse_grammar.specs.Reader.{first};
 ghost use Rattle.sl_parse.specs.Blocks.{KeepsBlock, KeepsInside, KeepsPart, block_of, constructor_or_block, chain_of, inside_of_vec};
-ghost use Rattle.sl_phrases.specs.Reads.{Reads};
+ghost use Rattle.sl_parse_phrases.specs.Reads.{Reads};
 
 use crate::constructors::{constructor_here, head};
 use sl_ast::constructors::{Head, Inner};
 use sl_ast::symbols::{Keyword, Mark};
-use sl_phrases::stop::Stop;
-use sl_phrases::symbols::Symbols;
+use sl_parse_phrases::stop::Stop;
+use sl_parse_phrases::symbols::Symbols;
 use std::alloc::Global;
 
 /// A block with what stands inside.
@@ -24,7 +24,7 @@ pub struct Block<'a> {
 /// A block, with blocks inside one another at most `depth` times, itself counted. `total` is the number of all
 /// symbols.
 #[cycle(block)]
-#[tactic(auto, unfolding(sl_grammar::specs::Items::block_at))]
+#[tactic(auto, unfolding(sl_parse_grammar::specs::Items::block_at))]
 pub fn block_at<'a>(
     alloc: Global,
     symbols: &mut Symbols<'_, 'a>,
@@ -45,7 +45,7 @@ pub fn block_at<'a>(
 
 /// What stands inside a block, up to its closing brace.
 #[cycle(block)]
-#[tactic(auto, unfolding(sl_grammar::specs::Items::inside_from))]
+#[tactic(auto, unfolding(sl_parse_grammar::specs::Items::inside_from))]
 fn inside<'a>(
     alloc: Global,
     symbols: &mut Symbols<'_, 'a>,

@@ -4,10 +4,10 @@ ghost use Rattle.std.specs.Prelude.{◌≡◌, option_map};
 ghost use Rattle.sl_ast.specs.Validity.{heaviest};
 ghost use Rattle.sl_ast.specs.Views.{bytes, constructor_of, head_of, pattern_of, piece_of, section_of};
 ghost use Rattle.sl_ast.specs.declared.symbols.Keyword.TheVariants as k;
-ghost use Rattle.sl_grammar.specs.Items as reader;
-ghost use Rattle.sl_grammar.specs.Patterns.{whole_pattern};
-ghost use Rattle.sl_grammar.specs.Reader.{first, is_keyword, name_here, optional};
-ghost use Rattle.sl_phrases.specs.Reads.{Reads, ReadsAll};
+ghost use Rattle.sl_parse_grammar.specs.Items as reader;
+ghost use Rattle.sl_parse_grammar.specs.Patterns.{whole_pattern};
+ghost use Rattle.sl_parse_grammar.specs.Reader.{first, is_keyword, name_here, optional};
+ghost use Rattle.sl_parse_phrases.specs.Reads.{Reads, ReadsAll};
 
 use crate::actions::actions_option;
 use crate::lists::{Part, Repeated, many};
@@ -15,10 +15,10 @@ use crate::statements::body;
 use sl_ast::constructors::{Constructor, Head, Section, Shown};
 use sl_ast::patterns::Pattern;
 use sl_ast::symbols::{Keyword, Mark};
-use sl_phrases::patterns::whole_pattern;
-use sl_phrases::stop::Stop;
-use sl_phrases::symbols::Symbols;
-use sl_symbols::Symbol;
+use sl_parse_phrases::patterns::whole_pattern;
+use sl_parse_phrases::stop::Stop;
+use sl_parse_phrases::symbols::Symbols;
+use sl_parse_terminals::Symbol;
 use std::alloc::Global;
 
 impl<'a> Part<'a> for Shown<'a> {
@@ -30,7 +30,7 @@ impl<'a> Part<'a> for Shown<'a> {
 
     ghost reader = { reader.piece };
 
-    #[tactic(auto, unfolding(sl_grammar::specs::Items::piece))]
+    #[tactic(auto, unfolding(sl_parse_grammar::specs::Items::piece))]
     fn read(_alloc: Global, symbols: &mut Symbols<'_, 'a>) -> Result<Shown<'a>, Stop> {
         let found = match symbols.peek_word() {
             Some(Symbol::Quoted(Keyword::Is, _)) => return Err(symbols.refuse()),
@@ -75,7 +75,7 @@ fn table_option<'a>(symbols: &mut Symbols<'_, 'a>) -> Result<Option<&'a [u8]>, S
 }
 
 /// What a constructor does.
-#[tactic(auto, unfolding(sl_grammar::specs::Items::section))]
+#[tactic(auto, unfolding(sl_parse_grammar::specs::Items::section))]
 fn section<'a>(alloc: Global, symbols: &mut Symbols<'_, 'a>) -> Result<Section<'a>, Stop>
     ensures { Reads section_of (reader.section heaviest symbols.old) result symbols.new }
 {
@@ -93,7 +93,7 @@ fn section<'a>(alloc: Global, symbols: &mut Symbols<'_, 'a>) -> Result<Section<'
 }
 
 /// A constructor.
-#[tactic(auto, unfolding(sl_grammar::specs::Items::constructor_here))]
+#[tactic(auto, unfolding(sl_parse_grammar::specs::Items::constructor_here))]
 pub fn constructor_here<'a>(
     alloc: Global,
     symbols: &mut Symbols<'_, 'a>,
@@ -132,7 +132,7 @@ fn pattern_option<'a>(
 }
 
 /// What a block gives to each constructor inside, with the block's opening brace.
-#[tactic(auto, unfolding(sl_grammar::specs::Items::head))]
+#[tactic(auto, unfolding(sl_parse_grammar::specs::Items::head))]
 pub fn head<'a>(alloc: Global, symbols: &mut Symbols<'_, 'a>) -> Result<Head<'a>, Stop>
     ensures { Reads head_of (reader.head heaviest symbols.old) result symbols.new }
 {

@@ -4,10 +4,10 @@ ghost use Rattle.std.specs.Prelude.{option_map};
 ghost use Rattle.sl_ast.specs.Views.{bit_range_of, bytes, definition_of, field_of, member_of, names_of, space_attribute_of};
 ghost use Rattle.sl_ast.specs.declared.symbols.Keyword.TheVariants as k;
 ghost use Rattle.sl_ast.specs.declared.symbols.Mark.TheVariants as m;
-ghost use Rattle.sl_grammar.specs.Definitions as reader;
-ghost use Rattle.sl_grammar.specs.Reader.{is_keyword, name_here, optional};
-ghost use Rattle.sl_grammar.specs.Statements.{until};
-ghost use Rattle.sl_phrases.specs.Reads.{Plain, Reads, ReadsAll};
+ghost use Rattle.sl_parse_grammar.specs.Definitions as reader;
+ghost use Rattle.sl_parse_grammar.specs.Reader.{is_keyword, name_here, optional};
+ghost use Rattle.sl_parse_grammar.specs.Statements.{until};
+ghost use Rattle.sl_parse_phrases.specs.Reads.{Plain, Reads, ReadsAll};
 
 use crate::attributes::{order, order_option};
 use crate::lists::{Part, Repeated, many};
@@ -15,9 +15,9 @@ use sl_ast::definitions::{
     AttachKind, BitRange, Definition, Field, FieldAttribute, Member, Names, SpaceAttribute,
 };
 use sl_ast::symbols::{Keyword, Mark};
-use sl_phrases::stop::Stop;
-use sl_phrases::symbols::Symbols;
-use sl_symbols::Symbol;
+use sl_parse_phrases::stop::Stop;
+use sl_parse_phrases::symbols::Symbols;
+use sl_parse_terminals::Symbol;
 use std::alloc::Global;
 
 impl<'a> Part<'a> for &'a [u8] {
@@ -51,7 +51,7 @@ impl<'a> Part<'a> for BitRange<'a> {
 
     ghost reader = { reader.bit_range };
 
-    #[tactic(auto, unfolding(sl_grammar::specs::Definitions::bit_range))]
+    #[tactic(auto, unfolding(sl_parse_grammar::specs::Definitions::bit_range))]
     fn read(_alloc: Global, symbols: &mut Symbols<'_, 'a>) -> Result<BitRange<'a>, Stop> {
         let name = symbols.name()?;
         symbols.expect(Mark::Equals)?;
@@ -87,7 +87,7 @@ impl<'a> Part<'a> for Field<'a> {
 
     ghost reader = { reader.field };
 
-    #[tactic(auto, unfolding(sl_grammar::specs::Definitions::field))]
+    #[tactic(auto, unfolding(sl_parse_grammar::specs::Definitions::field))]
     fn read(alloc: Global, symbols: &mut Symbols<'_, 'a>) -> Result<Field<'a>, Stop> {
         let name = symbols.name()?;
         symbols.expect(Mark::Equals)?;
@@ -115,7 +115,7 @@ impl<'a> Repeated<'a> for Field<'a> {
 }
 
 /// Names in brackets.
-#[tactic(auto, unfolding(sl_grammar::specs::Definitions::name_list))]
+#[tactic(auto, unfolding(sl_parse_grammar::specs::Definitions::name_list))]
 fn name_list<'a>(alloc: Global, symbols: &mut Symbols<'_, 'a>) -> Result<Names<'a>, Stop>
     ensures { Reads names_of (reader.name_list symbols.old) result symbols.new }
 {
@@ -126,7 +126,7 @@ fn name_list<'a>(alloc: Global, symbols: &mut Symbols<'_, 'a>) -> Result<Names<'
 }
 
 /// A name, or names in brackets.
-#[tactic(auto, unfolding(sl_grammar::specs::Definitions::names))]
+#[tactic(auto, unfolding(sl_parse_grammar::specs::Definitions::names))]
 pub fn names<'a>(alloc: Global, symbols: &mut Symbols<'_, 'a>) -> Result<Names<'a>, Stop>
     ensures { Reads names_of (reader.names symbols.old) result symbols.new }
 {
@@ -140,7 +140,7 @@ pub fn names<'a>(alloc: Global, symbols: &mut Symbols<'_, 'a>) -> Result<Names<'
 }
 
 /// `alignment=n`.
-#[tactic(auto, unfolding(sl_grammar::specs::Definitions::alignment_here))]
+#[tactic(auto, unfolding(sl_parse_grammar::specs::Definitions::alignment_here))]
 fn alignment_here<'a>(symbols: &mut Symbols<'_, 'a>) -> Result<Definition<'a>, Stop>
     ensures { ReadsAll definition_of (reader.alignment_here symbols.old) result symbols.new }
 {
@@ -151,7 +151,7 @@ fn alignment_here<'a>(symbols: &mut Symbols<'_, 'a>) -> Result<Definition<'a>, S
 }
 
 /// `space name attributes`.
-#[tactic(auto, unfolding(sl_grammar::specs::Definitions::space_here))]
+#[tactic(auto, unfolding(sl_parse_grammar::specs::Definitions::space_here))]
 fn space_here<'a>(alloc: Global, symbols: &mut Symbols<'_, 'a>) -> Result<Definition<'a>, Stop>
     ensures { Reads definition_of (reader.space_here symbols.old) result symbols.new }
 {
@@ -162,7 +162,7 @@ fn space_here<'a>(alloc: Global, symbols: &mut Symbols<'_, 'a>) -> Result<Defini
 }
 
 /// `bitrange` with one bit range or more.
-#[tactic(auto, unfolding(sl_grammar::specs::Definitions::bit_ranges_here))]
+#[tactic(auto, unfolding(sl_parse_grammar::specs::Definitions::bit_ranges_here))]
 fn bit_ranges_here<'a>(alloc: Global, symbols: &mut Symbols<'_, 'a>) -> Result<Definition<'a>, Stop>
     ensures { Reads definition_of (reader.bit_ranges_here symbols.old) result symbols.new }
 {
@@ -173,7 +173,7 @@ fn bit_ranges_here<'a>(alloc: Global, symbols: &mut Symbols<'_, 'a>) -> Result<D
 }
 
 /// `pcodeop names`.
-#[tactic(auto, unfolding(sl_grammar::specs::Definitions::pcode_ops_here))]
+#[tactic(auto, unfolding(sl_parse_grammar::specs::Definitions::pcode_ops_here))]
 fn pcode_ops_here<'a>(alloc: Global, symbols: &mut Symbols<'_, 'a>) -> Result<Definition<'a>, Stop>
     ensures { Reads definition_of (reader.pcode_ops_here symbols.old) result symbols.new }
 {
@@ -183,7 +183,7 @@ fn pcode_ops_here<'a>(alloc: Global, symbols: &mut Symbols<'_, 'a>) -> Result<De
 }
 
 /// `token name(size) endian=order fields`, the byte order being optional.
-#[tactic(auto, unfolding(sl_grammar::specs::Definitions::token_here))]
+#[tactic(auto, unfolding(sl_parse_grammar::specs::Definitions::token_here))]
 fn token_here<'a>(alloc: Global, symbols: &mut Symbols<'_, 'a>) -> Result<Definition<'a>, Stop>
     ensures { Reads definition_of (reader.token_here symbols.old) result symbols.new }
 {
@@ -198,7 +198,7 @@ fn token_here<'a>(alloc: Global, symbols: &mut Symbols<'_, 'a>) -> Result<Defini
 }
 
 /// `context name fields`.
-#[tactic(auto, unfolding(sl_grammar::specs::Definitions::context_here))]
+#[tactic(auto, unfolding(sl_parse_grammar::specs::Definitions::context_here))]
 fn context_here<'a>(alloc: Global, symbols: &mut Symbols<'_, 'a>) -> Result<Definition<'a>, Stop>
     ensures { Reads definition_of (reader.context_here symbols.old) result symbols.new }
 {
@@ -209,7 +209,7 @@ fn context_here<'a>(alloc: Global, symbols: &mut Symbols<'_, 'a>) -> Result<Defi
 }
 
 /// `space offset=n size=n names`.
-#[tactic(auto, unfolding(sl_grammar::specs::Definitions::registers_here))]
+#[tactic(auto, unfolding(sl_parse_grammar::specs::Definitions::registers_here))]
 fn registers_here<'a>(alloc: Global, symbols: &mut Symbols<'_, 'a>) -> Result<Definition<'a>, Stop>
     ensures { Reads definition_of (reader.registers_here symbols.old) result symbols.new }
 {
@@ -225,7 +225,7 @@ fn registers_here<'a>(alloc: Global, symbols: &mut Symbols<'_, 'a>) -> Result<De
 }
 
 /// A definition, up to its semicolon.
-#[tactic(auto, unfolding(sl_grammar::specs::Definitions::definition))]
+#[tactic(auto, unfolding(sl_parse_grammar::specs::Definitions::definition))]
 pub fn definition<'a>(alloc: Global, symbols: &mut Symbols<'_, 'a>) -> Result<Definition<'a>, Stop>
     ensures { Reads definition_of (reader.definition symbols.old) result symbols.new }
 {
@@ -245,7 +245,7 @@ pub fn definition<'a>(alloc: Global, symbols: &mut Symbols<'_, 'a>) -> Result<De
 }
 
 /// What is attached.
-#[tactic(auto, unfolding(sl_grammar::specs::Definitions::attach_kind))]
+#[tactic(auto, unfolding(sl_parse_grammar::specs::Definitions::attach_kind))]
 pub fn attach_kind(symbols: &mut Symbols) -> Result<AttachKind, Stop>
     ensures { ReadsAll Plain (reader.attach_kind symbols.old) result symbols.new }
 {
@@ -277,7 +277,7 @@ impl<'a> Part<'a> for Member<'a> {
 
     ghost reader = { reader.member };
 
-    #[tactic(auto, unfolding(sl_grammar::specs::Definitions::member))]
+    #[tactic(auto, unfolding(sl_parse_grammar::specs::Definitions::member))]
     fn read(_alloc: Global, symbols: &mut Symbols<'_, 'a>) -> Result<Member<'a>, Stop> {
         let found = match symbols.peek_word() {
             Some(Symbol::Mark(Mark::Minus)) => return negative(symbols),

@@ -4,12 +4,12 @@ ghost use Rattle.std.specs.Prelude.{◌≡◌, IfOk};
 ghost use Rattle.sl_ast.specs.Unfolding.{firsts};
 ghost use Rattle.sl_ast.specs.Validity.{heaviest, deepest};
 ghost use Rattle.sl_ast.specs.Views.{kind_of};
-ghost use Rattle.sl_grammar.specs.Items as reader;
-ghost use Rattle.sl_grammar.specs.Lists as lists;
-ghost use Rattle.sl_grammar.specs.Reader.{left};
+ghost use Rattle.sl_parse_grammar.specs.Items as reader;
+ghost use Rattle.sl_parse_grammar.specs.Lists as lists;
+ghost use Rattle.sl_parse_grammar.specs.Reader.{left};
 ghost use Rattle.sl_parse.specs.Blocks.{IsFlat, KeepsItem};
 ghost use Rattle.sl_parse.specs.Parsing.{indexes_seen, items_seen};
-ghost use Rattle.sl_phrases.specs.Reads.{Reads};
+ghost use Rattle.sl_parse_phrases.specs.Reads.{Reads};
 
 use crate::blocks::block_at;
 use crate::constructors::constructor_here;
@@ -20,16 +20,16 @@ use sl_ast::constructors::Macro;
 use sl_ast::definitions::Member;
 use sl_ast::items::{Item, ItemKind};
 use sl_ast::symbols::{Keyword, Mark};
-use sl_phrases::stop::Stop;
-use sl_phrases::symbols::Symbols;
-use sl_symbols::Symbol;
+use sl_parse_phrases::stop::Stop;
+use sl_parse_phrases::symbols::Symbols;
+use sl_parse_terminals::Symbol;
 use std::alloc::Global;
 
 /// How often blocks may stand inside one another.
 const DEEPEST: usize = 16;
 
 /// `define definition;`.
-#[tactic(auto, unfolding(sl_grammar::specs::Items::define_here))]
+#[tactic(auto, unfolding(sl_parse_grammar::specs::Items::define_here))]
 fn define_here<'a>(alloc: Global, symbols: &mut Symbols<'_, 'a>) -> Result<ItemKind<'a>, Stop>
     ensures reads { Reads kind_of (reader.define_here symbols.old) result symbols.new }
     ensures flat { IfOk result IsFlat }
@@ -41,7 +41,7 @@ fn define_here<'a>(alloc: Global, symbols: &mut Symbols<'_, 'a>) -> Result<ItemK
 }
 
 /// `attach kind names members;`.
-#[tactic(auto, unfolding(sl_grammar::specs::Items::attach_here))]
+#[tactic(auto, unfolding(sl_parse_grammar::specs::Items::attach_here))]
 fn attach_here<'a>(alloc: Global, symbols: &mut Symbols<'_, 'a>) -> Result<ItemKind<'a>, Stop>
     ensures reads { Reads kind_of (reader.attach_here symbols.old) result symbols.new }
     ensures flat { IfOk result IsFlat }
@@ -63,7 +63,7 @@ fn attach_here<'a>(alloc: Global, symbols: &mut Symbols<'_, 'a>) -> Result<ItemK
 }
 
 /// `macro name(parameters) { statements }`.
-#[tactic(auto, unfolding(sl_grammar::specs::Items::macro_here))]
+#[tactic(auto, unfolding(sl_parse_grammar::specs::Items::macro_here))]
 fn macro_here<'a>(alloc: Global, symbols: &mut Symbols<'_, 'a>) -> Result<ItemKind<'a>, Stop>
     ensures reads { Reads kind_of (reader.macro_here heaviest symbols.old) result symbols.new }
     ensures flat { IfOk result IsFlat }
@@ -82,7 +82,7 @@ fn macro_here<'a>(alloc: Global, symbols: &mut Symbols<'_, 'a>) -> Result<ItemKi
 }
 
 /// Any item, without its place. `total` is the number of all symbols.
-#[tactic(auto, unfolding(sl_grammar::specs::Items::item))]
+#[tactic(auto, unfolding(sl_parse_grammar::specs::Items::item))]
 fn item_kind<'a>(
     alloc: Global,
     symbols: &mut Symbols<'_, 'a>,
@@ -107,7 +107,7 @@ fn item_kind<'a>(
 }
 
 /// All items. `total` is the number of all symbols.
-#[tactic(auto, unfolding(sl_grammar::specs::Lists::many_from))]
+#[tactic(auto, unfolding(sl_parse_grammar::specs::Lists::many_from))]
 pub fn items<'a>(
     alloc: Global,
     symbols: &mut Symbols<'_, 'a>,

@@ -2,13 +2,13 @@
 
 ghost use Rattle.std.specs.Prelude.{◌≡◌, Bool, Option};
 ghost use Rattle.sl_ast.specs.Symbols.{Sym};
-ghost use Rattle.sl_grammar.specs.Lists as lists;
-ghost use Rattle.sl_grammar.specs.Reader.{Reader, first};
-ghost use Rattle.sl_phrases.specs.Reads.{Reads, seen_by};
+ghost use Rattle.sl_parse_grammar.specs.Lists as lists;
+ghost use Rattle.sl_parse_grammar.specs.Reader.{Reader, first};
+ghost use Rattle.sl_parse_phrases.specs.Reads.{Reads, seen_by};
 
 use sl_ast::symbols::Mark;
-use sl_phrases::stop::Stop;
-use sl_phrases::symbols::Symbols;
+use sl_parse_phrases::stop::Stop;
+use sl_parse_phrases::symbols::Symbols;
 use std::alloc::Global;
 
 /// A tree that stands in lists.
@@ -34,7 +34,7 @@ pub trait Repeated<'a>: Part<'a> {
 }
 
 /// One behind the other, as long as another one comes.
-#[tactic(auto, unfolding(sl_grammar::specs::Lists::many_from))]
+#[tactic(auto, unfolding(sl_parse_grammar::specs::Lists::many_from))]
 pub fn many<'a, P: Repeated<'a>>(
     alloc: Global,
     symbols: &mut Symbols<'_, 'a>,
@@ -52,7 +52,7 @@ pub fn many<'a, P: Repeated<'a>>(
 }
 
 /// One or more, with commas between.
-#[tactic(auto, unfolding(sl_grammar::specs::Lists::separated_from))]
+#[tactic(auto, unfolding(sl_parse_grammar::specs::Lists::separated_from))]
 pub fn separated<'a, P: Part<'a>>(
     alloc: Global,
     symbols: &mut Symbols<'_, 'a>,
@@ -71,7 +71,7 @@ pub fn separated<'a, P: Part<'a>>(
 }
 
 /// A list with commas between, which may be empty, before a closing bracket.
-#[tactic(auto, unfolding(sl_grammar::specs::Lists::listed))]
+#[tactic(auto, unfolding(sl_parse_grammar::specs::Lists::listed))]
 pub fn listed<'a, P: Part<'a>>(alloc: Global, symbols: &mut Symbols<'_, 'a>) -> Result<Vec<P>, Stop>
     ensures { Reads (seen_by P.view) (lists.listed P.reader symbols.old) result symbols.new }
 {

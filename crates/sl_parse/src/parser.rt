@@ -3,15 +3,15 @@
 ghost use Rattle.std.specs.Prelude.{◌≡◌, IfOk, IfErr};
 ghost use Rattle.sl_lex.specs.Views.{views};
 ghost use Rattle.sl_parse.specs.Parsing.{HasSymbols, IsFaultOf, IsTree, error_of};
-ghost use Rattle.sl_symbols.specs.Symbols.{symbols_of};
+ghost use Rattle.sl_parse_terminals.specs.Symbols.{symbols_of};
 
 use crate::items::items;
 use sl_ast::items::Spec;
 use sl_ast::symbols::Feature;
 use sl_lex::Tok;
-use sl_phrases::stop::{Form, Stop};
-use sl_phrases::symbols::Symbols;
-use sl_symbols::{Symbol, seen};
+use sl_parse_phrases::stop::{Form, Stop};
+use sl_parse_phrases::symbols::Symbols;
+use sl_parse_terminals::{Symbol, seen};
 use std::alloc::{AllocError, Global};
 
 /// Why tokens are no specification. Places are indexes of tokens.

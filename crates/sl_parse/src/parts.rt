@@ -3,19 +3,19 @@
 ghost use Rattle.std.specs.Prelude.{option_map};
 ghost use Rattle.sl_ast.specs.Views.{bytes, direct_of, exported_of, operand_of_address, operand_of_pointer, star_of, statement_of};
 ghost use Rattle.sl_ast.specs.declared.symbols.Mark.TheVariants as m;
-ghost use Rattle.sl_grammar.specs.Reader.{is_mark, optional};
-ghost use Rattle.sl_grammar.specs.Statements as reader;
-ghost use Rattle.sl_phrases.specs.Reads.{ReadsAll};
+ghost use Rattle.sl_parse_grammar.specs.Reader.{is_mark, optional};
+ghost use Rattle.sl_parse_grammar.specs.Statements as reader;
+ghost use Rattle.sl_parse_phrases.specs.Reads.{ReadsAll};
 
 use sl_ast::patterns::Address;
 use sl_ast::statements::{Direct, Exported, Pointer, Star, Stmt};
 use sl_ast::symbols::{Keyword, Mark};
-use sl_phrases::stop::Stop;
-use sl_phrases::symbols::Symbols;
-use sl_symbols::Symbol;
+use sl_parse_phrases::stop::Stop;
+use sl_parse_phrases::symbols::Symbols;
+use sl_parse_terminals::Symbol;
 
 /// A name or an integer.
-#[tactic(auto, unfolding(sl_grammar::specs::Statements::operand))]
+#[tactic(auto, unfolding(sl_parse_grammar::specs::Statements::operand))]
 pub fn operand<'a>(symbols: &mut Symbols<'_, 'a>) -> Result<Address<'a>, Stop>
     ensures { ReadsAll operand_of_address (reader.operand symbols.old) result symbols.new }
 {
@@ -43,7 +43,7 @@ fn pointer<'a>(symbols: &mut Symbols<'_, 'a>) -> Result<Pointer<'a>, Stop>
 }
 
 /// `[space]`.
-#[tactic(auto, unfolding(sl_grammar::specs::Statements::space_name))]
+#[tactic(auto, unfolding(sl_parse_grammar::specs::Statements::space_name))]
 fn space_name<'a>(symbols: &mut Symbols<'_, 'a>) -> Result<&'a [u8], Stop>
     ensures { ReadsAll bytes (reader.space_name symbols.old) result symbols.new }
 {
@@ -66,7 +66,7 @@ fn space_option<'a>(symbols: &mut Symbols<'_, 'a>) -> Result<Option<&'a [u8]>, S
 }
 
 /// `*[space]:n`.
-#[tactic(auto, unfolding(sl_grammar::specs::Statements::star_form))]
+#[tactic(auto, unfolding(sl_parse_grammar::specs::Statements::star_form))]
 pub fn star_form<'a>(symbols: &mut Symbols<'_, 'a>) -> Result<Star<'a>, Stop>
     ensures { ReadsAll star_of (reader.star_form symbols.old) result symbols.new }
 {
@@ -77,7 +77,7 @@ pub fn star_form<'a>(symbols: &mut Symbols<'_, 'a>) -> Result<Star<'a>, Stop>
 }
 
 /// `<name>`.
-#[tactic(auto, unfolding(sl_grammar::specs::Statements::label_here))]
+#[tactic(auto, unfolding(sl_parse_grammar::specs::Statements::label_here))]
 pub fn label_here<'a>(symbols: &mut Symbols<'_, 'a>) -> Result<&'a [u8], Stop>
     ensures { ReadsAll bytes (reader.label_here symbols.old) result symbols.new }
 {
@@ -88,7 +88,7 @@ pub fn label_here<'a>(symbols: &mut Symbols<'_, 'a>) -> Result<&'a [u8], Stop>
 }
 
 /// A target that is written out.
-#[tactic(auto, unfolding(sl_grammar::specs::Statements::direct_here))]
+#[tactic(auto, unfolding(sl_parse_grammar::specs::Statements::direct_here))]
 pub fn direct_here<'a>(symbols: &mut Symbols<'_, 'a>) -> Result<Direct<'a>, Stop>
     ensures { ReadsAll direct_of (reader.direct_here symbols.old) result symbols.new }
 {
@@ -105,7 +105,7 @@ pub fn direct_here<'a>(symbols: &mut Symbols<'_, 'a>) -> Result<Direct<'a>, Stop
 }
 
 /// What a section exports.
-#[tactic(auto, unfolding(sl_grammar::specs::Statements::exported))]
+#[tactic(auto, unfolding(sl_parse_grammar::specs::Statements::exported))]
 fn exported<'a>(symbols: &mut Symbols<'_, 'a>) -> Result<Exported<'a>, Stop>
     ensures { ReadsAll exported_of (reader.exported symbols.old) result symbols.new }
 {
@@ -123,7 +123,7 @@ fn exported<'a>(symbols: &mut Symbols<'_, 'a>) -> Result<Exported<'a>, Stop>
 }
 
 /// `build name;`.
-#[tactic(auto, unfolding(sl_grammar::specs::Statements::build_here))]
+#[tactic(auto, unfolding(sl_parse_grammar::specs::Statements::build_here))]
 pub fn build_here<'a>(symbols: &mut Symbols<'_, 'a>) -> Result<Stmt<'a>, Stop>
     ensures { ReadsAll statement_of (reader.build_here symbols.old) result symbols.new }
 {
@@ -134,7 +134,7 @@ pub fn build_here<'a>(symbols: &mut Symbols<'_, 'a>) -> Result<Stmt<'a>, Stop>
 }
 
 /// `export value;`.
-#[tactic(auto, unfolding(sl_grammar::specs::Statements::export_here))]
+#[tactic(auto, unfolding(sl_parse_grammar::specs::Statements::export_here))]
 pub fn export_here<'a>(symbols: &mut Symbols<'_, 'a>) -> Result<Stmt<'a>, Stop>
     ensures { ReadsAll statement_of (reader.export_here symbols.old) result symbols.new }
 {

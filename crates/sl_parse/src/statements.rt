@@ -5,9 +5,9 @@ ghost use Rattle.sl_ast.specs.Operators.{missing_statement};
 ghost use Rattle.sl_ast.specs.Validity.{heaviest};
 ghost use Rattle.sl_ast.specs.Views.{dest_of, expression_of, statement_of, target_of};
 ghost use Rattle.sl_ast.specs.declared.symbols.Mark.TheVariants as m;
-ghost use Rattle.sl_grammar.specs.Reader.{first, is_mark, optional};
-ghost use Rattle.sl_grammar.specs.Statements as reader;
-ghost use Rattle.sl_phrases.specs.Reads.{Reads, seen_by};
+ghost use Rattle.sl_parse_grammar.specs.Reader.{first, is_mark, optional};
+ghost use Rattle.sl_parse_grammar.specs.Statements as reader;
+ghost use Rattle.sl_parse_phrases.specs.Reads.{Reads, seen_by};
 
 use crate::lists::{Part, Repeated, listed, many};
 use crate::parts::{build_here, direct_here, export_here, label_here, operand, star_form};
@@ -15,16 +15,16 @@ use sl_ast::expressions::Expr;
 use sl_ast::patterns::Address;
 use sl_ast::statements::{Dest, Left, Stmt, Target};
 use sl_ast::symbols::{Keyword, Mark};
-use sl_phrases::expressions::whole;
-use sl_phrases::missing::{feature_of, statement_feature};
-use sl_phrases::operators::Kind;
-use sl_phrases::stop::Stop;
-use sl_phrases::symbols::Symbols;
-use sl_symbols::Symbol;
+use sl_parse_phrases::expressions::whole;
+use sl_parse_phrases::missing::{feature_of, statement_feature};
+use sl_parse_phrases::operators::Kind;
+use sl_parse_phrases::stop::Stop;
+use sl_parse_phrases::symbols::Symbols;
+use sl_parse_terminals::Symbol;
 use std::alloc::Global;
 
 /// `= expression`.
-#[tactic(auto, unfolding(sl_grammar::specs::Statements::value_here))]
+#[tactic(auto, unfolding(sl_parse_grammar::specs::Statements::value_here))]
 fn value_here<'a>(alloc: Global, symbols: &mut Symbols<'_, 'a>) -> Result<Expr<'a>, Stop>
     ensures { Reads expression_of (reader.value_here heaviest symbols.old) result symbols.new }
 {
@@ -46,7 +46,7 @@ fn value_option<'a>(alloc: Global, symbols: &mut Symbols<'_, 'a>) -> Result<Opti
 }
 
 /// `[expression]`.
-#[tactic(auto, unfolding(sl_grammar::specs::Statements::computed_here))]
+#[tactic(auto, unfolding(sl_parse_grammar::specs::Statements::computed_here))]
 fn computed_here<'a>(alloc: Global, symbols: &mut Symbols<'_, 'a>) -> Result<Expr<'a>, Stop>
     ensures { Reads expression_of (reader.computed_here heaviest symbols.old) result symbols.new }
 {
@@ -57,7 +57,7 @@ fn computed_here<'a>(alloc: Global, symbols: &mut Symbols<'_, 'a>) -> Result<Exp
 }
 
 /// Where a `goto` leads.
-#[tactic(auto, unfolding(sl_grammar::specs::Statements::dest))]
+#[tactic(auto, unfolding(sl_parse_grammar::specs::Statements::dest))]
 fn dest<'a>(alloc: Global, symbols: &mut Symbols<'_, 'a>) -> Result<Dest<'a>, Stop>
     ensures { Reads dest_of (reader.dest heaviest symbols.old) result symbols.new }
 {
@@ -74,7 +74,7 @@ fn dest<'a>(alloc: Global, symbols: &mut Symbols<'_, 'a>) -> Result<Dest<'a>, St
 }
 
 /// What a `call` calls.
-#[tactic(auto, unfolding(sl_grammar::specs::Statements::target))]
+#[tactic(auto, unfolding(sl_parse_grammar::specs::Statements::target))]
 fn target<'a>(alloc: Global, symbols: &mut Symbols<'_, 'a>) -> Result<Target<'a>, Stop>
     ensures { Reads target_of (reader.target heaviest symbols.old) result symbols.new }
 {
@@ -91,7 +91,7 @@ fn target<'a>(alloc: Global, symbols: &mut Symbols<'_, 'a>) -> Result<Target<'a>
 }
 
 /// `local name:n = expression;`.
-#[tactic(auto, unfolding(sl_grammar::specs::Statements::local_here))]
+#[tactic(auto, unfolding(sl_parse_grammar::specs::Statements::local_here))]
 fn local_here<'a>(alloc: Global, symbols: &mut Symbols<'_, 'a>) -> Result<Stmt<'a>, Stop>
     ensures { Reads statement_of (reader.local_here heaviest symbols.old) result symbols.new }
 {
@@ -104,7 +104,7 @@ fn local_here<'a>(alloc: Global, symbols: &mut Symbols<'_, 'a>) -> Result<Stmt<'
 }
 
 /// `goto target;`.
-#[tactic(auto, unfolding(sl_grammar::specs::Statements::goto_here))]
+#[tactic(auto, unfolding(sl_parse_grammar::specs::Statements::goto_here))]
 fn goto_here<'a>(alloc: Global, symbols: &mut Symbols<'_, 'a>) -> Result<Stmt<'a>, Stop>
     ensures { Reads statement_of (reader.goto_here heaviest symbols.old) result symbols.new }
 {
@@ -115,7 +115,7 @@ fn goto_here<'a>(alloc: Global, symbols: &mut Symbols<'_, 'a>) -> Result<Stmt<'a
 }
 
 /// `if expression goto target;`.
-#[tactic(auto, unfolding(sl_grammar::specs::Statements::branch_here))]
+#[tactic(auto, unfolding(sl_parse_grammar::specs::Statements::branch_here))]
 fn branch_here<'a>(alloc: Global, symbols: &mut Symbols<'_, 'a>) -> Result<Stmt<'a>, Stop>
     ensures { Reads statement_of (reader.branch_here heaviest symbols.old) result symbols.new }
 {
@@ -128,7 +128,7 @@ fn branch_here<'a>(alloc: Global, symbols: &mut Symbols<'_, 'a>) -> Result<Stmt<
 }
 
 /// `call target;`.
-#[tactic(auto, unfolding(sl_grammar::specs::Statements::call_here))]
+#[tactic(auto, unfolding(sl_parse_grammar::specs::Statements::call_here))]
 fn call_here<'a>(alloc: Global, symbols: &mut Symbols<'_, 'a>) -> Result<Stmt<'a>, Stop>
     ensures { Reads statement_of (reader.call_here heaviest symbols.old) result symbols.new }
 {
@@ -139,7 +139,7 @@ fn call_here<'a>(alloc: Global, symbols: &mut Symbols<'_, 'a>) -> Result<Stmt<'a
 }
 
 /// `return [expression];`.
-#[tactic(auto, unfolding(sl_grammar::specs::Statements::return_here))]
+#[tactic(auto, unfolding(sl_parse_grammar::specs::Statements::return_here))]
 fn return_here<'a>(alloc: Global, symbols: &mut Symbols<'_, 'a>) -> Result<Stmt<'a>, Stop>
     ensures { Reads statement_of (reader.return_here heaviest symbols.old) result symbols.new }
 {
@@ -150,7 +150,7 @@ fn return_here<'a>(alloc: Global, symbols: &mut Symbols<'_, 'a>) -> Result<Stmt<
 }
 
 /// `*[space]:n pointer = expression;`.
-#[tactic(auto, unfolding(sl_grammar::specs::Statements::star_here))]
+#[tactic(auto, unfolding(sl_parse_grammar::specs::Statements::star_here))]
 fn star_here<'a>(alloc: Global, symbols: &mut Symbols<'_, 'a>) -> Result<Stmt<'a>, Stop>
     ensures { Reads statement_of (reader.star_here heaviest symbols.old) result symbols.new }
 {
@@ -162,7 +162,7 @@ fn star_here<'a>(alloc: Global, symbols: &mut Symbols<'_, 'a>) -> Result<Stmt<'a
 }
 
 /// `:n = expression;` behind a name.
-#[tactic(auto, unfolding(sl_grammar::specs::Statements::declare_here))]
+#[tactic(auto, unfolding(sl_parse_grammar::specs::Statements::declare_here))]
 fn declare_here<'a>(
     alloc: Global,
     symbols: &mut Symbols<'_, 'a>,
@@ -178,7 +178,7 @@ fn declare_here<'a>(
 }
 
 /// `= expression;` behind a name.
-#[tactic(auto, unfolding(sl_grammar::specs::Statements::assign_here))]
+#[tactic(auto, unfolding(sl_parse_grammar::specs::Statements::assign_here))]
 fn assign_here<'a>(
     alloc: Global,
     symbols: &mut Symbols<'_, 'a>,
@@ -192,7 +192,7 @@ fn assign_here<'a>(
 }
 
 /// `[l,c] = expression;` behind a name.
-#[tactic(auto, unfolding(sl_grammar::specs::Statements::bits_here))]
+#[tactic(auto, unfolding(sl_parse_grammar::specs::Statements::bits_here))]
 fn bits_here<'a>(
     alloc: Global,
     symbols: &mut Symbols<'_, 'a>,
@@ -211,7 +211,7 @@ fn bits_here<'a>(
 }
 
 /// `(arguments);` behind a name.
-#[tactic(auto, unfolding(sl_grammar::specs::Statements::invoke_here))]
+#[tactic(auto, unfolding(sl_parse_grammar::specs::Statements::invoke_here))]
 fn invoke_here<'a>(
     alloc: Global,
     symbols: &mut Symbols<'_, 'a>,
@@ -255,7 +255,7 @@ fn begun<'a>(alloc: Global, symbols: &mut Symbols<'_, 'a>, name: &'a [u8]) -> Re
 }
 
 /// Any statement.
-#[tactic(auto, unfolding(sl_grammar::specs::Statements::statement))]
+#[tactic(auto, unfolding(sl_parse_grammar::specs::Statements::statement))]
 pub fn statement<'a>(alloc: Global, symbols: &mut Symbols<'_, 'a>) -> Result<Stmt<'a>, Stop>
     ensures { Reads statement_of (reader.statement heaviest symbols.old) result symbols.new }
 {
@@ -280,7 +280,7 @@ pub fn statement<'a>(alloc: Global, symbols: &mut Symbols<'_, 'a>) -> Result<Stm
 impl<'a> Part<'a> for Expr<'a> {
     ghost use Rattle.sl_ast.specs.Operators.{in_section};
     ghost use Rattle.sl_ast.specs.Trees as t;
-    ghost use Rattle.sl_grammar.specs.Expressions as e;
+    ghost use Rattle.sl_parse_grammar.specs.Expressions as e;
 
     ghost Tree = { t.Expression };
 
@@ -316,7 +316,7 @@ impl<'a> Repeated<'a> for Stmt<'a> {
 }
 
 /// Statements in braces.
-#[tactic(auto, unfolding(sl_grammar::specs::Statements::body))]
+#[tactic(auto, unfolding(sl_parse_grammar::specs::Statements::body))]
 pub fn body<'a>(alloc: Global, symbols: &mut Symbols<'_, 'a>) -> Result<Vec<Stmt<'a>>, Stop>
     ensures { Reads (seen_by statement_of) (reader.body heaviest symbols.old) result symbols.new }
 {

@@ -1,4 +1,4 @@
--- meaning: the machine in single steps, and what its runs have to do with those of the definition by recursion.
+-- law: the machine in single steps, and what its runs have to do with those of the definition by recursion.
 use Rattle.std.specs.Prelude.{◌≡◌, ◌↔◌, ℕ, ◌+◌, ◌*◌, ◌≤◌, if◌then◌else◌, nat_lt, slice_get, length, List, Option, Some, None}
 use Rattle.sl_word.specs.Memories.{Memory}
 use Rattle.sl_word.specs.declared.word.Endian.{Endian}

@@ -3,15 +3,15 @@ use Rattle.std.proofs.Common.{◌≡◌, ℕ, suc, ◌+◌, ◌-◌, List, [], �
 use Rattle.std.specs.Prelude.{slice_get}
 use Rattle.std.proofs.lemmas.List.{reverse-append}
 use Rattle.sl_outside.specs.Folder.{Folder}
-use Rattle.sl_directive.specs.Lines.{lines}
+use Rattle.sl_preproc_directives.specs.Lines.{lines}
 use Rattle.sl_preproc.specs.Readings.{Reading, pure, refused, ◌>>=◌}
 use Rattle.sl_preproc.specs.Expansion.{Work, Includer, on_line, if_included, expand_file, fetched, included}
 use Rattle.sl_preproc.specs.ByLines.{line_step, line_done, at_end, expand_lines}
 use Rattle.sl_preproc.specs.Naming.{joined_name}
 use Rattle.sl_preproc.specs.Groups.{outermost}
 use Rattle.sl_preproc.specs.declared.groups.Group.{Group}
-use Rattle.sl_directive.specs.declared.fault.Cause.{Cause}
-use Rattle.sl_directive.specs.declared.fault.Cause.TheVariants as cause
+use Rattle.sl_preproc_directives.specs.declared.fault.Cause.{Cause}
+use Rattle.sl_preproc_directives.specs.declared.fault.Cause.TheVariants as cause
 
 -- ---- the outermost group
 

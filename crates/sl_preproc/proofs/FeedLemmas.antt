@@ -2,16 +2,16 @@
 use Rattle.std.proofs.Common.{◌≡◌, ℕ, zero, suc, Bool, true, false, List, [], ◌∷◌, take, drop, Option, Some, None, refl, subst}
 use Rattle.std.specs.Prelude.{◌==◌, IfSome, option_map, if◌then◌else◌}
 use Rattle.std.specs.List.{AllByRecursion, prefix_len}
-use Rattle.sl_directive.specs.Bytes.{is_blank, is_name_byte, is_inside, is_value_byte}
-use Rattle.sl_directive.specs.Parts.{◌>>=◌, begins_with_letter, name_at, byte_at, closed_by, quoted_at, skip_blanks, run, behind, is_ended}
-use Rattle.sl_directive.specs.Lines.{lines, on_first_line}
-use Rattle.sl_directive.specs.Definitions.{Values, with_value, without}
-use Rattle.sl_directive.specs.Directives.{Directive, Includes, Defines, Undefines, include_at, quoted_or_bare, value_part, define_at, lone_name_at, directive_at, keyword_or_none, keyword_at}
-use Rattle.sl_directive.specs.Replacement.{Piece, Byte, Name, reference_at, name_or_byte, pieces}
-use Rattle.sl_directive.specs.declared.directive.Keyword.{Keyword}
-use Rattle.sl_directive.specs.declared.directive.Keyword.TheVariants.{Include, Define, Undef, If, Ifdef, Ifndef, Elif, Else, Endif, Unknown}
+use Rattle.sl_preproc_directives.specs.Bytes.{is_blank, is_name_byte, is_inside, is_value_byte}
+use Rattle.sl_preproc_directives.specs.Parts.{◌>>=◌, begins_with_letter, name_at, byte_at, closed_by, quoted_at, skip_blanks, run, behind, is_ended}
+use Rattle.sl_preproc_directives.specs.Lines.{lines, on_first_line}
+use Rattle.sl_preproc_directives.specs.Definitions.{Values, with_value, without}
+use Rattle.sl_preproc_directives.specs.Directives.{Directive, Includes, Defines, Undefines, include_at, quoted_or_bare, value_part, define_at, lone_name_at, directive_at, keyword_or_none, keyword_at}
+use Rattle.sl_preproc_directives.specs.Replacement.{Piece, Byte, Name, reference_at, name_or_byte, pieces}
+use Rattle.sl_preproc_directives.specs.declared.directive.Keyword.{Keyword}
+use Rattle.sl_preproc_directives.specs.declared.directive.Keyword.TheVariants.{Include, Define, Undef, If, Ifdef, Ifndef, Elif, Else, Endif, Unknown}
 use Rattle.std.specs.Str.{bytes_eq}
-use Rattle.sl_preproc.specs.Sound.{NoFeed, AreOnLines}
+use Rattle.sl_preproc.specs.Whole.{NoFeed, AreOnLines}
 
 take_free : (n : ℕ) (s : List ℕ) → NoFeed s → NoFeed (take n s)
 take_free zero s h = tt

@@ -3,13 +3,14 @@ use Rattle.std.proofs.Common.{◌≡◌, ℕ, List, [], ◌∷◌, ◌++◌, Opt
 use Rattle.std.proofs.Common.{inl, inr}
 use Rattle.sl_outside.specs.Folder.{Folder}
 use Rattle.sl_outside.specs.Uses.{Names, UsesFiles}
-use Rattle.sl_directive.specs.Outcomes.{◌>>◌}
+use Rattle.sl_preproc_directives.specs.Outcomes.{◌>>◌}
 use Rattle.sl_preproc.specs.Readings.{Refusal, Reading, asked_before, going_on}
 use Rattle.sl_preproc.specs.Expansion.{Work, expand_file, checked, fetched, included, nothing_yet, expansion}
 use Rattle.sl_preproc.specs.Expanded.{Text, text_of, expanded, asked_by}
 use Rattle.sl_preproc.specs.Asks.{AsksFor}
 use Rattle.sl_preproc.specs.Reads.{Reads}
-use Rattle.sl_preproc.specs.Refusals.{RefusesAs, WhereTold}
+use Rattle.sl_preproc.specs.Refusals.{RefusesAs}
+use Rattle.sl_preproc.specs.Folders.{WhereTold}
 use Rattle.sl_preproc.specs.Stops.{StopsEarly, IsReadFault}
 use Rattle.sl_preproc.specs.declared.error.PreError.{PreError}
 use Rattle.sl_preproc.specs.declared.error.PreError.TheVariants.{NoFile, TooLong, IncludeDepth, UndefinedName, ReplaceDepth, BadDirective, Unbalanced, ReadFault, NoMemory}

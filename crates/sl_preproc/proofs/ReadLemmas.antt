@@ -4,10 +4,11 @@ use Rattle.std.proofs.Common.{◌⊎◌, inl, inr}
 use Rattle.std.specs.Global.{Vec}
 use Rattle.sl_outside.specs.Folder.{Folder}
 use Rattle.sl_outside.specs.Uses.{Names, UsesFiles}
-use Rattle.sl_directive.specs.declared.fault.Cause.{Cause}
+use Rattle.sl_preproc_directives.specs.declared.fault.Cause.{Cause}
 use Rattle.sl_preproc.specs.Expansion.{checked, fetched}
 use Rattle.sl_preproc.specs.Readings.{Refusal, refusal, Reading, pure, refused, asked_before, going_on, ◌>>=◌}
-use Rattle.sl_preproc.specs.Refusals.{RefusesAs, Answers, WhereTold}
+use Rattle.sl_preproc.specs.Refusals.{RefusesAs, Answers}
+use Rattle.sl_preproc.specs.Folders.{WhereTold}
 use Rattle.sl_preproc.specs.Reads.{Reads, Reached}
 use Rattle.sl_preproc.specs.Stops.{StopsEarly, IsReadFault, IsEarly, Fails}
 use Rattle.sl_preproc.specs.declared.error.PreError.{PreError}

@@ -7,23 +7,24 @@ use Rattle.std.specs.Str.{bytes_eq}
 use Rattle.std.proofs.lemmas.Bool.Decides.{nat_tests}
 use Rattle.std.proofs.lemmas.List.Sums.{prefix_len-le-length, sum_by-append, sum_by-cons}
 use Rattle.sl_outside.specs.Folder.{size_limit}
-use Rattle.sl_directive.specs.Outcomes.{◌>>◌}
-use Rattle.sl_directive.specs.Lines.{lines, on_first_line}
-use Rattle.sl_directive.specs.Definitions.{Values, with_value, without}
-use Rattle.sl_directive.specs.Directives.{Directive, Includes, Defines, Undefines, directive_line, keyword_at, directive_at}
+use Rattle.sl_preproc_directives.specs.Outcomes.{◌>>◌}
+use Rattle.sl_preproc_directives.specs.Lines.{lines, on_first_line}
+use Rattle.sl_preproc_directives.specs.Definitions.{Values, with_value, without}
+use Rattle.sl_preproc_directives.specs.Directives.{Directive, Includes, Defines, Undefines, directive_line, keyword_at, directive_at}
 use Rattle.sl_preproc.specs.Groups.{is_live, is_conditional, turned_by}
-use Rattle.sl_directive.specs.Replacement.{Page, Written, Piece, Byte, Name, with_byte, put, put_all, stays_in, stays, all_pieces, write_pieces, write_name, value_or_stays, write_text}
+use Rattle.sl_preproc_directives.specs.Replacement.{Page, Written, Piece, Byte, Name, with_byte, put, put_all, stays_in, stays, all_pieces, write_pieces, write_name, value_or_stays, write_text}
 use Rattle.sl_preproc.specs.Expansion.{Work, line_begun, entered, placed, text_line, with_defs, done_by, on_line, nothing_yet}
 use Rattle.sl_preproc.specs.ByLines.{Step, alone, directive_step, text_or_directive, line_step}
 use Rattle.sl_preproc.specs.Expanded.{text_of}
-use Rattle.sl_preproc.specs.Sound.{IsSound, IsWhole, NoFeed, feeds, IsEnded, AreOnLines}
+use Rattle.sl_preproc.specs.Sound.{IsSound}
+use Rattle.sl_preproc.specs.Whole.{IsWhole, NoFeed, feeds, IsEnded, AreOnLines}
 use Rattle.sl_preproc.proofs.FeedLemmas.{IsOnLine, pieces_free, DefinesOnLine, directive_free, keyword_free, behind_free, defined_free, undefined_free}
-use Rattle.sl_directive.specs.declared.directive.Keyword.{Keyword}
-use Rattle.sl_directive.specs.declared.fault.Cause.{Cause}
-use Rattle.sl_directive.specs.declared.fault.Cause.TheVariants.{TooLong}
+use Rattle.sl_preproc_directives.specs.declared.directive.Keyword.{Keyword}
+use Rattle.sl_preproc_directives.specs.declared.fault.Cause.{Cause}
+use Rattle.sl_preproc_directives.specs.declared.fault.Cause.TheVariants.{TooLong}
 use Rattle.sl_preproc.specs.declared.groups.Group.{Group}
-use Rattle.sl_directive.specs.declared.page.LinePart.{LinePart}
-use Rattle.sl_directive.specs.declared.page.LinePart.TheVariants.{Plain, Quoted, Comment}
+use Rattle.sl_preproc_directives.specs.declared.page.LinePart.{LinePart}
+use Rattle.sl_preproc_directives.specs.declared.page.LinePart.TheVariants.{Plain, Quoted, Comment}
 use Rattle.sl_preproc.specs.declared.places.Place.{Place}
 
 pub after_ok : {A B E : Type 0} (r : Result A E) (f : A → Result B E) (P : A → Type 0) (Q : B → Type 0) → IfOk r P → ((x : A) → P x → IfOk (f x) Q) → IfOk (r >> f) Q

@@ -6,12 +6,12 @@ use Rattle.std.specs.List.{position_or_len}
 use Rattle.std.specs.Str.{bytes_eq}
 use Rattle.std.proofs.lemmas.List.Elements.{Contains-append_left, Contains-push, Contains-push_cases}
 use Rattle.sl_outside.specs.Folder.{Folder}
-use Rattle.sl_directive.specs.Outcomes.{◌>>◌}
-use Rattle.sl_directive.specs.Lines.{lines}
-use Rattle.sl_directive.specs.Directives.{Directive, Includes, Defines, Undefines, directive_at}
-use Rattle.sl_directive.specs.Parts.{is_ended}
-use Rattle.sl_directive.specs.Replacement.{put, write_text}
-use Rattle.sl_directive.specs.declared.fault.Cause.{Cause}
+use Rattle.sl_preproc_directives.specs.Outcomes.{◌>>◌}
+use Rattle.sl_preproc_directives.specs.Lines.{lines}
+use Rattle.sl_preproc_directives.specs.Directives.{Directive, Includes, Defines, Undefines, directive_at}
+use Rattle.sl_preproc_directives.specs.Parts.{is_ended}
+use Rattle.sl_preproc_directives.specs.Replacement.{put, write_text}
+use Rattle.sl_preproc_directives.specs.declared.fault.Cause.{Cause}
 use Rattle.sl_preproc.specs.Trees.{Line, numbered, words, Tree, End, Text, Alone, Marked, Branches, Branch, Closed, Unclosed, tree_of, first_open}
 use Rattle.sl_preproc.specs.Trees as tree
 use Rattle.sl_preproc.specs.Naming.{joined_name}

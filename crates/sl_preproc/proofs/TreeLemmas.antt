@@ -1,8 +1,8 @@
 -- The tree of a file's lines: its lines, and its expansion against the one line by line.
 use Rattle.std.proofs.Common.{◌≡◌, ℕ, Bool, true, false, List, [], ◌∷◌, ◌++◌, Option, Some, None, refl, ap, ◌∙◌, append_assoc}
-use Rattle.sl_directive.specs.Directives.{directive_line}
-use Rattle.sl_directive.specs.declared.directive.Keyword.{Keyword}
-use Rattle.sl_directive.specs.declared.directive.Keyword.TheVariants.{Include, Define, Undef, If, Ifdef, Ifndef, Elif, Else, Endif, Unknown}
+use Rattle.sl_preproc_directives.specs.Directives.{directive_line}
+use Rattle.sl_preproc_directives.specs.declared.directive.Keyword.{Keyword}
+use Rattle.sl_preproc_directives.specs.declared.directive.Keyword.TheVariants.{Include, Define, Undef, If, Ifdef, Ifndef, Elif, Else, Endif, Unknown}
 use Rattle.sl_preproc.specs.Trees.{Line, numbered, words, Tree, End, Text, Alone, Marked, Branches, Branch, Closed, Unclosed, flattened, branch_lines, Cut, led, begun, cut_at, cut_of, group_of, planted_by, planted, tree_of, is_closed, opening_line, first_open}
 use Rattle.sl_preproc.specs.Trees as tree
 

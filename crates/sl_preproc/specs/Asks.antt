@@ -2,7 +2,7 @@
 use Rattle.std.specs.Prelude.{◌≡◌, ℕ, List, ◌∷◌, Option}
 use Rattle.sl_outside.specs.Folder.{Folder}
 use Rattle.sl_preproc.specs.Expanded.{asked_by}
-use Rattle.sl_preproc.specs.Refusals.{WhereTold}
+use Rattle.sl_preproc.specs.Folders.{WhereTold}
 
 -- The names that an expansion asks for: the main file's is the first, and where the folder is
 -- told, they are those of the definition.

@@ -1,11 +1,11 @@
 -- step: the expansion of a file as the program does it: line by line, with a stack of the groups
 -- that are open. The expansion by the tree of the lines is the same.
 use Rattle.std.specs.Prelude.{ℕ, ◌+◌, List, [], ◌∷◌, Option, Some, None, Result, Ok, if◌then◌else◌}
-use Rattle.sl_directive.specs.Outcomes.{◌>>◌}
-use Rattle.sl_directive.specs.Directives.{directive_line, keyword_at, directive_at}
-use Rattle.sl_directive.specs.declared.directive.Keyword.{Keyword}
-use Rattle.sl_directive.specs.declared.fault.Cause.{Cause}
-use Rattle.sl_directive.specs.declared.fault.Cause.TheVariants.{Unbalanced}
+use Rattle.sl_preproc_directives.specs.Outcomes.{◌>>◌}
+use Rattle.sl_preproc_directives.specs.Directives.{directive_line, keyword_at, directive_at}
+use Rattle.sl_preproc_directives.specs.declared.directive.Keyword.{Keyword}
+use Rattle.sl_preproc_directives.specs.declared.fault.Cause.{Cause}
+use Rattle.sl_preproc_directives.specs.declared.fault.Cause.TheVariants.{Unbalanced}
 use Rattle.sl_preproc.specs.Groups.{is_live, is_conditional, turned_by, outermost}
 use Rattle.sl_preproc.specs.Readings.{Reading, pure, refused, ◌>>=◌}
 use Rattle.sl_preproc.specs.Expansion.{Work, text_line, done_by, Includer, on_line, if_included}

@@ -2,7 +2,7 @@
 use Rattle.std.specs.Prelude.{ℕ, ◌==◌, ◌-◌, List, length, take, count_by, min, slice_get}
 use Rattle.std.specs.Prelude.{Option, Some, None, Result, Ok}
 use Rattle.sl_outside.specs.Folder.{Folder}
-use Rattle.sl_directive.specs.Outcomes.{◌>>◌}
+use Rattle.sl_preproc_directives.specs.Outcomes.{◌>>◌}
 use Rattle.sl_preproc.specs.Expansion.{Work, Refusal, expansion}
 use Rattle.sl_preproc.specs.Works.{names_of}
 use Rattle.sl_preproc.specs.declared.text.Expanded.{Expanded}

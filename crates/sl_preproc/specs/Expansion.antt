@@ -6,23 +6,23 @@ use Rattle.std.specs.Prelude.{List, [], ◌∷◌, ◌++◌, length, Option, Som
 use Rattle.std.specs.List.{position_or_len}
 use Rattle.std.specs.Str.{bytes_eq}
 use Rattle.sl_outside.specs.Folder.{Folder, size_limit}
-use Rattle.sl_directive.specs.Lines.{lines}
-use Rattle.sl_directive.specs.Definitions.{Values, no_definitions, with_value, without}
-use Rattle.sl_directive.specs.Outcomes.{◌>>◌}
-use Rattle.sl_directive.specs.Directives.{Directive, Includes, Defines, Undefines, directive_at}
-use Rattle.sl_directive.specs.Directives.{condition_of, judged}
-use Rattle.sl_directive.specs.Replacement.{Page, put, write_text}
-use Rattle.sl_directive.specs.Parts.{is_ended}
+use Rattle.sl_preproc_directives.specs.Lines.{lines}
+use Rattle.sl_preproc_directives.specs.Definitions.{Values, no_definitions, with_value, without}
+use Rattle.sl_preproc_directives.specs.Outcomes.{◌>>◌}
+use Rattle.sl_preproc_directives.specs.Directives.{Directive, Includes, Defines, Undefines, directive_at}
+use Rattle.sl_preproc_directives.specs.Directives.{condition_of, judged}
+use Rattle.sl_preproc_directives.specs.Replacement.{Page, put, write_text}
+use Rattle.sl_preproc_directives.specs.Parts.{is_ended}
 use Rattle.sl_preproc.specs.Trees.{Line, words, numbered, Tree, End, Text, Alone, Marked, Group}
 use Rattle.sl_preproc.specs.Trees.{Branches, Branch, Closed, Unclosed, tree_of, first_open}
 use Rattle.sl_preproc.specs.Naming.{joined_name}
 use Rattle.sl_preproc.specs.Readings.{Refusal, refusal, Reading, pure, refused, ◌>>=◌}
-use Rattle.sl_directive.specs.declared.directive.Keyword.{Keyword}
-use Rattle.sl_directive.specs.declared.fault.Cause.{Cause}
-use Rattle.sl_directive.specs.declared.fault.Cause.TheVariants.{NoFile, TooLong, IncludeDepth}
-use Rattle.sl_directive.specs.declared.fault.Cause.TheVariants.{BadDirective, Unbalanced}
-use Rattle.sl_directive.specs.declared.directive.Keyword.TheVariants.{Else}
-use Rattle.sl_directive.specs.declared.page.LinePart.TheVariants.{Plain}
+use Rattle.sl_preproc_directives.specs.declared.directive.Keyword.{Keyword}
+use Rattle.sl_preproc_directives.specs.declared.fault.Cause.{Cause}
+use Rattle.sl_preproc_directives.specs.declared.fault.Cause.TheVariants.{NoFile, TooLong, IncludeDepth}
+use Rattle.sl_preproc_directives.specs.declared.fault.Cause.TheVariants.{BadDirective, Unbalanced}
+use Rattle.sl_preproc_directives.specs.declared.directive.Keyword.TheVariants.{Else}
+use Rattle.sl_preproc_directives.specs.declared.page.LinePart.TheVariants.{Plain}
 use Rattle.sl_preproc.specs.declared.places.Place.{Place}
 
 -- The definitions in force, the text, the names of the files that give its lines (the main file's

@@ -1,13 +1,13 @@
 -- step: conditional groups: what the lines of a file leave open, the innermost group first.
 use Rattle.std.specs.Prelude.{ℕ, Bool, true, false, List, [], ◌∷◌, Result, Ok, Err, if◌then◌else◌}
-use Rattle.sl_directive.specs.Parts.{is_ended}
-use Rattle.sl_directive.specs.Definitions.{Values}
-use Rattle.sl_directive.specs.Outcomes.{◌>>◌}
-use Rattle.sl_directive.specs.Directives.{condition_of, judged}
-use Rattle.sl_directive.specs.declared.directive.Keyword.{Keyword}
-use Rattle.sl_directive.specs.declared.directive.Keyword.TheVariants.{Include, Define, Undef, Elif, Else, Endif, Unknown}
-use Rattle.sl_directive.specs.declared.fault.Cause.{Cause}
-use Rattle.sl_directive.specs.declared.fault.Cause.TheVariants.{BadDirective, Unbalanced}
+use Rattle.sl_preproc_directives.specs.Parts.{is_ended}
+use Rattle.sl_preproc_directives.specs.Definitions.{Values}
+use Rattle.sl_preproc_directives.specs.Outcomes.{◌>>◌}
+use Rattle.sl_preproc_directives.specs.Directives.{condition_of, judged}
+use Rattle.sl_preproc_directives.specs.declared.directive.Keyword.{Keyword}
+use Rattle.sl_preproc_directives.specs.declared.directive.Keyword.TheVariants.{Include, Define, Undef, Elif, Else, Endif, Unknown}
+use Rattle.sl_preproc_directives.specs.declared.fault.Cause.{Cause}
+use Rattle.sl_preproc_directives.specs.declared.fault.Cause.TheVariants.{BadDirective, Unbalanced}
 use Rattle.sl_preproc.specs.declared.groups.Branch.{Branch}
 use Rattle.sl_preproc.specs.declared.groups.Branch.TheVariants.{Dead, Waiting, Taken, Passed}
 use Rattle.sl_preproc.specs.declared.groups.Group.{Group}

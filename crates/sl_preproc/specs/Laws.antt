@@ -1,4 +1,4 @@
--- meaning: laws of the definitions.
+-- law: laws of the definitions.
 use Rattle.std.specs.Prelude.{◌≡◌, ℕ, List, ◌∷◌, Contains, Ok}
 use Rattle.sl_outside.specs.Folder.{Folder}
 use Rattle.sl_preproc.specs.Trees.{Line, flattened, tree_of}

@@ -7,9 +7,11 @@ pub mod Expansion
 pub mod ByLines
 pub mod Works
 pub mod Refusals
+pub mod Folders
 pub mod Stops
 pub mod Expanded
 pub mod Asks
 pub mod Reads
 pub mod Sound
+pub mod Whole
 pub mod Laws

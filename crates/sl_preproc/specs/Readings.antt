@@ -1,6 +1,6 @@
 -- meaning: what reading files comes to: the names that were asked for, and a result or a refusal.
 use Rattle.std.specs.Prelude.{ℕ, List, [], ◌++◌, Result, Ok, Err}
-use Rattle.sl_directive.specs.declared.fault.Cause.{Cause}
+use Rattle.sl_preproc_directives.specs.declared.fault.Cause.{Cause}
 
 -- why there is no expansion, with the name of the file and the line there
 pub record Refusal : Type 0 where

@@ -3,7 +3,8 @@ use Rattle.std.specs.Prelude.{◌≡◌, ℕ, List, Option, Result}
 use Rattle.sl_outside.specs.Folder.{Folder}
 use Rattle.sl_outside.specs.Uses.{Names, UsesFiles}
 use Rattle.sl_preproc.specs.Readings.{Reading, asked_before}
-use Rattle.sl_preproc.specs.Refusals.{Answers, WhereTold}
+use Rattle.sl_preproc.specs.Refusals.{Answers}
+use Rattle.sl_preproc.specs.Folders.{WhereTold}
 use Rattle.sl_preproc.specs.Stops.{IsEarly, Fails}
 use Rattle.sl_preproc.specs.declared.error.PreError.{PreError}
 

@@ -1,12 +1,11 @@
--- meaning: refusals as the program gives them.
-use Rattle.std.specs.Prelude.{◌≡◌, ℕ, Option, Some, Result, Ok, Err}
+-- view: refusals as the program gives them.
+use Rattle.std.specs.Prelude.{◌≡◌, ℕ, Result, Ok, Err}
 use Rattle.std.specs.Global.{Global}
 use Rattle.std.specs.String.{string_bytes}
 use Rattle.std.specs.declared.string.String.{String}
-use Rattle.sl_outside.specs.Folder.{Folder}
 use Rattle.sl_preproc.specs.Expansion.{Refusal}
-use Rattle.sl_directive.specs.declared.fault.Cause.{Cause}
-use Rattle.sl_directive.specs.declared.fault.Cause.TheVariants as cause
+use Rattle.sl_preproc_directives.specs.declared.fault.Cause.{Cause}
+use Rattle.sl_preproc_directives.specs.declared.fault.Cause.TheVariants as cause
 use Rattle.sl_preproc.specs.declared.error.PreError.{PreError}
 use Rattle.sl_preproc.specs.declared.error.PreError.TheVariants.{NoFile, TooLong, IncludeDepth, UndefinedName, ReplaceDepth, BadDirective, Unbalanced, ReadFault, NoMemory}
 
@@ -29,7 +28,3 @@ RefusesAs NoMemory defined = Unit {0}
 abbrev pub Answers : {X Y : Type 0} → (X → Y) → Result X PreError → Result Y Refusal → Type 0
 Answers view (Ok x) defined = defined ≡ Ok (view x)
 Answers view (Err e) defined = RefusesAs e defined
-
--- the fact holds of the folder, where it is told
-abbrev pub WhereTold : Option Folder → (Folder → Type 0) → Type 0
-WhereTold told P = (folder : Folder) → told ≡ Some folder → P folder

@@ -1,4 +1,4 @@
--- view: the open groups as the program keeps them.
+-- step: the open groups as the program keeps them.
 use Rattle.std.specs.Prelude.{◌≡◌, List, ◌∷◌, reverse}
 use Rattle.std.specs.Global.{Vec}
 use Rattle.sl_preproc.specs.declared.groups.Group.{Group}

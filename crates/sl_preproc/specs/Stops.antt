@@ -1,4 +1,4 @@
--- meaning: expansions that stop early.
+-- view: expansions that stop early.
 use Rattle.std.specs.Prelude.{Result, Ok, Err, ⊤}
 use Rattle.sl_preproc.specs.declared.error.PreError.{PreError}
 use Rattle.sl_preproc.specs.declared.error.PreError.TheVariants.{NoFile, TooLong, IncludeDepth}

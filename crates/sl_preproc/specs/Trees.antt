@@ -1,8 +1,8 @@
 -- meaning: the lines of a file as a tree: conditional groups with their branches.
 use Rattle.std.specs.Prelude.{ℕ, ◌+◌, Bool, true, false, List, [], ◌∷◌, ◌++◌, drop, Option, Some, None, if◌then◌else◌}
-use Rattle.sl_directive.specs.Directives.{directive_line, keyword_at}
-use Rattle.sl_directive.specs.declared.directive.Keyword.{Keyword}
-use Rattle.sl_directive.specs.declared.directive.Keyword.TheVariants.{If, Ifdef, Ifndef, Elif, Else, Endif}
+use Rattle.sl_preproc_directives.specs.Directives.{directive_line, keyword_at}
+use Rattle.sl_preproc_directives.specs.declared.directive.Keyword.{Keyword}
+use Rattle.sl_preproc_directives.specs.declared.directive.Keyword.TheVariants.{If, Ifdef, Ifndef, Elif, Else, Endif}
 
 pub record Line : Type 0 where
   pub number : ℕ

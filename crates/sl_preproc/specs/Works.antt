@@ -5,12 +5,12 @@ use Rattle.std.specs.List.{position_or_len}
 use Rattle.std.specs.String.{string_bytes}
 use Rattle.std.specs.Str.{bytes_eq}
 use Rattle.std.specs.declared.string.String.{String}
-use Rattle.sl_directive.specs.Held.{values_of}
-use Rattle.sl_directive.specs.Pages.{page_of}
+use Rattle.sl_preproc_directives.specs.Held.{values_of}
+use Rattle.sl_preproc_directives.specs.Pages.{page_of}
 use Rattle.sl_preproc.specs.Expansion as spec
 use Rattle.sl_preproc.specs.Expansion.{entered}
-use Rattle.sl_directive.specs.declared.fault.Fault.{Fault}
-use Rattle.sl_directive.specs.declared.fault.Fault.TheVariants.{NoMemory}
+use Rattle.sl_preproc_directives.specs.declared.fault.Fault.{Fault}
+use Rattle.sl_preproc_directives.specs.declared.fault.Fault.TheVariants.{NoMemory}
 use Rattle.sl_preproc.specs.declared.work.Work.{Work}
 
 abbrev pub names_of : List (String Global) → List (List ℕ)

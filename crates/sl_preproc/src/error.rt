@@ -6,7 +6,7 @@ ghost use Rattle.sl_preproc.specs.Refusals.{RefusesAs};
 ghost use Rattle.sl_preproc.specs.Stops.{IsReadFault};
 ghost use Rattle.sl_preproc.specs.declared.error.PreError.TheVariants.{NoMemory};
 
-use sl_directive::fault::Cause;
+use sl_preproc_directives::fault::Cause;
 use std::alloc::{AllocError, Global};
 
 /// Why there is no expansion, with the name of the file as it was fetched and the line there,

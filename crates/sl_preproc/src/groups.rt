@@ -1,15 +1,15 @@
 //! Conditional groups.
 
 ghost use Rattle.std.specs.Prelude.{◌≡◌, [], ◌∷◌, reverse, OnOk, MatchOption, Ok};
-ghost use Rattle.sl_directive.specs.Held.{values_of};
-ghost use Rattle.sl_directive.specs.Outcomes.{Gives};
+ghost use Rattle.sl_preproc_directives.specs.Held.{values_of};
+ghost use Rattle.sl_preproc_directives.specs.Given.{Gives};
 ghost use Rattle.sl_preproc.specs.Groups.{is_taken, is_live, is_dead, chosen_if, new_group, with_branch, opened, elif_branch, at_elif, is_well_ended, else_branch, at_else, at_endif, turned_by, is_conditional, outermost};
 ghost use Rattle.sl_preproc.specs.Stacks.{stack_of, IsFirst};
 
-use sl_directive::definitions::Definitions;
-use sl_directive::directive::{Keyword, judge};
-use sl_directive::fault::{Cause, Fault};
-use sl_directive::parts::is_ended;
+use sl_preproc_directives::definitions::Definitions;
+use sl_preproc_directives::directive::{Keyword, judge};
+use sl_preproc_directives::fault::{Cause, Fault};
+use sl_preproc_directives::parts::is_ended;
 use std::alloc::Global;
 
 /// How a branch of a group stands to the branch that the group chooses.

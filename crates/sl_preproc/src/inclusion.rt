@@ -10,8 +10,10 @@ ghost use Rattle.sl_preproc.specs.Expanded.{expanded, seen, text_of};
 ghost use Rattle.sl_preproc.specs.Expansion as spec;
 ghost use Rattle.sl_preproc.specs.Expansion.{on_line, expand_file, checked, included, nothing_yet};
 ghost use Rattle.sl_preproc.specs.Reads.{Reads};
-ghost use Rattle.sl_preproc.specs.Refusals.{Answers, WhereTold};
-ghost use Rattle.sl_preproc.specs.Sound.{IsSound, IsWhole, NoFeed};
+ghost use Rattle.sl_preproc.specs.Refusals.{Answers};
+ghost use Rattle.sl_preproc.specs.Folders.{WhereTold};
+ghost use Rattle.sl_preproc.specs.Sound.{IsSound};
+ghost use Rattle.sl_preproc.specs.Whole.{IsWhole, NoFeed};
 ghost use Rattle.sl_preproc.specs.Stacks.{stack_of};
 ghost use Rattle.sl_preproc.specs.Stops.{Fails, IsEarly};
 ghost use Rattle.sl_preproc.specs.Works.{work_of};
@@ -22,11 +24,11 @@ use crate::naming::join;
 use crate::text::Expanded;
 use crate::work::{Work, read_line};
 use indexmap::IndexSet;
-use sl_directive::fault::{Cause, Fault};
-use sl_directive::first_line;
-use sl_directive::page::{LinePart, Page};
-use sl_directive::replacer::Replacer;
 use sl_outside::{FetchError, Files};
+use sl_preproc_directives::fault::{Cause, Fault};
+use sl_preproc_directives::first_line;
+use sl_preproc_directives::page::{LinePart, Page};
+use sl_preproc_directives::replacer::Replacer;
 use std::alloc::{AllocError, Global};
 
 /// How deep files may include one another, the main file left out.

@@ -1,20 +1,22 @@
 //! The work of an expansion, and what a line does to it.
 
 ghost use Rattle.std.specs.Prelude.{◌≡◌, option_map};
-ghost use Rattle.sl_directive.specs.Outcomes.{Gives};
+ghost use Rattle.sl_preproc_directives.specs.Given.{Gives};
 ghost use Rattle.sl_preproc.specs.Expansion.{text_line, done_by};
 ghost use Rattle.sl_preproc.specs.ByLines.{directive_step, line_step};
 ghost use Rattle.sl_preproc.specs.Stacks.{stack_of};
-ghost use Rattle.sl_directive.specs.Viewed.{directive};
+ghost use Rattle.sl_preproc_directives.specs.Viewed.{directive};
 ghost use Rattle.sl_preproc.specs.Works.{work_of, names_of, EntersAt};
 
 use crate::groups::{Groups, is_conditional, is_live, turn};
 use crate::places::Place;
 use indexmap::IndexSet;
-use sl_directive::directive::{Directive, Keyword, directive_at, directive_line, keyword_at};
-use sl_directive::fault::{Cause, Fault};
-use sl_directive::page::{LinePart, Page, put};
-use sl_directive::replacer::Replacer;
+use sl_preproc_directives::directive::{
+    Directive, Keyword, directive_at, directive_line, keyword_at,
+};
+use sl_preproc_directives::fault::{Cause, Fault};
+use sl_preproc_directives::page::{LinePart, Page, put};
+use sl_preproc_directives::replacer::Replacer;
 use std::alloc::Global;
 
 /// How deep replacements may stand within one another.

@@ -4,8 +4,8 @@ use Rattle.std.proofs.lemmas.List.{drop_more}
 use Rattle.std.proofs.Math.ListN.{drop_of_length-le}
 use Rattle.sl_ast.specs.Views.{statement_of, statements_of}
 use Rattle.sl_ast.specs.declared.statements.Stmt.{Stmt}
-use Rattle.sl_rules.specs.Gathered.{gathered}
-use Rattle.sl_rules.specs.Names.{Name, are_distinct, differ_behind, is_among}
+use Rattle.sl_spec_rules.specs.Gathered.{gathered}
+use Rattle.sl_spec_rules.specs.Names.{Name, are_distinct, differ_behind, is_among}
 use Rattle.sl_section_forms.specs.Labels.{AddsLabel, label_of, labels}
 
 and-assoc : (a b c : Bool) → (a && (b && c)) ≡ ((a && b) && c)

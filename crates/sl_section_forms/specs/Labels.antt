@@ -4,8 +4,8 @@ use Rattle.std.specs.List.{list_all}
 use Rattle.sl_ast.specs.Trees.{Direct, to_label, to_operand, Dest, direct, computed}
 use Rattle.sl_ast.specs.Trees.{Statement, goto, branch}
 use Rattle.sl_ast.specs.Trees.{label}
-use Rattle.sl_rules.specs.Gathered.{gathered}
-use Rattle.sl_rules.specs.Names.{Name, are_distinct, differ_behind, is_among}
+use Rattle.sl_spec_rules.specs.Gathered.{gathered}
+use Rattle.sl_spec_rules.specs.Names.{Name, are_distinct, differ_behind, is_among}
 
 -- the label that a statement is
 abbrev pub label_of : Statement → List Name

@@ -8,7 +8,7 @@ ghost use Rattle.sl_section_forms.specs.Labels.{AddsLabel, AreLabels, dest_leads
 ghost use Rattle.sl_section_forms.specs.Labels.{labels, leads, statement_leads};
 
 use sl_ast::statements::{Dest, Direct, Stmt};
-use sl_rules::NameSet;
+use sl_spec_rules::NameSet;
 use std::alloc::{AllocError, Global};
 
 /// Adds the label that a statement is. Whether it is new.
@@ -94,7 +94,7 @@ fn each_leads(names: &NameSet, body: &[Stmt]) -> bool
     body.iter().all(|x| statement_leads(names, x))
 }
 
-#[tactic(auto, using(sl_rules::proofs::Seen::seen))]
+#[tactic(auto, using(sl_spec_rules::proofs::Seen::seen))]
 fn all_lead(names: &NameSet, body: &[Stmt]) -> bool
     ensures { result ≡ list_all (statement_leads names.now) (statements_of body.now) }
 {

@@ -27,7 +27,7 @@ fn none_exports(body: &[Stmt]) -> bool
 }
 
 /// No statement is an `export`: rule 30, of `instruction`.
-#[tactic(auto, using(sl_rules::proofs::Seen::seen))]
+#[tactic(auto, using(sl_spec_rules::proofs::Seen::seen))]
 pub fn exports_nothing(body: &[Stmt]) -> bool
     ensures { result ≡ exports_nothing (statements_of body.now) }
 {
@@ -50,7 +50,7 @@ fn none_builds_or_exports(body: &[Stmt]) -> bool
 }
 
 /// Rule 31: a macro has no `build` and no `export`.
-#[tactic(auto, using(sl_rules::proofs::Seen::seen))]
+#[tactic(auto, using(sl_spec_rules::proofs::Seen::seen))]
 pub fn is_macro_body(body: &[Stmt]) -> bool
     ensures { result ≡ is_macro_body (statements_of body.now) }
 {

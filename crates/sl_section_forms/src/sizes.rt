@@ -108,7 +108,7 @@ fn each_has_sizes(es: &[Expr]) -> bool
     es.iter().all(|e| has_sizes(e))
 }
 
-#[tactic(auto, using(sl_rules::proofs::Seen::seen))]
+#[tactic(auto, using(sl_spec_rules::proofs::Seen::seen))]
 fn all_have_sizes(es: &[Expr]) -> bool
     ensures { result ≡ list_all has_sizes (expressions_of es.now) }
 {
@@ -141,7 +141,7 @@ fn each_statement_has_sizes(body: &[Stmt]) -> bool
 
 /// Rule 26, of sizes and counts of bits: each written size is at least 1, and in `x[l,c]` c is 1 to
 /// 128.
-#[tactic(auto, using(sl_rules::proofs::Seen::seen))]
+#[tactic(auto, using(sl_spec_rules::proofs::Seen::seen))]
 pub fn body_has_sizes(body: &[Stmt]) -> bool
     ensures { result ≡ body_has_sizes (statements_of body.now) }
 {

@@ -4,7 +4,7 @@ use Rattle.std.proofs.lemmas.Bool.{cases_lt}
 use Rattle.std.proofs.Math.ListN.{drop_of_length-le}
 use Rattle.sl_ast.specs.Views.{expressions_of}
 use Rattle.sl_ast.specs.declared.expressions.Expr.{Expr}
-use Rattle.sl_rules.specs.Names.{Name}
+use Rattle.sl_spec_rules.specs.Names.{Name}
 use Rattle.sl_section_rules.specs.Macros.{with_passed}
 use Rattle.sl_section_rules.specs.SectionRules.{passes_places}
 use Rattle.sl_section_rules.specs.declared.scopes.Scope.{Scope}

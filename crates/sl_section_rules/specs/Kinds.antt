@@ -1,11 +1,11 @@
 -- meaning: what a name of a section or macro is, as far as rules 27 to 31 ask (SLEIGH manual, "The
 -- Semantic Section").
 use Rattle.std.specs.Prelude.{◌||◌, Bool, true, false, Option, Some, None, if◌then◌else◌}
-use Rattle.sl_section.specs.Sections as s
-use Rattle.sl_section.specs.Sections.{Symbol}
+use Rattle.sl_section_flat.specs.Sections as s
+use Rattle.sl_section_flat.specs.Sections.{Symbol}
 use Rattle.sl_spec.specs.Tables.{Name}
 use Rattle.sl_spec.specs.declared.tables.Tables.{Tables}
-use Rattle.sl_resolve.specs.Scopes.{symbol_named}
+use Rattle.sl_section_terms.specs.Scopes.{symbol_named}
 use Rattle.sl_section_rules.specs.declared.kinds.Kind.{Kind}
 use Rattle.sl_section_rules.specs.declared.kinds.Kind.TheVariants as kind
 use Rattle.sl_section_rules.specs.declared.scopes.Scope.{Scope}

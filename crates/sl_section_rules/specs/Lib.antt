@@ -1,3 +1,4 @@
+pub mod Known
 pub mod Kinds
 pub mod Macros
 pub mod Scopes

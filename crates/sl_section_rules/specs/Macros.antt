@@ -3,8 +3,8 @@ use Rattle.std.specs.Prelude.{Bool, List, [], ◌∷◌, ◌++◌, fold, map, if
 use Rattle.std.specs.Prelude.{Option, Some, None}
 use Rattle.sl_ast.specs.Trees.{Expression, named, Left, left_name, left_bits, left_star}
 use Rattle.sl_ast.specs.Trees.{Statement, assign, invoke, Macro}
-use Rattle.sl_resolve.specs.Steps.{with_name}
-use Rattle.sl_rules.specs.Names.{Name, is_among}
+use Rattle.sl_section_resolve.specs.Steps.{with_name}
+use Rattle.sl_spec_rules.specs.Names.{Name, is_among}
 use Rattle.sl_spec.specs.Named as by_name
 use Rattle.sl_spec.specs.Named.{has_name}
 

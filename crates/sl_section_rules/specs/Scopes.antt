@@ -2,16 +2,16 @@
 -- sizes of operands, which stand as 0 and 1.
 use Rattle.std.specs.Prelude.{Bool, true, false, List, [], fold, if◌then◌else◌}
 use Rattle.sl_ast.specs.Trees.{Statement}
-use Rattle.sl_rules.specs.Names.{Name, is_among}
-use Rattle.sl_section.specs.Sections as s
-use Rattle.sl_section.specs.Sections.{Symbol}
+use Rattle.sl_spec_rules.specs.Names.{Name, is_among}
+use Rattle.sl_section_flat.specs.Sections as s
+use Rattle.sl_section_flat.specs.Sections.{Symbol}
 use Rattle.sl_spec.specs.Tables.{Operand}
 use Rattle.sl_spec.specs.declared.constructors.Means.{Means}
 use Rattle.sl_spec.specs.declared.constructors.Means.TheVariants as means
 use Rattle.sl_spec.specs.declared.tables.Tables.{Tables}
-use Rattle.sl_resolve.specs.Entries.{Entry}
-use Rattle.sl_resolve.specs.Scopes.{reach_of, with_symbol}
-use Rattle.sl_section_names.specs.Known.{names_after}
+use Rattle.sl_section_terms.specs.Entries.{Entry}
+use Rattle.sl_section_terms.specs.Scopes.{reach_of, with_symbol}
+use Rattle.sl_section_rules.specs.Known.{names_after}
 use Rattle.sl_section_rules.specs.declared.scopes.Scope.{Scope}
 
 abbrev pub operand_symbol : (attached : List Name) → Name → Means → Symbol

@@ -11,16 +11,16 @@ use Rattle.sl_ast.specs.Trees.{Exported, exports, exports_star, StarForm}
 use Rattle.sl_ast.specs.Trees.{Statement, local, declare, assign, goto, branch, call_to, return}
 use Rattle.sl_ast.specs.Trees.{build, export, invoke, label, Section, statements, unimplemented}
 use Rattle.sl_ast.specs.Trees.{Macro}
-use Rattle.sl_resolve.specs.Operators.{binary_function, unary_function}
-use Rattle.sl_resolve.specs.Scopes.{userop_named}
-use Rattle.sl_resolve.specs.Steps.{is_const}
-use Rattle.sl_rules.specs.Demands.{Demand}
-use Rattle.sl_rules.specs.Gathered.{gathered}
-use Rattle.sl_rules.specs.Names.{Name, are_distinct}
+use Rattle.sl_section_terms.specs.Operators.{binary_function, unary_function}
+use Rattle.sl_section_terms.specs.Scopes.{userop_named}
+use Rattle.sl_section_resolve.specs.Steps.{is_const}
+use Rattle.sl_spec_rules.specs.Demands.{Demand}
+use Rattle.sl_spec_rules.specs.Gathered.{gathered}
+use Rattle.sl_spec_rules.specs.Names.{Name, are_distinct}
 use Rattle.sl_section_forms.specs.Labels.{has_labels}
 use Rattle.sl_section_forms.specs.Places.{exports_last, exports_nothing, is_macro_body}
 use Rattle.sl_section_forms.specs.Sizes.{body_has_sizes}
-use Rattle.sl_section_names.specs.Known.{drops, reads, statement_knows}
+use Rattle.sl_section_rules.specs.Known.{drops, reads, statement_knows}
 use Rattle.sl_spec.specs.Tables as tables
 use Rattle.sl_spec.specs.declared.tables.Tables.{Tables}
 use Rattle.sl_section_rules.specs.Kinds.{is_handed_on, is_number, is_place, is_pointer}

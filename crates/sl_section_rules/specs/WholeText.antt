@@ -4,9 +4,9 @@ use Rattle.sl_ast.specs.Trees.{Item, Names, one, several, define, context, Defin
 use Rattle.sl_ast.specs.Trees.{attach_list, attach_one}
 use Rattle.sl_ast.specs.declared.definitions.AttachKind.{AttachKind}
 use Rattle.sl_ast.specs.declared.definitions.AttachKind.TheVariants as kind
-use Rattle.sl_resolve.specs.Scopes.{first_of}
-use Rattle.sl_resolve.specs.Steps.{with_name}
-use Rattle.sl_rules.specs.Names.{Name}
+use Rattle.sl_section_terms.specs.Scopes.{first_of}
+use Rattle.sl_section_resolve.specs.Steps.{with_name}
+use Rattle.sl_spec_rules.specs.Names.{Name}
 use Rattle.sl_spec.specs.Tables.{Table}
 
 -- all tables, the register of the context, and the fields that are attached to variables

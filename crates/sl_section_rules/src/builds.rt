@@ -2,15 +2,15 @@
 
 ghost use Rattle.std.specs.Prelude.{◌≡◌, ◌++◌, IfOk, OnOk, map};
 ghost use Rattle.sl_ast.specs.Views.{bytes, statement_of, statements_of};
-ghost use Rattle.sl_rules.specs.Gathered.{gathered};
-ghost use Rattle.sl_rules.specs.Names.{are_distinct};
+ghost use Rattle.sl_spec_rules.specs.Gathered.{gathered};
+ghost use Rattle.sl_spec_rules.specs.Names.{are_distinct};
 ghost use Rattle.sl_section_rules.specs.SectionRules.{builds_table, built};
 
 use crate::kinds::{is_table, kind_of};
 use crate::scopes::Scope;
 use sl_ast::statements::Stmt;
-use sl_rules::are_distinct;
 use sl_spec::Tables;
+use sl_spec_rules::are_distinct;
 use std::alloc::{AllocError, Global};
 
 /// Rule 29, of a statement: `build` names a table operand.

@@ -4,8 +4,8 @@ ghost use Rattle.std.specs.Prelude.{◌≡◌, is_some, length, option_copied, o
 ghost use Rattle.std.specs.List.{list_all};
 ghost use Rattle.sl_ast.specs.Views as a;
 ghost use Rattle.sl_ast.specs.Views.{arguments, expression_of, expressions_of, statement_of};
-ghost use Rattle.sl_resolve.specs.Operators.{binary_function, unary_function};
-ghost use Rattle.sl_resolve.specs.Scopes.{userop_named};
+ghost use Rattle.sl_section_terms.specs.Operators.{binary_function, unary_function};
+ghost use Rattle.sl_section_terms.specs.Scopes.{userop_named};
 ghost use Rattle.sl_section_rules.specs.SectionRules.{calls_well, count, dest_calls_well};
 ghost use Rattle.sl_section_rules.specs.SectionRules.{is_called};
 ghost use Rattle.sl_section_rules.specs.SectionRules.{is_function, is_invoked_by, left_calls_well};
@@ -16,7 +16,7 @@ use crate::macros::Signature;
 use crate::scopes::Scope;
 use sl_ast::expressions::Expr;
 use sl_ast::statements::{Dest, Left, Stmt, Target};
-use sl_resolve::{if_below, is_dropped};
+use sl_section_terms::{if_below, is_dropped};
 use sl_spec::{Named, Tables};
 
 /// Whether a function of one argument has this name.

@@ -3,14 +3,14 @@
 ghost use Rattle.std.specs.Prelude.{◌≡◌, option_map};
 ghost use Rattle.sl_ast.specs.Views as a;
 ghost use Rattle.sl_ast.specs.Views.{bytes, statement_of};
-ghost use Rattle.sl_resolve.specs.Steps.{is_const};
+ghost use Rattle.sl_section_resolve.specs.Steps.{is_const};
 ghost use Rattle.sl_section_rules.specs.SectionRules.{exports_well, hands_on, hands_on_star};
 ghost use Rattle.sl_section_rules.specs.SectionRules.{pointer_kind};
 
+use crate::expressions::reads;
 use crate::kinds::{Kind, is_handed_on, is_number, is_pointer, kind_of};
 use crate::scopes::Scope;
 use sl_ast::statements::{Exported, Pointer, Star, Stmt};
-use sl_section_names::reads;
 use sl_spec::Tables;
 
 fn is_const(space: Option<&[u8]>) -> bool

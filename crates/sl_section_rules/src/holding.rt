@@ -11,9 +11,9 @@ use crate::exports::exports_well;
 use crate::macros::Signature;
 use crate::places::assigns_places;
 use crate::scopes::{Scope, go_behind};
+use crate::statements::statement_knows;
 use crate::whole_text::Whole;
 use sl_ast::statements::Stmt;
-use sl_section_names::statement_knows;
 use sl_spec::{Named, Tables};
 use std::alloc::AllocError;
 

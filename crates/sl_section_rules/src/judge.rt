@@ -3,7 +3,7 @@
 ghost use Rattle.std.specs.Prelude.{◌≡◌, ◌∷◌, [], false, IfOk, map};
 ghost use Rattle.sl_ast.specs.Trees.{statements};
 ghost use Rattle.sl_ast.specs.Views.{bytes, macro_of, section_of, statements_of};
-ghost use Rattle.sl_rules.specs.Demands.{first_broken};
+ghost use Rattle.sl_spec_rules.specs.Demands.{first_broken};
 ghost use Rattle.sl_section_rules.specs.Scopes.{macro_scope, section_scope};
 ghost use Rattle.sl_section_rules.specs.SectionRules as rules;
 
@@ -14,9 +14,9 @@ use crate::scopes::{Scope, macro_scope, section_scope};
 use crate::whole_text::Whole;
 use sl_ast::constructors::{Macro, Section};
 use sl_ast::statements::Stmt;
-use sl_rules::are_distinct;
 use sl_section_forms::{body_has_sizes, exports_last, exports_nothing, has_labels, is_macro_body};
 use sl_spec::{Named, Operand, Tables};
+use sl_spec_rules::are_distinct;
 use std::alloc::{AllocError, Global};
 
 /// The number of the first rule that doesn't hold.

@@ -1,12 +1,12 @@
 //! What names are, as far as rules ask.
 
 ghost use Rattle.std.specs.Prelude.{◌≡◌, Some, option_map};
-ghost use Rattle.sl_section.specs.Views.{symbol_of};
+ghost use Rattle.sl_section_flat.specs.Views.{symbol_of};
 ghost use Rattle.sl_section_rules.specs.Kinds.{is_handed_on, is_number, is_place, is_table};
 ghost use Rattle.sl_section_rules.specs.Kinds.{is_pointer, kind_by, kind_of};
 
 use crate::scopes::Scope;
-use sl_section::Symbol;
+use sl_section_flat::Symbol;
 use sl_spec::Tables;
 
 /// What a name of a section or macro is.

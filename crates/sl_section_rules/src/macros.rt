@@ -4,8 +4,8 @@ ghost use Rattle.std.specs.Prelude.{◌≡◌, IfOk, OnOk, fold, map, option_cop
 ghost use Rattle.sl_ast.specs.Views as a;
 ghost use Rattle.sl_ast.specs.Views.{bytes, expression_of, expressions_of};
 ghost use Rattle.sl_ast.specs.Views.{macro_of, statement_of, statements_of};
-ghost use Rattle.sl_resolve.specs.Steps.{with_name};
-ghost use Rattle.sl_rules.specs.Names.{is_among};
+ghost use Rattle.sl_section_resolve.specs.Steps.{with_name};
+ghost use Rattle.sl_spec_rules.specs.Names.{is_among};
 ghost use Rattle.sl_section_rules.specs.Macros.{assigned_names, signature_of, with_argument};
 ghost use Rattle.sl_section_rules.specs.Macros.{with_assigned, with_call, with_left, with_passed};
 ghost use Rattle.sl_section_rules.specs.Macros.{with_passed_one, with_signature};
@@ -13,8 +13,8 @@ ghost use Rattle.sl_section_rules.specs.Macros.{with_passed_one, with_signature}
 use sl_ast::constructors::Macro;
 use sl_ast::expressions::Expr;
 use sl_ast::statements::{Left, Stmt};
-use sl_rules::NameSet;
 use sl_spec::{Entry, Named};
+use sl_spec_rules::NameSet;
 use std::alloc::{AllocError, Global};
 use std::marker::Model;
 

@@ -8,12 +8,12 @@ ghost use Rattle.sl_section_rules.specs.SectionRules.{assigns_places, call_passe
 ghost use Rattle.sl_section_rules.specs.SectionRules.{is_left_name, left_is_place, passes_place};
 ghost use Rattle.sl_section_rules.specs.SectionRules.{passes_places};
 
+use crate::expressions::reads;
 use crate::kinds::{is_place, kind_of};
 use crate::macros::Signature;
 use crate::scopes::Scope;
 use sl_ast::expressions::Expr;
 use sl_ast::statements::{Left, Stmt};
-use sl_section_names::reads;
 use sl_spec::{Named, Tables};
 
 /// Whether a name may be assigned.

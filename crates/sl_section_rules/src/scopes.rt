@@ -2,16 +2,16 @@
 
 ghost use Rattle.std.specs.Prelude.{◌≡◌, IfOk, OnOk, map};
 ghost use Rattle.sl_ast.specs.Views.{bytes, statement_of};
-ghost use Rattle.sl_section.specs.Views.{symbol_of};
+ghost use Rattle.sl_section_flat.specs.Views.{symbol_of};
 ghost use Rattle.sl_section_rules.specs.Scopes.{macro_scope, operand_symbol, scope_after};
 ghost use Rattle.sl_section_rules.specs.Scopes.{section_scope, with_operand, with_parameter};
 
+use crate::statements::go_on;
 use sl_ast::statements::Stmt;
-use sl_resolve::{NamedSymbol, Names, add_symbol, reach_of};
-use sl_rules::NameSet;
-use sl_section::Symbol;
-use sl_section_names::go_on;
+use sl_section_flat::Symbol;
+use sl_section_terms::{NamedSymbol, Names, add_symbol, reach_of};
 use sl_spec::{Means, Named, Operand, Tables};
+use sl_spec_rules::NameSet;
 use sl_word::Size;
 use std::alloc::{AllocError, Global};
 

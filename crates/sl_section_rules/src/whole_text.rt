@@ -3,7 +3,7 @@
 ghost use Rattle.std.specs.Prelude.{◌≡◌, IfOk, OnOk, fold, map, option_map};
 ghost use Rattle.sl_ast.specs.Views as a;
 ghost use Rattle.sl_ast.specs.Views.{bytes, item_of};
-ghost use Rattle.sl_resolve.specs.Steps.{with_name};
+ghost use Rattle.sl_section_resolve.specs.Steps.{with_name};
 ghost use Rattle.sl_section_rules.specs.WholeText.{context_at, context_defined, context_of};
 ghost use Rattle.sl_section_rules.specs.WholeText.{whole_of, with_attached, with_names};
 ghost use Rattle.sl_section_rules.specs.WholeText.{with_variables};
@@ -11,8 +11,8 @@ ghost use Rattle.sl_section_rules.specs.WholeText.{with_variables};
 use crate::macros::add_once;
 use sl_ast::definitions::{AttachKind, Definition, Names};
 use sl_ast::items::{Item, ItemKind};
-use sl_rules::NameSet;
 use sl_spec::{Named, Table};
+use sl_spec_rules::NameSet;
 use std::alloc::{AllocError, Global};
 use std::marker::Model;
 

@@ -3,24 +3,24 @@ use Rattle.std.proofs.Common.{◌≡◌, ℕ, zero, suc, ◌+◌, ◌<◌, ◌�
 use Rattle.std.specs.Prelude.{option_map, slice_get}
 use Rattle.std.proofs.lemmas.Bool.{cases_lt}
 use Rattle.std.proofs.lemmas.List.{get_or_past}
-use Rattle.sl_equations.specs.Equations.{size_at}
-use Rattle.sl_equations.proofs.EquationLemmas.{size_is}
-use Rattle.sl_flat_sections.specs.FlatSections.{Flat}
-use Rattle.sl_heights.specs.Heights.{AreHeights, above, by_height}
-use Rattle.sl_levels.specs.Reaching.{Graph, successors}
-use Rattle.sl_order.specs.Orders.{IsShapingOrder, appearing}
+use Rattle.sl_section_equations.specs.Equations.{size_at}
+use Rattle.sl_section_equations.proofs.EquationLemmas.{size_is}
+use Rattle.sl_section_all.specs.FlatSections.{Flat}
+use Rattle.sl_base_graphs.specs.Heights.{AreHeights, above, by_height}
+use Rattle.sl_base_graphs.specs.Reaching.{Graph, successors}
+use Rattle.sl_spec_order.specs.Orders.{IsShapingOrder, appearing}
 use Rattle.sl_section_sizes.specs.Found.{Is}
-use Rattle.sl_section_sizes.specs.Laws.{ComesTo, Outcome}
+use Rattle.sl_section_sizes.specs.Laws.{ComesTo, SizingOutcome}
 use Rattle.sl_section_sizes.specs.Ordering.{address_of, constructors, in_text_order}
 use Rattle.sl_section_sizes.specs.SectionSizes.{AreSizesOf, IsFirstFaultOf, numbers_by, shaped, unknown}
 use Rattle.sl_section_sizes.specs.declared.faults.SizeFault.{SizeFault}
 use Rattle.sl_sizes.specs.Solutions.{IsFirstClash, IsFirstUnfixed, IsOnlySolution, Meets, Solves, bytes_at}
 use Rattle.sl_sizes.specs.declared.Equation.{Equation}
 use Rattle.sl_sizes.specs.declared.SizeError.TheVariants as error
-use Rattle.sl_sizing.specs.Constructors.{Constructor}
-use Rattle.sl_sizing.specs.Sizings as z
-use Rattle.sl_sizing.specs.declared.stop.Stop.{Stop}
-use Rattle.sl_sizing.specs.declared.stop.Stop.TheVariants as stop
+use Rattle.sl_section_sizes.specs.Constructors.{Constructor}
+use Rattle.sl_section_sizes.specs.Sizings as z
+use Rattle.sl_section_sizes.specs.declared.stop.Stop.{Stop}
+use Rattle.sl_section_sizes.specs.declared.stop.Stop.TheVariants as stop
 use Rattle.sl_spec.specs.Tables.{Ctor}
 use Rattle.sl_spec.specs.declared.tables.Tables.{Tables}
 use Rattle.sl_word.specs.declared.word.Size.{Size}
@@ -178,7 +178,7 @@ module _ (t : Tables) (cs : List Constructor) where
       same_Some item other (sym p.is_item ∙ ap (λ (n : ℕ). option_map (λ (c : Ctor). c.item) (slice_get t.constructors n)) number ∙ q.is_item) in
       (item_is, stops.1)
 
-pub one_outcome : (t : Tables) (sections : List Flat) (r q : Outcome) → ComesTo t sections r → ComesTo t sections q → r ≡ q
+pub one_outcome : (t : Tables) (sections : List Flat) (r q : SizingOutcome) → ComesTo t sections r → ComesTo t sections q → r ≡ q
 one_outcome t sections (Ok a) (Ok b) p q = ap Ok (one_sizes t (constructors t sections) a b p q)
 one_outcome t sections (Ok a) (Err e) p q = absurd (not_both t (constructors t sections) a e.0 e.1 p q)
 one_outcome t sections (Err e) (Ok b) p q = absurd (not_both t (constructors t sections) b e.0 e.1 q p)

@@ -4,7 +4,7 @@ use Rattle.std.proofs.Common.{◌≡◌, ℕ, zero, suc, List, [], ◌∷◌, �
 use Rattle.std.specs.Prelude.{slice_get}
 use Rattle.sl_section_sizes.specs.Ordering.{put_all}
 use Rattle.sl_section_sizes.specs.Putting.{put_one}
-use Rattle.sl_sizing.specs.Sizings.{lists_of}
+use Rattle.sl_section_sizes.specs.Sizings.{lists_of}
 use Rattle.sl_word.specs.declared.word.Size.{Size}
 
 -- with one more behind the others

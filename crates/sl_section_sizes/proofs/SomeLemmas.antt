@@ -7,40 +7,40 @@ use Rattle.std.proofs.lemmas.List.Elements.{All-append, All-cons, All-head, All-
 use Rattle.sl_ast.specs.Trees.{Section, statements, unimplemented}
 use Rattle.sl_ast.specs.Trees as ast
 use Rattle.sl_ast.specs.Unfolding.{Placed}
-use Rattle.sl_equations.specs.Equations.{size_at}
-use Rattle.sl_equations.specs.Known.{size_in}
-use Rattle.sl_equations.proofs.AboutLemmas.{section_about}
-use Rattle.sl_exports.specs.Exports.{if_so}
-use Rattle.sl_flat_sections.specs.FlatSections.{Flat, flat_section, flat_sections, row_section}
-use Rattle.sl_flat_sections.specs.Scopes.{Scopes}
-use Rattle.sl_heights.specs.Heights.{by_height}
-use Rattle.sl_heights.proofs.SomeHeights.{some_heights}
-use Rattle.sl_levels.specs.Orders.{NoneReaches}
-use Rattle.sl_order.specs.Orders.{IsShapingOrder, appearing, graph}
-use Rattle.sl_resolve.specs.Macros.{Body}
-use Rattle.sl_resolve.specs.declared.reach.Reach.{Reach}
-use Rattle.sl_resolve.proofs.BelowSteps.{section_below}
-use Rattle.sl_rules.specs.Gathered.{gathered}
-use Rattle.sl_section.specs.Numbered.{StepsBelow}
+use Rattle.sl_section_equations.specs.Equations.{size_at}
+use Rattle.sl_section_equations.specs.SizesIn.{size_in}
+use Rattle.sl_section_equations.proofs.AboutLemmas.{section_about}
+use Rattle.sl_section_exports.specs.Exports.{if_so}
+use Rattle.sl_section_all.specs.FlatSections.{Flat, flat_section, flat_sections, row_section}
+use Rattle.sl_section_all.specs.Scopes.{Scopes}
+use Rattle.sl_base_graphs.specs.Heights.{by_height}
+use Rattle.sl_base_graphs.proofs.SomeHeights.{some_heights}
+use Rattle.sl_base_graphs.specs.Orders.{NoneReaches}
+use Rattle.sl_spec_order.specs.Orders.{IsShapingOrder, appearing, graph}
+use Rattle.sl_section_resolve.specs.Macros.{Body}
+use Rattle.sl_section_terms.specs.declared.reach.Reach.{Reach}
+use Rattle.sl_section_resolve.proofs.BelowSteps.{section_below}
+use Rattle.sl_spec_rules.specs.Gathered.{gathered}
+use Rattle.sl_section_flat.specs.Numbered.{StepsBelow}
 use Rattle.sl_section_sizes.specs.Found.{Is}
-use Rattle.sl_section_sizes.specs.Laws.{ComesTo, Outcome}
+use Rattle.sl_section_sizes.specs.Laws.{ComesTo, SizingOutcome}
 use Rattle.sl_section_sizes.specs.Ordering.{address_of, below, constructors, in_order, in_text_order, numbers, numbers_of, with_section}
 use Rattle.sl_section_sizes.specs.SectionSizes.{numbers_by, shaped, unknown}
 use Rattle.sl_section_sizes.specs.declared.faults.SizeFault.{SizeFault}
 use Rattle.sl_section_sizes.specs.declared.faults.SizeFault.TheVariants as fault
-use Rattle.sl_surely.specs.Surely.{Surely}
-use Rattle.sl_surely.proofs.SurelyLemmas.{IsLeastNumber, surely, surely_then, surely_map, surely_either, surely_least}
+use Rattle.sl_base_surely.specs.Surely.{Surely}
+use Rattle.sl_base_surely.proofs.SurelyLemmas.{IsLeastNumber, surely, surely_then, surely_map, surely_either, surely_least}
 use Rattle.sl_sizes.specs.Solutions.{Holds, IsAbout, IsFirstClash, IsFirstUnfixed, IsOnlySolution, Meets, Solves, bytes_at}
 use Rattle.sl_sizes.specs.declared.Equation.{Equation}
 use Rattle.sl_sizes.specs.declared.Equation.TheVariants as e
 use Rattle.sl_sizes.specs.declared.SizeError.TheVariants as error
-use Rattle.sl_sizing.specs.Constructors.{Constructor}
-use Rattle.sl_sizing.specs.Sizings as z
-use Rattle.sl_sizing.specs.declared.stop.Stop.{Stop}
-use Rattle.sl_sizing.specs.declared.stop.Stop.TheVariants as stop
+use Rattle.sl_section_sizes.specs.Constructors.{Constructor}
+use Rattle.sl_section_sizes.specs.Sizings as z
+use Rattle.sl_section_sizes.specs.declared.stop.Stop.{Stop}
+use Rattle.sl_section_sizes.specs.declared.stop.Stop.TheVariants as stop
 use Rattle.sl_spec.specs.Tables.{Ctor, Operand}
 use Rattle.sl_spec.specs.declared.tables.Tables.{Tables}
-use Rattle.sl_tables.specs.Rows.{Row, rows}
+use Rattle.sl_spec_tables.specs.Rows.{Row, rows}
 use Rattle.sl_word.specs.declared.word.Size.{Size}
 
 -- ---- an assignment as a list of sizes
@@ -287,7 +287,7 @@ module _ (t : Tables) (sections : List Flat) (tables : List ℕ) (is_order : IsS
   abbrev cs : List Constructor
   cs = constructors t sections
 
-  outcome_of : AreEither (address_of t) (unknown t) (shaped t cs tables) → (o : Outcome) × ComesTo t sections o
+  outcome_of : AreEither (address_of t) (unknown t) (shaped t cs tables) → (o : SizingOutcome) × ComesTo t sections o
   outcome_of (inl found) = (
     Ok (in_text_order (length cs) found.0 (numbers_by t cs tables)),
     record { tables = tables; is_order = is_order; found = found.0; exports = found.1; are_sized = found.2; in_text = refl },
@@ -314,7 +314,7 @@ module _ (t : Tables) (sections : List Flat) (tables : List ℕ) (is_order : IsS
 -- Where no table reaches itself, and the variables of each section are below their number, the
 -- sections have sizes or a first fault.
 pub some_outcome : (t : Tables) (sections : List Flat) → All IsNumberedFlat sections → NoneReaches (graph (length t.tables) t.constructors)
-    → Surely ((o : Outcome) × ComesTo t sections o)
+    → Surely ((o : SizingOutcome) × ComesTo t sections o)
 some_outcome t sections numbered none =
     let order = some_order (length t.tables) t.constructors none in
     let cs = constructors t sections in
@@ -340,5 +340,5 @@ flats_numbered t s cs = rows_numbered t s.macros (zip (rows t cs) s.reaches)
 
 -- The flat sections of a text have sizes or a first fault.
 pub some_outcome_of_text : (t : Tables) (s : Scopes) (cs : List (Placed ast.Constructor)) → NoneReaches (graph (length t.tables) t.constructors)
-    → Surely ((o : Outcome) × ComesTo t (flat_sections t s cs) o)
+    → Surely ((o : SizingOutcome) × ComesTo t (flat_sections t s cs) o)
 some_outcome_of_text t s cs none = some_outcome t (flat_sections t s cs) (flats_numbered t s cs) none

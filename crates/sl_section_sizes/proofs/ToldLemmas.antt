@@ -1,6 +1,6 @@
 -- What is told of an error of sizes is the first fault.
 use Rattle.std.proofs.Common.{◌≡◌, ℕ, List, length, refl, sym, subst}
-use Rattle.sl_order.specs.Orders.{IsShapingOrder}
+use Rattle.sl_spec_order.specs.Orders.{IsShapingOrder}
 use Rattle.sl_section_sizes.specs.Found.{Is}
 use Rattle.sl_section_sizes.specs.Ordering.{address_of}
 use Rattle.sl_section_sizes.specs.SectionSizes.{IsSizesErrorOf, numbers_by, shaped, unknown}
@@ -10,12 +10,12 @@ use Rattle.sl_section_sizes.specs.declared.faults.SizeFault.TheVariants as fault
 use Rattle.sl_section_sizes.specs.declared.faults.SizesError.{SizesError}
 use Rattle.sl_section_sizes.specs.declared.faults.SizesError.TheVariants as told
 use Rattle.sl_sizes.specs.declared.SizeError.TheVariants as error
-use Rattle.sl_sizing.specs.Constructors.{Constructor}
-use Rattle.sl_sizing.specs.Sizings.{FirstStop, IsError}
-use Rattle.sl_sizing.specs.declared.stop.SizingError.{SizingError}
-use Rattle.sl_sizing.specs.declared.stop.SizingError.TheVariants as sizing
-use Rattle.sl_sizing.specs.declared.stop.Stop.{Stop}
-use Rattle.sl_sizing.specs.declared.stop.Stop.TheVariants as stop
+use Rattle.sl_section_sizes.specs.Constructors.{Constructor}
+use Rattle.sl_section_sizes.specs.Sizings.{FirstStop, IsError}
+use Rattle.sl_section_sizes.specs.declared.stop.SizingError.{SizingError}
+use Rattle.sl_section_sizes.specs.declared.stop.SizingError.TheVariants as sizing
+use Rattle.sl_section_sizes.specs.declared.stop.Stop.{Stop}
+use Rattle.sl_section_sizes.specs.declared.stop.Stop.TheVariants as stop
 use Rattle.sl_spec.specs.declared.tables.Tables.{Tables}
 
 module _ (t : Tables) (cs : List Constructor) (tables : List ℕ) (is_order : IsShapingOrder (length t.tables) t.constructors tables) where

@@ -1,8 +1,8 @@
 -- meaning: why a section has no sizes.
 use Rattle.std.specs.Prelude.{◌≡◌}
 use Rattle.sl_sizes.specs.declared.SizeError.TheVariants as error
-use Rattle.sl_sizing.specs.declared.stop.Stop.{Stop}
-use Rattle.sl_sizing.specs.declared.stop.Stop.TheVariants as stop
+use Rattle.sl_section_sizes.specs.declared.stop.Stop.{Stop}
+use Rattle.sl_section_sizes.specs.declared.stop.Stop.TheVariants as stop
 use Rattle.sl_section_sizes.specs.declared.faults.SizeFault.{SizeFault}
 use Rattle.sl_section_sizes.specs.declared.faults.SizeFault.TheVariants as fault
 

@@ -1,3 +1,7 @@
+pub mod Constructors
+pub mod ConstructorViews
+pub mod WholeLaws
+pub mod Sizings
 pub mod Found
 pub mod Laws
 pub mod Ordering

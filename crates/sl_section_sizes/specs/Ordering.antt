@@ -2,11 +2,11 @@
 use Rattle.std.specs.Prelude.{ℕ, nat_lt, List, [], ◌∷◌, find, map, replicate, set, slice_get}
 use Rattle.std.specs.Prelude.{Option, Some, None, option_map, option_to_list, unwrap_or}
 use Rattle.std.specs.List.{zip}
-use Rattle.sl_equations.specs.Known.{address_in}
-use Rattle.sl_exports.specs.Exports.{if_so}
-use Rattle.sl_flat_sections.specs.FlatSections.{Flat}
-use Rattle.sl_rules.specs.Gathered.{gathered}
-use Rattle.sl_sizing.specs.Constructors.{Constructor}
+use Rattle.sl_section_equations.specs.SizesIn.{address_in}
+use Rattle.sl_section_exports.specs.Exports.{if_so}
+use Rattle.sl_section_all.specs.FlatSections.{Flat}
+use Rattle.sl_spec_rules.specs.Gathered.{gathered}
+use Rattle.sl_section_sizes.specs.Constructors.{Constructor}
 use Rattle.sl_spec.specs.Tables.{Ctor, Table}
 use Rattle.sl_spec.specs.declared.constructors.Means.{Means}
 use Rattle.sl_spec.specs.declared.constructors.Means.TheVariants as means

@@ -2,17 +2,17 @@
 -- constructors are shaped, whose section has none or breaks rule 40.
 use Rattle.std.specs.Prelude.{◌≡◌, ℕ, List, Option, Some, None, length, option_map, replicate}
 use Rattle.std.specs.Prelude.{slice_get, ⊤}
-use Rattle.sl_flat_sections.specs.FlatSections.{Flat}
-use Rattle.sl_order.specs.Orders.{IsShapingOrder}
+use Rattle.sl_section_all.specs.FlatSections.{Flat}
+use Rattle.sl_spec_order.specs.Orders.{IsShapingOrder}
 use Rattle.sl_section_sizes.specs.Found.{Is}
 use Rattle.sl_section_sizes.specs.Ordering.{address_of, constructors, in_order, in_text_order}
 use Rattle.sl_section_sizes.specs.Ordering.{numbers}
 use Rattle.sl_section_sizes.specs.declared.faults.SizeFault.{SizeFault}
 use Rattle.sl_section_sizes.specs.declared.faults.SizesError.{SizesError}
 use Rattle.sl_section_sizes.specs.declared.faults.SizesError.TheVariants as error
-use Rattle.sl_sizing.specs.Constructors.{Constructor}
-use Rattle.sl_sizing.specs.Sizings.{AreSized, FirstStop}
-use Rattle.sl_sizing.specs.declared.stop.Stop.{Stop}
+use Rattle.sl_section_sizes.specs.Constructors.{Constructor}
+use Rattle.sl_section_sizes.specs.Sizings.{AreSized, FirstStop}
+use Rattle.sl_section_sizes.specs.declared.stop.Stop.{Stop}
 use Rattle.sl_spec.specs.declared.tables.Tables.{Tables}
 use Rattle.sl_word.specs.declared.word.Size.{Size}
 

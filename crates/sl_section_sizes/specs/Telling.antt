@@ -5,8 +5,8 @@ use Rattle.sl_section_sizes.specs.declared.faults.SizeFault.TheVariants as fault
 use Rattle.sl_section_sizes.specs.declared.faults.SizesError.{SizesError}
 use Rattle.sl_section_sizes.specs.declared.faults.SizesError.TheVariants as told
 use Rattle.sl_sizes.specs.declared.SizeError.TheVariants as error
-use Rattle.sl_sizing.specs.declared.stop.SizingError.{SizingError}
-use Rattle.sl_sizing.specs.declared.stop.SizingError.TheVariants as sizing
+use Rattle.sl_section_sizes.specs.declared.stop.SizingError.{SizingError}
+use Rattle.sl_section_sizes.specs.declared.stop.SizingError.TheVariants as sizing
 use Rattle.sl_spec.specs.declared.tables.Tables.{Tables}
 
 -- It is told of the constructor at this index among these numbers, unless memory ran out.

@@ -1,7 +1,7 @@
 //! The numbers of constructors in the order in which they are shaped.
 
 ghost use Rattle.std.specs.Prelude.{◌≡◌, ◌++◌, nat_lt, slice_get, IfOk, OnOk};
-ghost use Rattle.sl_exports.specs.Exports.{if_so};
+ghost use Rattle.sl_section_exports.specs.Exports.{if_so};
 ghost use Rattle.sl_section_sizes.specs.Ordering as spec;
 
 use sl_spec::{CtorId, Tables};

@@ -3,7 +3,7 @@
 ghost use Rattle.std.specs.Prelude.{◌≡◌, [], replicate, set, slice_get, IfOk, OnOk};
 ghost use Rattle.sl_section_sizes.specs.Ordering as spec;
 ghost use Rattle.sl_section_sizes.specs.Putting.{put_one};
-ghost use Rattle.sl_sizing.specs.Sizings.{lists_of};
+ghost use Rattle.sl_section_sizes.specs.Sizings.{lists_of};
 
 use sl_word::Size;
 use std::alloc::{AllocError, Global};

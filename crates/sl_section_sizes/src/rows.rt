@@ -2,13 +2,13 @@
 
 ghost use Rattle.std.specs.Prelude.{◌≡◌, ◌++◌, map, option_to_list, slice_get, IfOk, OnOk};
 ghost use Rattle.std.specs.List.{zip};
-ghost use Rattle.sl_flat_sections.specs.Views.{flat_of, flats_of};
+ghost use Rattle.sl_section_all.specs.Views.{flat_of, flats_of};
 ghost use Rattle.sl_section_sizes.specs.Ordering.{in_order, with_section};
 ghost use Rattle.sl_section_sizes.specs.Rows.{lists_meant, tables_meant};
-ghost use Rattle.sl_sizing.specs.Constructors.{constructor_of, constructors_of};
+ghost use Rattle.sl_section_sizes.specs.ConstructorViews.{constructor_of, constructors_of};
 
-use sl_section::Section;
-use sl_sizing::Constructor;
+use crate::constructor::Constructor;
+use sl_section_flat::Section;
 use sl_spec::{Ctor, TableId};
 use std::alloc::{AllocError, Global};
 

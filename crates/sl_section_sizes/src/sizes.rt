@@ -1,28 +1,30 @@
 //! The sizes of all sections.
 
 ghost use Rattle.std.specs.Prelude.{◌≡◌, length, IfErr, IfOk};
-ghost use Rattle.sl_equations.specs.Known.{exports_of};
-ghost use Rattle.sl_flat_sections.specs.Views.{flats_of};
-ghost use Rattle.sl_levels.specs.Orders.{NoneReaches};
-ghost use Rattle.sl_order.specs.Orders.{IsShapingOrder, graph};
+ghost use Rattle.sl_section_equations.specs.Known.{exports_of};
+ghost use Rattle.sl_section_all.specs.Views.{flats_of};
+ghost use Rattle.sl_base_graphs.specs.Orders.{NoneReaches};
+ghost use Rattle.sl_spec_order.specs.Orders.{IsShapingOrder, graph};
 ghost use Rattle.sl_section_sizes.specs.Ordering.{address_of};
 ghost use Rattle.sl_section_sizes.specs.SectionSizes.{AreSizes, AreSizesOf, IsSizesError};
 ghost use Rattle.sl_section_sizes.specs.SectionSizes.{IsSizesErrorOf, unknown};
 ghost use Rattle.sl_section_sizes.specs.Telling.{Tells, TellsOf};
-ghost use Rattle.sl_sizing.specs.Constructors.{constructors_of};
-ghost use Rattle.sl_sizing.specs.Sizings.{AreSized, IsError, lists_of};
+ghost use Rattle.sl_section_sizes.specs.ConstructorViews.{constructors_of};
+ghost use Rattle.sl_section_sizes.specs.Sizings.{AreSized, IsError, lists_of};
 
 use crate::addresses::{address_sizes, default_size};
+use crate::constructor::Constructor;
 use crate::faults::{SizeFault, SizesError};
 use crate::operands::all_meant;
 use crate::order::numbers;
 use crate::putting::in_text_order;
 use crate::rows::{in_order, with_sections};
-use sl_order::shaping_order;
-use sl_section::Section;
+use crate::sizing::{Sizes, all_sizes};
+use crate::stop::SizingError;
+use sl_section_flat::Section;
 use sl_sizes::SizeError;
-use sl_sizing::{Constructor, Sizes, SizingError, all_sizes};
 use sl_spec::Tables;
+use sl_spec_order::shaping_order;
 use sl_word::Size;
 use std::alloc::{AllocError, Global};
 

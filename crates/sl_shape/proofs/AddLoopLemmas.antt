@@ -4,7 +4,7 @@ use Rattle.std.proofs.lemmas.List.{drop_more, map_push, take-append-drop, take_a
 use Rattle.std.specs.List.{AllByRecursion}
 use Rattle.sl_ast.specs.Trees.{Constructor}
 use Rattle.sl_ast.specs.Unfolding.{Placed}
-use Rattle.sl_settle.specs.declared.CubeSet.{CubeSet}
+use Rattle.sl_cube_sets.specs.declared.CubeSet.{CubeSet}
 use Rattle.sl_shape.specs.Adding.{AreAdded, IsAdded, IsFirstIn}
 use Rattle.sl_shape.specs.PatternShapes.{Shapes}
 use Rattle.sl_shape.specs.Tables.{CtorTells, IfSetAt, IsError, ctor_shape}
@@ -15,9 +15,9 @@ use Rattle.sl_shape.specs.declared.errors.ShapeError.TheVariants as error
 use Rattle.sl_shape.specs.declared.faults.Fault.{Fault}
 use Rattle.sl_shape.proofs.BelowLemmas.{all_seen, all_there}
 use Rattle.sl_shape.proofs.CarryLemmas.{all_each}
-use Rattle.sl_shapes.proofs.ListLemmas.{keeps_more}
-use Rattle.sl_shapes.specs.Lists.{IsThere, seen}
-use Rattle.sl_shapes.specs.declared.shapes.Shape as code
+use Rattle.sl_shape_tokens.proofs.ListLemmas.{keeps_more}
+use Rattle.sl_shape_tokens.specs.Lists.{IsThere, seen}
+use Rattle.sl_shape_tokens.specs.declared.shapes.Shape as code
 use Rattle.sl_spec.proofs.KeyedLemmas.{all_push}
 
 pub error_map : (P Q : ℕ → Fault → Type 0) → ((i : ℕ) (f : Fault) → P i f → Q i f) → (e : ShapeError) → IsError P e → IsError Q e

@@ -4,8 +4,8 @@ use Rattle.std.proofs.lemmas.Bool.{cases_eq}
 use Rattle.std.specs.Prelude.{option_and_then, slice_get, unwrap_or}
 use Rattle.sl_ast.specs.Trees.{Constructor, Pattern}
 use Rattle.sl_ast.specs.Unfolding.{Placed}
-use Rattle.sl_constraints.specs.Sets.{IsUnionOf}
-use Rattle.sl_settle.specs.declared.CubeSet.{CubeSet}
+use Rattle.sl_shape_constraints.specs.Sets.{IsUnionOf}
+use Rattle.sl_cube_sets.specs.declared.CubeSet.{CubeSet}
 use Rattle.sl_shape.specs.Adding.{IsAdded, IsStop}
 use Rattle.sl_shape.specs.Below.{Shows}
 use Rattle.sl_shape.specs.Made.{IsMade}
@@ -21,9 +21,9 @@ use Rattle.sl_shape.specs.declared.stop.Stop.{Stop}
 use Rattle.sl_shape.specs.declared.stop.Stop.TheVariants as stop
 use Rattle.sl_shape.proofs.BelowLemmas.{gets_same}
 use Rattle.sl_shape.proofs.OrderLemmas.{set_here, set_other}
-use Rattle.sl_shapes.specs.Lists.{IsThere, seen}
-use Rattle.sl_shapes.specs.Shapes.{of_nothing}
-use Rattle.sl_shapes.specs.declared.shapes.Shape as code
+use Rattle.sl_shape_tokens.specs.Lists.{IsThere, seen}
+use Rattle.sl_shape_tokens.specs.Shapes.{of_nothing}
+use Rattle.sl_shape_tokens.specs.declared.shapes.Shape as code
 
 module _ (b : Below) (cs : List (Placed Constructor)) (shapes : Shapes) (i : ℕ) where
   shape_by : (o : Option Pattern) → pattern_at cs i ≡ o → ctor_shape b.tables.now cs shapes i ≡ unwrap_or (option_and_then (shape_of b.tables.now shapes) o) of_nothing

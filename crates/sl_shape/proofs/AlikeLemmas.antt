@@ -7,16 +7,16 @@ use Rattle.sl_ast.specs.declared.patterns.PatternOp.TheVariants.{And, Then, Or}
 use Rattle.sl_cube.specs.Points.{InRange}
 use Rattle.sl_cube.specs.declared.Cube.{Cube}
 use Rattle.sl_cube.specs.declared.Point.{Point}
-use Rattle.sl_constraints.specs.Places.{seen}
-use Rattle.sl_constraints.specs.Windows.{IsEnd}
-use Rattle.sl_constraints.proofs.ShiftLemmas.{seen_range}
-use Rattle.sl_patterns.specs.Patterns.{JoinedHolds, OpenOrIn, PatternHolds, Reading, hull_named, is_open, right_place}
-use Rattle.sl_patterns.specs.Windows.{IfFixesByte, PatternConstrains}
-use Rattle.sl_patterns.proofs.OneHull.{AreHullsAlike, alike_itself}
+use Rattle.sl_shape_constraints.specs.Places.{seen}
+use Rattle.sl_shape_constraints.specs.Windows.{IsEnd}
+use Rattle.sl_shape_constraints.proofs.ShiftLemmas.{seen_range}
+use Rattle.sl_shape_patterns.specs.Patterns.{JoinedHolds, OpenOrIn, PatternHolds, Reading, hull_named, is_open, right_place}
+use Rattle.sl_shape_patterns.specs.Windows.{IfFixesByte, PatternConstrains}
+use Rattle.sl_shape_patterns.proofs.OneHull.{AreHullsAlike, alike_itself}
 use Rattle.sl_shape.specs.Extents.{extent_bytes, extent_of}
 use Rattle.sl_shape.specs.PatternShapes.{fixed_bytes, pattern_bytes, shape_of}
 use Rattle.sl_shape.proofs.ExtentOfShapeLemmas.{extent_shaped, inner_of, sides_of}
-use Rattle.sl_shapes.specs.Shapes.{Shape}
+use Rattle.sl_shape_tokens.specs.Shapes.{Shape}
 use Rattle.sl_spec.specs.declared.tables.Tables.{Tables}
 
 pub end_same : (P Q : ℕ → Type 0) → ((i : ℕ) → P i ↔ Q i) → (n : ℕ) → IsEnd P n → IsEnd Q n

@@ -18,11 +18,11 @@ use Rattle.sl_shape.specs.declared.faults.Fault.{Fault}
 use Rattle.sl_shape.specs.declared.faults.Fault.TheVariants as fault
 use Rattle.sl_shape.specs.declared.stop.Stop.{Stop}
 use Rattle.sl_shape.specs.declared.stop.Stop.TheVariants as stop
-use Rattle.sl_shapes.specs.Bytes.{Knows}
-use Rattle.sl_shapes.specs.Lists.{IsAmong, IsThere, Keeps, seen}
-use Rattle.sl_shapes.specs.Shapes.{Shape, both, either, extended, followed, is_fixed}
-use Rattle.sl_shapes.specs.declared.shapes.Shape as code
-use Rattle.sl_shapes.proofs.ListLemmas.{keeps_at, keeps_more}
+use Rattle.sl_shape_tokens.specs.Bytes.{Knows}
+use Rattle.sl_shape_tokens.specs.Lists.{IsAmong, IsThere, Keeps, seen}
+use Rattle.sl_shape_tokens.specs.Shapes.{Shape, both, either, extended, followed, is_fixed}
+use Rattle.sl_shape_tokens.specs.declared.shapes.Shape as code
+use Rattle.sl_shape_tokens.proofs.ListLemmas.{keeps_at, keeps_more}
 use Rattle.sl_spec.specs.Named.{named}
 
 -- ---- lists are added

@@ -6,22 +6,22 @@ use Rattle.sl_ast.specs.Trees.{Constructor, Name, Pattern, bare, constraint, gro
 use Rattle.sl_ast.specs.Unfolding.{Placed}
 use Rattle.sl_ast.specs.declared.patterns.PatternOp.{PatternOp}
 use Rattle.sl_ast.specs.declared.patterns.PatternOp.TheVariants.{And, Then, Or}
-use Rattle.sl_constructors.specs.Operands.{is_epsilon}
+use Rattle.sl_spec_constructors.specs.Operands.{is_epsilon}
 use Rattle.sl_cube.specs.Points.{InRange}
 use Rattle.sl_cube.specs.declared.Cube.{Cube}
 use Rattle.sl_cube.specs.declared.Point.{Point}
-use Rattle.sl_patterns.specs.Hulls.{IsHullOrNone}
-use Rattle.sl_patterns.specs.Patterns.{hull_at}
-use Rattle.sl_patterns.specs.Windows.{PatternConstrains}
-use Rattle.sl_patterns.proofs.HullLemmas.{found_same}
-use Rattle.sl_patterns.proofs.OneHull.{AreHullsAlike, alike_itself}
-use Rattle.sl_settle.specs.declared.CubeSet.{CubeSet}
+use Rattle.sl_shape_patterns.specs.Hulls.{IsHullOrNone}
+use Rattle.sl_shape_patterns.specs.Patterns.{hull_at}
+use Rattle.sl_shape_patterns.specs.Windows.{PatternConstrains}
+use Rattle.sl_shape_patterns.proofs.HullLemmas.{found_same}
+use Rattle.sl_shape_patterns.proofs.OneHull.{AreHullsAlike, alike_itself}
+use Rattle.sl_cube_sets.specs.declared.CubeSet.{CubeSet}
 use Rattle.sl_shape.specs.Extents.{extended_extent, extent, extent_bytes, extent_of, joined_extents}
-use Rattle.sl_shape.specs.Faults.{BehindTells, DifferTells, Holds, JoinTells, ShapeTells, Tells}
+use Rattle.sl_shape.specs.Faults.{BehindTells, DifferTells, JoinTells, PatternHoldsAt, PatternTells, ShapeTells}
 use Rattle.sl_shape.specs.PatternShapes.{Shapes, fixed_bytes, joined_shape, name_shape, pattern_bytes, reading, shape_by, shape_of, table_shape}
 use Rattle.sl_shape.specs.Tables.{CtorHolds, CtorTells, IfHolds, IfSetAt, IfTells, IsSetAt, IsTable, constructors_of, ctor_shape, named_by, one_or_none, pattern_at, tables_named}
 use Rattle.sl_shape.proofs.AlikeLemmas.{AreAlike, constrains_alike, end_same, holds_alike}
-use Rattle.sl_shapes.specs.Shapes.{Shape, extended, of_nothing, of_table}
+use Rattle.sl_shape_tokens.specs.Shapes.{Shape, extended, of_nothing, of_table}
 use Rattle.sl_spec.specs.Named.{index_named, named}
 use Rattle.sl_spec.specs.Tables.{Field}
 use Rattle.sl_spec.specs.declared.tables.Tables.{Tables}
@@ -112,7 +112,7 @@ module _ (t : Tables) (s r : Shapes) (h k : List (Option Cube)) where
   pub alike_extents : (p : Pattern) → AllByRecursion Agree (tables_named t p) → AreAlike t (λ q. extent_bytes (extent_of t s q)) (λ q. extent_bytes (extent_of t r q)) h k p
   alike_extents p all = alike_by (λ q. extent_bytes (extent_of t s q)) (λ q. extent_bytes (extent_of t r q)) (λ q named. ap extent_bytes (extent_same q named)) p all
 
-  pub holds_same : (p : Pattern) → AllByRecursion Agree (tables_named t p) → (x : Point) → InRange x → Holds t s h p x ↔ Holds t r k p x
+  pub holds_same : (p : Pattern) → AllByRecursion Agree (tables_named t p) → (x : Point) → InRange x → PatternHoldsAt t s h p x ↔ PatternHoldsAt t r k p x
   holds_same p all x range = holds_alike t (pattern_bytes t s) (pattern_bytes t r) h k p (alike_same p all) 0 x range
 
   behind_same : (o : Option ℕ) (q : Pattern) → AllByRecursion Agree (tables_named t q) → BehindTells t s h o q None → BehindTells t r k o q None
@@ -136,7 +136,7 @@ module _ (t : Tables) (s r : Shapes) (h k : List (Option Cube)) where
       join_same Or p q shape bytes all j = subst (λ (o : Option Shape). DifferTells o None) shape j
       join_same Then p q shape bytes all j = subst (λ (o : Option ℕ). BehindTells t r k o q None) bytes (behind_same (pattern_bytes t s p) q all j)
 
-  pub tells_same : (p : Pattern) → AllByRecursion Agree (tables_named t p) → Tells t s h p None → Tells t r k p None
+  pub tells_same : (p : Pattern) → AllByRecursion Agree (tables_named t p) → PatternTells t s h p None → PatternTells t r k p None
   tells_same p all e =
       let w = e.1.1.0 in
       let x = e.1.1.1 in

@@ -7,16 +7,16 @@ use Rattle.std.proofs.lemmas.List.Elements.{Contains-append_cases, Contains-appe
 use Rattle.std.proofs.lemmas.Option.{get_or_from_slice_get, slice_get_cases, slice_get_within}
 use Rattle.sl_ast.specs.Trees.{Constructor, Name, Pattern, bare, constraint, group, ellipsis, joined}
 use Rattle.sl_ast.specs.Unfolding.{Placed}
-use Rattle.sl_levels.proofs.Seen.{read_or}
-use Rattle.sl_levels.specs.Reaching.{successors}
-use Rattle.sl_parts.specs.Parts.{Part, parts, is_table, is_in_choice, is_behind, holds_table}
-use Rattle.sl_rules.specs.Gathered.{gathered}
+use Rattle.sl_base_graphs.proofs.Seen.{read_or}
+use Rattle.sl_base_graphs.specs.Reaching.{successors}
+use Rattle.sl_spec_actions.specs.Parts.{Part, parts, is_table, is_in_choice, is_behind, holds_table}
+use Rattle.sl_spec_rules.specs.Gathered.{gathered}
 use Rattle.sl_spec.specs.Named.{index_named}
 use Rattle.sl_spec.specs.Tables.{Ctor, Table}
 use Rattle.sl_spec.specs.declared.tables.Tables.{Tables}
-use Rattle.sl_constructors.proofs.MemberLemmas.{of_gathered}
-use Rattle.sl_constructors.proofs.NumberLemmas.{numbered}
-use Rattle.sl_constructors.specs.Listed.{AreListed, MeansTable, NameOperands, NamesTable}
+use Rattle.sl_spec_constructors.proofs.MemberLemmas.{of_gathered}
+use Rattle.sl_spec_constructors.proofs.NumberLemmas.{numbered}
+use Rattle.sl_spec_constructors.specs.Listed.{AreListed, MeansTable, NameOperands, NamesTable}
 use Rattle.sl_shape.specs.Tables.{named_by, one_or_none, pattern_at, table_graph, tables_named}
 
 -- ---- patterns

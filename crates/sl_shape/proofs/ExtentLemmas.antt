@@ -7,7 +7,7 @@ use Rattle.sl_ast.specs.declared.patterns.PatternOp.{PatternOp}
 use Rattle.sl_shape.specs.Extents.{extended_extent, extent, extent_of, joined_extents, kept}
 use Rattle.sl_shape.specs.PatternShapes.{name_shape, shape_by}
 use Rattle.sl_shape.specs.declared.extent.Extent as code
-use Rattle.sl_shapes.specs.Shapes.{Shape}
+use Rattle.sl_shape_tokens.specs.Shapes.{Shape}
 use Rattle.sl_spec.specs.Named.{named}
 use Rattle.sl_spec.specs.declared.tables.Tables.{Tables}
 

@@ -7,12 +7,12 @@ use Rattle.sl_ast.specs.declared.patterns.PatternOp.{PatternOp}
 use Rattle.sl_ast.specs.declared.patterns.PatternOp.TheVariants.{And, Then, Or}
 use Rattle.sl_shape.specs.Extents.{both_kinds, extended_extent, extent, extent_of, followed_extents_by, joined_extents}
 use Rattle.sl_shape.specs.PatternShapes.{joined_both, joined_shape, list_bytes, name_shape, shape_by, shape_of, token_sizes}
-use Rattle.sl_shapes.specs.Comparing.{compared}
-use Rattle.sl_shapes.specs.Shapes.{Shape, both_where, either_where, extended, followed_by, is_empty, is_fixed, longer_kind, same_kind}
-use Rattle.sl_shapes.specs.declared.shapes.Compared.{Compared}
-use Rattle.sl_shapes.specs.declared.shapes.Compared.TheVariants.{Same, FirstShorter, SecondShorter, Apart}
-use Rattle.sl_shapes.specs.declared.shapes.Kind.{Kind}
-use Rattle.sl_shapes.specs.declared.shapes.Kind.TheVariants.{Fixed, Trailing, Varying}
+use Rattle.sl_shape_tokens.specs.Comparing.{compared}
+use Rattle.sl_shape_tokens.specs.Shapes.{Shape, both_where, either_where, extended, followed_by, is_empty, is_fixed, longer_kind, same_kind}
+use Rattle.sl_shape_tokens.specs.declared.shapes.Compared.{Compared}
+use Rattle.sl_shape_tokens.specs.declared.shapes.Compared.TheVariants.{Same, FirstShorter, SecondShorter, Apart}
+use Rattle.sl_shape_tokens.specs.declared.shapes.Kind.{Kind}
+use Rattle.sl_shape_tokens.specs.declared.shapes.Kind.TheVariants.{Fixed, Trailing, Varying}
 use Rattle.sl_spec.specs.Named.{named}
 use Rattle.sl_spec.specs.declared.tables.Tables.{Tables}
 

@@ -3,10 +3,10 @@ use Rattle.std.proofs.Common.{◌≡◌, ℕ, ◌<◌, ◌≤◌, inl, inr, leng
 use Rattle.std.specs.List.{AllByRecursion}
 use Rattle.sl_ast.specs.Trees.{Constructor}
 use Rattle.sl_ast.specs.Unfolding.{Placed}
-use Rattle.sl_constructors.specs.Listed.{AreListed}
+use Rattle.sl_spec_constructors.specs.Listed.{AreListed}
 use Rattle.sl_cube.specs.declared.Cube.{Cube}
-use Rattle.sl_heights.specs.Heights.{AreHeights, by_height}
-use Rattle.sl_heights.proofs.OneHeight.{heights_one}
+use Rattle.sl_base_graphs.specs.Heights.{AreHeights, by_height}
+use Rattle.sl_base_graphs.proofs.OneHeight.{heights_one}
 use Rattle.sl_shape.specs.PatternShapes.{Shapes}
 use Rattle.sl_shape.specs.Readings.{HasFirstFault, IsShaped}
 use Rattle.sl_shape.specs.Tables.{CtorTells, IsFirstAmong, IsFirstFault, IsTable, appearing, constructors_of, order_by, table_graph}

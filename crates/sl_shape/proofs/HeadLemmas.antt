@@ -5,8 +5,8 @@ use Rattle.std.specs.List.{AllByRecursion}
 use Rattle.std.specs.Prelude.{IfOk}
 use Rattle.sl_ast.specs.Trees.{Head, Pattern}
 use Rattle.sl_cube.specs.declared.Cube.{Cube}
-use Rattle.sl_patterns.specs.Heads.{AreHeadCubes, IsHeadWindow, KeepsOthers}
-use Rattle.sl_patterns.proofs.HeadLemmas.{others_both, others_first, others_rest}
+use Rattle.sl_shape_patterns.specs.Heads.{AreHeadCubes, IsHeadWindow, KeepsOthers}
+use Rattle.sl_shape_patterns.proofs.HeadLemmas.{others_both, others_first, others_rest}
 use Rattle.sl_shape.specs.Below.{IsShaped, Shows, shapes_in}
 use Rattle.sl_shape.specs.HeadsMade.{AreRight, IsHeadShape, KeepsShapes, by_extents}
 use Rattle.sl_shape.specs.PatternShapes.{Shapes}
@@ -15,8 +15,8 @@ use Rattle.sl_shape.specs.declared.below.HeadsMade.{HeadsMade}
 use Rattle.sl_shape.specs.declared.below.TokenLists.{TokenLists}
 use Rattle.sl_shape.specs.declared.stop.Stop.{Stop}
 use Rattle.sl_shape.proofs.BelowLemmas.{all_seen, all_there, gets_same, keeps_same, keeps_there, seen_more, shows_more}
-use Rattle.sl_shapes.specs.Lists.{IsThere, Keeps}
-use Rattle.sl_shapes.specs.declared.shapes.Shape as code
+use Rattle.sl_shape_tokens.specs.Lists.{IsThere, Keeps}
+use Rattle.sl_shape_tokens.specs.declared.shapes.Shape as code
 use Rattle.sl_spec.specs.Numbers.{AreMade, AreMadeFor, AreTold, KeepsMade}
 use Rattle.sl_spec.specs.declared.unfolded.Around.{Around}
 

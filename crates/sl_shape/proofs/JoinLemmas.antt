@@ -14,7 +14,7 @@ use Rattle.sl_shape.specs.declared.below.TokenLists.{TokenLists}
 use Rattle.sl_shape.specs.declared.stop.Stop.{Stop}
 use Rattle.sl_spec.specs.Unfolded.{under}
 use Rattle.sl_shape.proofs.BelowLemmas.{shaped_group, shaped_joined, shaped_side, side_more, told_both, told_group}
-use Rattle.sl_shapes.specs.declared.shapes.Shape.{Shape}
+use Rattle.sl_shape_tokens.specs.declared.shapes.Shape.{Shape}
 
 pub for_right : (b : Below) (old new : TokenLists) (first second : Shape) (op to : PatternOp) → op ≡ to → (q : Pattern) (r : Result Shape Stop)
     → IfOk r (λ s. (shapes : Shapes) (p q : Pattern) → Shows b old shapes → IsSide b old shapes p first → IsSide b old shapes q second → IsJoined b shapes old new op p q s)

@@ -5,10 +5,10 @@ use Rattle.sl_ast.specs.Trees.{Constructor, Head, Pattern}
 use Rattle.sl_ast.specs.Unfolding as u
 use Rattle.sl_ast.specs.Views.{head_of}
 use Rattle.sl_cube.specs.declared.Cube.{Cube}
-use Rattle.sl_patterns.specs.Heads.{AreHeadCubes, IsElsewhere, IsHeadCount, IsHeadWindow, KeepsOthers}
-use Rattle.sl_patterns.specs.Patterns.{hull_at}
-use Rattle.sl_patterns.specs.Windows.{PatternConstrains}
-use Rattle.sl_patterns.proofs.OneHull.{alike_same}
+use Rattle.sl_shape_patterns.specs.Heads.{AreHeadCubes, IsElsewhere, IsHeadCount, IsHeadWindow, KeepsOthers}
+use Rattle.sl_shape_patterns.specs.Patterns.{hull_at}
+use Rattle.sl_shape_patterns.specs.Windows.{PatternConstrains}
+use Rattle.sl_shape_patterns.proofs.OneHull.{alike_same}
 use Rattle.sl_shape.specs.Below.{shapes_in}
 use Rattle.sl_shape.specs.Extents.{extent_bytes, extent_of}
 use Rattle.sl_shape.specs.Faults.{ShapeTells}

@@ -2,13 +2,13 @@
 use Rattle.std.proofs.Common.{◌≡◌, ℕ, ◌<◌, ◌≤◌, List, [], ◌∷◌, Option, Some, None, refl, ap, subst, arith}
 use Rattle.std.specs.Prelude.{slice_get}
 use Rattle.sl_ast.specs.Trees.{Pattern}
-use Rattle.sl_constraints.specs.Sets.{IsUnionOf}
-use Rattle.sl_constraints.specs.Windows.{IsEnd}
+use Rattle.sl_shape_constraints.specs.Sets.{IsUnionOf}
+use Rattle.sl_shape_constraints.specs.Windows.{IsEnd}
 use Rattle.sl_cube.specs.Points.{InRange, IsIn, IsInSome}
 use Rattle.sl_cube.specs.declared.Cube.{Cube}
 use Rattle.sl_cube.specs.declared.Point.{Point}
-use Rattle.sl_patterns.specs.Patterns.{PatternHolds}
-use Rattle.sl_patterns.specs.Windows.{IsWindow, PatternConstrains}
+use Rattle.sl_shape_patterns.specs.Patterns.{PatternHolds}
+use Rattle.sl_shape_patterns.specs.Windows.{IsWindow, PatternConstrains}
 use Rattle.sl_shape.specs.Extents.{extent_bytes, extent_of}
 use Rattle.sl_shape.specs.Faults.{PointTells, WindowTells}
 use Rattle.sl_shape.specs.HeadsMade.{by_extents}
@@ -17,7 +17,7 @@ use Rattle.sl_shape.specs.declared.faults.Fault.TheVariants as fault
 use Rattle.sl_shape.proofs.AlikeLemmas.{alike_shaped, constrains_alike, end_same}
 use Rattle.sl_shape.proofs.ExtentOfShapeLemmas.{inside_some}
 use Rattle.sl_shape.proofs.HoldLemmas.{union_shaped}
-use Rattle.sl_shapes.specs.Shapes.{Shape}
+use Rattle.sl_shape_tokens.specs.Shapes.{Shape}
 use Rattle.sl_spec.specs.declared.tables.Tables.{Tables}
 
 pub first_has : (cubes : List Cube) (f : Cube) → Some f ≡ slice_get cubes 0 → (x : Point) → IsIn x f → IsInSome cubes x

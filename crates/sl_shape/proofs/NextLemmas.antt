@@ -6,15 +6,15 @@ use Rattle.std.specs.Prelude.{option_and_then, slice_get}
 use Rattle.sl_ast.specs.Trees.{Constructor}
 use Rattle.sl_ast.specs.Unfolding.{Placed}
 use Rattle.sl_cube.specs.declared.Cube.{Cube}
-use Rattle.sl_heights.specs.Heights.{AreHeights}
-use Rattle.sl_patterns.specs.Hulls.{IsHullOrNone}
+use Rattle.sl_base_graphs.specs.Heights.{AreHeights}
+use Rattle.sl_shape_patterns.specs.Hulls.{IsHullOrNone}
 use Rattle.sl_shape.specs.Next.{IsNext, shapes_known}
 use Rattle.sl_shape.specs.PatternShapes.{Shapes}
 use Rattle.sl_shape.specs.Tables.{CtorHolds, CtorTells, HasSets, IfSetAt, IsTable, constructors_of, ctor_shape, numbers, table_graph}
 use Rattle.sl_shape.specs.declared.shaping.Known.{Known}
 use Rattle.sl_shape.proofs.CarryLemmas.{AgreeAt, all_each, sets_carried}
 use Rattle.sl_shape.proofs.PutLemmas as put
-use Rattle.sl_shapes.specs.Shapes.{of_nothing, of_table}
+use Rattle.sl_shape_tokens.specs.Shapes.{of_nothing, of_table}
 use Rattle.sl_spec.proofs.KeyedLemmas.{all_push}
 use Rattle.sl_spec.specs.declared.tables.Tables.{Tables}
 

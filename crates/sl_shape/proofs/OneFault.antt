@@ -5,20 +5,20 @@ use Rattle.sl_ast.specs.Trees.{Constructor, Pattern, bare, constraint, group, el
 use Rattle.sl_ast.specs.Unfolding.{Placed}
 use Rattle.sl_ast.specs.declared.patterns.PatternOp.{PatternOp}
 use Rattle.sl_ast.specs.declared.patterns.PatternOp.TheVariants.{And, Then, Or}
-use Rattle.sl_constraints.specs.Windows.{IsEnd}
-use Rattle.sl_constraints.proofs.OneCount.{end_one}
+use Rattle.sl_shape_constraints.specs.Windows.{IsEnd}
+use Rattle.sl_shape_constraints.proofs.OneCount.{end_one}
 use Rattle.sl_cube.specs.declared.Cube.{Cube}
-use Rattle.sl_patterns.specs.Patterns.{told}
-use Rattle.sl_patterns.specs.Windows.{PatternConstrains}
-use Rattle.sl_patterns.proofs.OneCount.{pattern_count_one}
-use Rattle.sl_shape.specs.Faults.{BehindTells, CountTells, DifferTells, JoinTells, OrElse, PointTells, ShapeTells, Tells, WindowTells}
+use Rattle.sl_shape_patterns.specs.Patterns.{told}
+use Rattle.sl_shape_patterns.specs.Windows.{PatternConstrains}
+use Rattle.sl_shape_patterns.proofs.OneCount.{pattern_count_one}
+use Rattle.sl_shape.specs.Faults.{BehindTells, CountTells, DifferTells, JoinTells, OrElse, PatternTells, PointTells, ShapeTells, WindowTells}
 use Rattle.sl_shape.specs.PatternShapes.{Shapes, pattern_bytes, reading, shape_of}
 use Rattle.sl_shape.specs.Tables.{CtorTells, IfTells, named_by, pattern_at, tables_named}
 use Rattle.sl_shape.specs.declared.faults.Fault.{Fault}
 use Rattle.sl_shape.specs.declared.faults.Fault.TheVariants as fault
 use Rattle.sl_shape.proofs.AlikeLemmas.{constrains_alike}
 use Rattle.sl_shape.proofs.CarryLemmas.{Agree, AgreeAt, alike_same, all_left, all_right, bytes_same, holds_same, shape_same}
-use Rattle.sl_shapes.specs.Shapes.{Shape}
+use Rattle.sl_shape_tokens.specs.Shapes.{Shape}
 use Rattle.sl_spec.specs.declared.tables.Tables.{Tables}
 
 -- What the one tells and what the other tells is the same.
@@ -111,7 +111,7 @@ module _ (t : Tables) (s r : Shapes) (h k : List (Option Cube)) where
   point_one p all (Some f) None x y = absurd (x.1 y.0 y.1 ((holds_same t s r h k p all y.0 y.1).1 y.2))
   point_one p all (Some f) (Some g) x y = ap (λ (f : Fault). Some f) (x.0 ∙ sym y.0)
 
-  pub tells_one : (p : Pattern) → Agreed p → TellAlike (Tells t s h p) (Tells t r k p)
+  pub tells_one : (p : Pattern) → Agreed p → TellAlike (PatternTells t s h p) (PatternTells t r k p)
   tells_one p all = or_else_one (CountTells t p) (CountTells t p)
       (OrElse (ShapeTells t s h p) (OrElse (WindowTells t s h p) (PointTells t s h p)))
       (OrElse (ShapeTells t r k p) (OrElse (WindowTells t r k p) (PointTells t r k p)))

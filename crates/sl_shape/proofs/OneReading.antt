@@ -3,19 +3,19 @@ use Rattle.std.proofs.Common.{◌≡◌, ℕ, zero, suc, ◌<◌, length, List, 
 use Rattle.std.specs.List.{AllByRecursion, Any}
 use Rattle.sl_ast.specs.Trees.{Constructor, Pattern}
 use Rattle.sl_ast.specs.Unfolding.{Placed}
-use Rattle.sl_constructors.specs.Listed.{AreListed}
+use Rattle.sl_spec_constructors.specs.Listed.{AreListed}
 use Rattle.sl_cube.specs.Points.{InRange}
 use Rattle.sl_cube.specs.declared.Cube.{Cube}
 use Rattle.sl_cube.specs.declared.Point.{Point}
-use Rattle.sl_heights.specs.Heights.{AreHeights}
-use Rattle.sl_patterns.specs.Patterns.{hull_at}
-use Rattle.sl_patterns.proofs.OneHull.{hulls_alike}
+use Rattle.sl_base_graphs.specs.Heights.{AreHeights}
+use Rattle.sl_shape_patterns.specs.Patterns.{hull_at}
+use Rattle.sl_shape_patterns.proofs.OneHull.{hulls_alike}
 use Rattle.sl_shape.specs.PatternShapes.{Shapes}
 use Rattle.sl_shape.specs.Tables.{CtorHolds, CtorTells, IfHolds, IfTells, IsTable, constructors_of, named_by, pattern_at, table_graph}
 use Rattle.sl_shape.proofs.CarryLemmas.{Agree, AgreeAt, all_each, hull_same, shapes_same}
 use Rattle.sl_shape.proofs.OrderLemmas.{named_below}
 use Rattle.sl_shape.proofs.StandLemmas.{named_by_within, numbers_within, some_number}
-use Rattle.sl_shapes.specs.Shapes.{of_table}
+use Rattle.sl_shape_tokens.specs.Shapes.{of_table}
 use Rattle.sl_spec.specs.declared.tables.Tables.{Tables}
 
 all_two : {X : Type 0} (P Q R : X → Type 0) → ((x : X) → P x → Q x → R x) → (xs : List X) → AllByRecursion P xs → AllByRecursion Q xs → AllByRecursion R xs

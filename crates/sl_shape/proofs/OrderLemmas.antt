@@ -4,9 +4,9 @@ use Rattle.std.specs.List.{AllByRecursion, filter, flat_map, range_with_len}
 use Rattle.std.specs.Prelude.{slice_get}
 use Rattle.sl_ast.specs.Trees.{Constructor}
 use Rattle.sl_ast.specs.Unfolding.{Placed}
-use Rattle.sl_heights.specs.Heights.{AreHeights, above, by_height}
-use Rattle.sl_levels.specs.Reaching.{Graph, successors}
-use Rattle.sl_rules.specs.Gathered.{gathered}
+use Rattle.sl_base_graphs.specs.Heights.{AreHeights, above, by_height}
+use Rattle.sl_base_graphs.specs.Reaching.{Graph, successors}
+use Rattle.sl_spec_rules.specs.Gathered.{gathered}
 use Rattle.sl_shape.specs.Tables.{constructors_of, named_by, numbers, pattern_at, table_graph}
 use Rattle.sl_shape.proofs.CarryLemmas.{all_each, all_left, all_right}
 use Rattle.sl_spec.specs.Tables.{Table}

@@ -13,7 +13,7 @@ use Rattle.sl_shape.specs.declared.shaping.Known.{Known}
 use Rattle.sl_shape.proofs.AddLoopLemmas.{error_map}
 use Rattle.sl_shape.proofs.NextLemmas.{next_sets, next_tables, sets_past, tables_past}
 use Rattle.sl_shape.proofs.OrderLemmas.{IsSorted, all_before, sorted}
-use Rattle.sl_shapes.specs.Lists.{seen}
+use Rattle.sl_shape_tokens.specs.Lists.{seen}
 use Rattle.sl_spec.specs.declared.tables.Tables.{Tables}
 
 pub read_any : (xs : List ℕ) (i d e : ℕ) → i < length xs → get_or xs i d ≡ get_or xs i e

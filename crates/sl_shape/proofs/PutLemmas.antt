@@ -6,15 +6,15 @@ use Rattle.std.specs.Prelude.{option_and_then}
 use Rattle.sl_ast.specs.Trees.{Constructor}
 use Rattle.sl_ast.specs.Unfolding.{Placed}
 use Rattle.sl_cube.specs.declared.Cube.{Cube}
-use Rattle.sl_heights.specs.Heights.{AreHeights}
-use Rattle.sl_patterns.specs.Hulls.{IsHullOrNone}
-use Rattle.sl_patterns.specs.Patterns.{hull_at}
-use Rattle.sl_patterns.proofs.OneHull.{alike_same}
+use Rattle.sl_base_graphs.specs.Heights.{AreHeights}
+use Rattle.sl_shape_patterns.specs.Hulls.{IsHullOrNone}
+use Rattle.sl_shape_patterns.specs.Patterns.{hull_at}
+use Rattle.sl_shape_patterns.proofs.OneHull.{alike_same}
 use Rattle.sl_shape.specs.PatternShapes.{Shapes}
 use Rattle.sl_shape.specs.Tables.{CtorHolds, CtorTells, IsTable, constructors_of, ctor_shape, named_by, pattern_at, table_graph}
 use Rattle.sl_shape.proofs.CarryLemmas.{Agree, AgreeAt, all_each, all_tell, hull_same, shapes_same, table_carried}
 use Rattle.sl_shape.proofs.OrderLemmas.{named_below, set_here, set_other}
-use Rattle.sl_shapes.specs.Shapes.{Shape, of_nothing, of_table}
+use Rattle.sl_shape_tokens.specs.Shapes.{Shape, of_nothing, of_table}
 use Rattle.sl_spec.proofs.KeyedLemmas.{all_push}
 use Rattle.sl_spec.specs.declared.tables.Tables.{Tables}
 

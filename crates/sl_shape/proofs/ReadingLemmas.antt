@@ -2,11 +2,11 @@
 use Rattle.std.proofs.Common.{◌↔◌, ℕ, ◌<◌, length, List, Option}
 use Rattle.sl_ast.specs.Trees.{Constructor}
 use Rattle.sl_ast.specs.Unfolding.{Placed}
-use Rattle.sl_constructors.specs.Listed.{AreListed}
+use Rattle.sl_spec_constructors.specs.Listed.{AreListed}
 use Rattle.sl_cube.specs.Points.{InRange}
 use Rattle.sl_cube.specs.declared.Cube.{Cube}
 use Rattle.sl_cube.specs.declared.Point.{Point}
-use Rattle.sl_settle.specs.declared.CubeSet.{CubeSet}
+use Rattle.sl_cube_sets.specs.declared.CubeSet.{CubeSet}
 use Rattle.sl_shape.specs.PatternShapes.{Shapes}
 use Rattle.sl_shape.specs.Readings.{AreRead, HasItsSet, HasPoint, IsShaped}
 use Rattle.sl_shape.specs.Tables.{AreShaped, CtorHolds, HasSets, IfSetAt, IsSetAt, IsTable, constructors_of, named_by, order_by, pattern_at}

@@ -9,11 +9,11 @@ use Rattle.sl_ast.specs.Unfolding.{Placed}
 use Rattle.sl_cube.specs.Points.{InRange}
 use Rattle.sl_cube.specs.declared.Cube.{Cube}
 use Rattle.sl_cube.specs.declared.Point.{Point}
-use Rattle.sl_patterns.specs.Hulls.{IsHullOrNone, TableHas}
-use Rattle.sl_patterns.proofs.HullLemmas.{found_same}
-use Rattle.sl_settle.specs.Sets.{HasAt}
-use Rattle.sl_settle.specs.Unions.{has_set}
-use Rattle.sl_settle.specs.declared.CubeSet.{CubeSet}
+use Rattle.sl_shape_patterns.specs.Hulls.{IsHullOrNone, TableHas}
+use Rattle.sl_shape_patterns.proofs.HullLemmas.{found_same}
+use Rattle.sl_cube_sets.specs.Sets.{HasAt}
+use Rattle.sl_cube_sets.specs.Unions.{has_set}
+use Rattle.sl_cube_sets.specs.declared.CubeSet.{CubeSet}
 use Rattle.sl_shape.specs.Adding.{AreAdded, IsFirstIn}
 use Rattle.sl_shape.specs.Below.{AreSized, Shows}
 use Rattle.sl_shape.specs.HeadsMade.{AreSameBut}
@@ -28,10 +28,10 @@ use Rattle.sl_shape.proofs.AddLoopLemmas.{error_map}
 use Rattle.sl_shape.proofs.BelowLemmas.{all_seen}
 use Rattle.sl_shape.proofs.CarryLemmas.{any_each}
 use Rattle.sl_shape.proofs.PutLemmas.{hull_other, shape_other}
-use Rattle.sl_shapes.proofs.ListLemmas.{keeps_more}
-use Rattle.sl_shapes.specs.Lists.{IsThere, Keeps, seen}
-use Rattle.sl_shapes.specs.Shapes.{of_table}
-use Rattle.sl_shapes.specs.declared.shapes.Shape as code
+use Rattle.sl_shape_tokens.proofs.ListLemmas.{keeps_more}
+use Rattle.sl_shape_tokens.specs.Lists.{IsThere, Keeps, seen}
+use Rattle.sl_shape_tokens.specs.Shapes.{of_table}
+use Rattle.sl_shape_tokens.specs.declared.shapes.Shape as code
 use Rattle.sl_spec.specs.declared.tables.Tables.{Tables}
 
 map_set : {A B : Type 0} (f : A → B) (xs : List A) (i : ℕ) (x : A) → map f (set xs i x) ≡ set (map f xs) i (f x)

@@ -5,24 +5,24 @@ use Rattle.sl_ast.specs.Trees.{Constructor, Pattern, bare, constraint, group, el
 use Rattle.sl_ast.specs.Unfolding.{Placed}
 use Rattle.sl_ast.specs.declared.patterns.PatternOp.{PatternOp}
 use Rattle.sl_ast.specs.declared.patterns.PatternOp.TheVariants.{And, Then, Or}
-use Rattle.sl_constraints.specs.Values.{Constraint}
-use Rattle.sl_constraints.specs.Windows.{IsEnd}
-use Rattle.sl_constraints.proofs.SomeCount.{bytes_in, constrains_within, some_end}
-use Rattle.sl_surely.specs.Surely.{Surely}
-use Rattle.sl_surely.proofs.SurelyLemmas.{surely, surely_each, surely_either, surely_map, surely_then}
+use Rattle.sl_shape_constraints.specs.Values.{Constraint}
+use Rattle.sl_shape_constraints.specs.Windows.{IsEnd}
+use Rattle.sl_shape_constraints.proofs.SomeCount.{bytes_in, constrains_within, some_end}
+use Rattle.sl_base_surely.specs.Surely.{Surely}
+use Rattle.sl_base_surely.proofs.SurelyLemmas.{surely, surely_each, surely_either, surely_map, surely_then}
 use Rattle.sl_cube.specs.Points.{InRange}
 use Rattle.sl_cube.specs.declared.Cube.{Cube}
 use Rattle.sl_cube.specs.declared.Point.{Point}
-use Rattle.sl_patterns.specs.Counts.{HasPatternCount}
-use Rattle.sl_patterns.specs.Patterns.{Reading, constraint_of, hull_named, is_open, right_place, told}
-use Rattle.sl_patterns.specs.Windows.{FixesByte, FromPlace, IfConstrains, IfFixesByte, NameConstrains, PatternConstrains}
-use Rattle.sl_patterns.proofs.OneCount.{some_pattern_count}
-use Rattle.sl_shape.specs.Faults.{BehindTells, CountTells, DifferTells, Holds, JoinTells, OrElse, PointTells, ShapeTells, Tells, WindowTells, most_cubes, most_window}
+use Rattle.sl_shape_patterns.specs.Counts.{HasPatternCount}
+use Rattle.sl_shape_patterns.specs.Patterns.{Reading, constraint_of, hull_named, is_open, right_place, told}
+use Rattle.sl_shape_patterns.specs.Windows.{FixesByte, FromPlace, IfConstrains, IfFixesByte, NameConstrains, PatternConstrains}
+use Rattle.sl_shape_patterns.proofs.OneCount.{some_pattern_count}
+use Rattle.sl_shape.specs.Faults.{BehindTells, CountTells, DifferTells, JoinTells, OrElse, PatternHoldsAt, PatternTells, PointTells, ShapeTells, WindowTells, most_cubes, most_window}
 use Rattle.sl_shape.specs.PatternShapes.{Shapes, pattern_bytes, reading, shape_of}
 use Rattle.sl_shape.specs.Tables.{CtorTells, IfTells, pattern_at}
 use Rattle.sl_shape.specs.declared.faults.Fault.{Fault}
 use Rattle.sl_shape.specs.declared.faults.Fault.TheVariants as fault
-use Rattle.sl_shapes.specs.Shapes.{Shape}
+use Rattle.sl_shape_tokens.specs.Shapes.{Shape}
 use Rattle.sl_spec.specs.FieldValues.{token_of}
 use Rattle.sl_spec.specs.declared.tables.Tables.{Tables}
 
@@ -106,14 +106,14 @@ module _ (r : Reading) where
 module _ (t : Tables) (s : Shapes) (h : List (Option Cube)) where
   -- It doesn't hold at this point.
   abbrev FailsSomewhere : Pattern → Type 0
-  FailsSomewhere q = (x : Point) × InRange x × (Holds t s h q x → ⊥)
+  FailsSomewhere q = (x : Point) × InRange x × (PatternHoldsAt t s h q x → ⊥)
 
   some_behind : (o : Option ℕ) (q : Pattern) → Surely (HasAnswer (BehindTells t s h o q))
   some_behind (Some bytes) q = surely (None, refl)
   some_behind None q = surely_then {B = HasAnswer (BehindTells t s h None q)} (surely_either (FailsSomewhere q)) (λ found. elim found [
     | inl fails ↦ surely (Some fault.InteriorEllipsis, (refl, fails))
     | inr never ↦ surely_map {B = HasAnswer (BehindTells t s h None q)} (λ all. (None, all))
-        (surely_points (Holds t s h q) (λ x range. λ fails. never (x, range, fails)))
+        (surely_points (PatternHoldsAt t s h q) (λ x range. λ fails. never (x, range, fails)))
   ])
 
   some_join : (op : PatternOp) (p q : Pattern) → Surely (HasAnswer (JoinTells t s h op p q))
@@ -142,9 +142,9 @@ module _ (t : Tables) (s : Shapes) (h : List (Option Cube)) where
   some_point_tells p = surely_map {B = HasAnswer (PointTells t s h p)} (λ found. elim found [
     | inl point ↦ (None, point)
     | inr none ↦ (Some fault.Impossible, (refl, λ x range holds. none (x, range, holds)))
-  ]) (surely_either ((x : Point) × InRange x × Holds t s h p x))
+  ]) (surely_either ((x : Point) × InRange x × PatternHoldsAt t s h p x))
 
-  pub some_tells : (p : Pattern) → Surely (HasAnswer (Tells t s h p))
+  pub some_tells : (p : Pattern) → Surely (HasAnswer (PatternTells t s h p))
   some_tells p = surely_or_else (CountTells t p) (OrElse (ShapeTells t s h p) (OrElse (WindowTells t s h p) (PointTells t s h p)))
       (some_count_tells t p)
       (surely_or_else (ShapeTells t s h p) (OrElse (WindowTells t s h p) (PointTells t s h p)) (some_shape_tells p)

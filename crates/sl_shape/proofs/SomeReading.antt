@@ -4,15 +4,15 @@ use Rattle.std.proofs.lemmas.List.{append-nil, length-map, length-set}
 use Rattle.std.specs.List.{AllByRecursion, Any}
 use Rattle.sl_ast.specs.Trees.{Constructor}
 use Rattle.sl_ast.specs.Unfolding.{Placed}
-use Rattle.sl_surely.specs.Surely.{Surely}
-use Rattle.sl_surely.proofs.SurelyLemmas.{surely, surely_map, surely_then}
-use Rattle.sl_constructors.specs.Listed.{AreListed}
+use Rattle.sl_base_surely.specs.Surely.{Surely}
+use Rattle.sl_base_surely.proofs.SurelyLemmas.{surely, surely_map, surely_then}
+use Rattle.sl_spec_constructors.specs.Listed.{AreListed}
 use Rattle.sl_cube.specs.declared.Cube.{Cube}
-use Rattle.sl_heights.specs.Heights.{AreHeights}
-use Rattle.sl_heights.proofs.SomeHeights.{some_heights}
-use Rattle.sl_levels.specs.Orders.{NoneReaches}
-use Rattle.sl_patterns.specs.Hulls.{IsHullOrNone}
-use Rattle.sl_patterns.proofs.SomeHull.{some_hull}
+use Rattle.sl_base_graphs.specs.Heights.{AreHeights}
+use Rattle.sl_base_graphs.proofs.SomeHeights.{some_heights}
+use Rattle.sl_base_graphs.specs.Orders.{NoneReaches}
+use Rattle.sl_shape_patterns.specs.Hulls.{IsHullOrNone}
+use Rattle.sl_shape_patterns.proofs.SomeHull.{some_hull}
 use Rattle.sl_shape.specs.PatternShapes.{Shapes}
 use Rattle.sl_shape.specs.Readings.{HasFirstFault, IsShaped}
 use Rattle.sl_shape.specs.Tables.{CtorHolds, CtorTells, IsTable, constructors_of, ctor_shape, order_by, table_graph}
@@ -22,7 +22,7 @@ use Rattle.sl_shape.proofs.FirstLemmas.{IsFirstTold}
 use Rattle.sl_shape.proofs.PutLemmas.{tables_put}
 use Rattle.sl_shape.proofs.SomeFault.{some_ctor_tells}
 use Rattle.sl_shape.proofs.StandLemmas.{before_low, order_below}
-use Rattle.sl_shapes.specs.Shapes.{Shape, of_nothing, of_table}
+use Rattle.sl_shape_tokens.specs.Shapes.{Shape, of_nothing, of_table}
 use Rattle.sl_spec.specs.declared.tables.Tables.{Tables}
 
 -- ---- the constructors of a table

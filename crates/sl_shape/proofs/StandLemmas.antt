@@ -5,8 +5,8 @@ use Rattle.std.specs.Prelude.{slice_get}
 use Rattle.std.proofs.lemmas.List.Quantifiers.{position-Some}
 use Rattle.sl_ast.specs.Trees.{Constructor, Name, Pattern, bare, constraint, group, ellipsis, joined}
 use Rattle.sl_ast.specs.Unfolding.{Placed}
-use Rattle.sl_constructors.specs.Listed.{AreListed, is_of, numbers_of}
-use Rattle.sl_heights.specs.Heights.{above, by_height}
+use Rattle.sl_spec_constructors.specs.Listed.{AreListed, is_of, numbers_of}
+use Rattle.sl_base_graphs.specs.Heights.{above, by_height}
 use Rattle.sl_shape.specs.Tables.{appearing, appearing_from, begins, constructors_of, named_by, numbers, one_or_none, order_by, tables_named}
 use Rattle.sl_shape.proofs.AmongLemmas.{IsAmong, all_among, among_all, among_either, behind_if, first_in, from_filter, from_flat, from_range, here_if, in_filter, in_flat, in_range}
 use Rattle.sl_shape.proofs.ExtentOfShapeLemmas.{inside_some}

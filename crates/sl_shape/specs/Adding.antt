@@ -3,7 +3,7 @@ use Rattle.std.specs.Prelude.{◌≡◌, ℕ, List, ◌∷◌, ◌++◌, Some, N
 use Rattle.std.specs.List.{AllByRecursion}
 use Rattle.sl_ast.specs.Trees.{Constructor}
 use Rattle.sl_ast.specs.Unfolding.{Placed}
-use Rattle.sl_settle.specs.declared.CubeSet.{CubeSet}
+use Rattle.sl_cube_sets.specs.declared.CubeSet.{CubeSet}
 use Rattle.sl_shape.specs.Below.{Gets, Shows}
 use Rattle.sl_shape.specs.PatternShapes.{Shapes}
 use Rattle.sl_shape.specs.Tables.{CtorTells, IfSetAt, IsError, IsSetAt, ctor_shape}
@@ -14,8 +14,8 @@ use Rattle.sl_shape.specs.declared.errors.ShapeError.TheVariants as error
 use Rattle.sl_shape.specs.declared.faults.Fault.{Fault}
 use Rattle.sl_shape.specs.declared.stop.Stop.{Stop}
 use Rattle.sl_shape.specs.declared.stop.Stop.TheVariants as stop
-use Rattle.sl_shapes.specs.Lists.{IsThere, Keeps, seen}
-use Rattle.sl_shapes.specs.declared.shapes.Shape as code
+use Rattle.sl_shape_tokens.specs.Lists.{IsThere, Keeps, seen}
+use Rattle.sl_shape_tokens.specs.declared.shapes.Shape as code
 
 -- The error tells the stop at this constructor.
 abbrev pub IsStop : ℕ → Stop → ShapeError → Type 0

@@ -7,10 +7,10 @@ use Rattle.sl_shape.specs.Faults.{JoinTells, ShapeTells}
 use Rattle.sl_shape.specs.PatternShapes.{shape_of, token_sizes}
 use Rattle.sl_shape.specs.declared.below.Below.{Below}
 use Rattle.sl_shape.specs.declared.below.TokenLists.{TokenLists}
-use Rattle.sl_shapes.specs.Bytes.{Knows}
-use Rattle.sl_shapes.specs.Lists.{IsThere, Keeps, seen}
-use Rattle.sl_shapes.specs.Shapes.{Shape}
-use Rattle.sl_shapes.specs.declared.shapes.Shape as code
+use Rattle.sl_shape_tokens.specs.Bytes.{Knows}
+use Rattle.sl_shape_tokens.specs.Lists.{IsThere, Keeps, seen}
+use Rattle.sl_shape_tokens.specs.Shapes.{Shape}
+use Rattle.sl_shape_tokens.specs.declared.shapes.Shape as code
 
 -- the shapes of the tables
 abbrev pub shapes_in : Below → TokenLists → List Shape

@@ -5,12 +5,12 @@ use Rattle.std.specs.Prelude.{Option, Some, None}
 use Rattle.sl_ast.specs.Trees.{Pattern, bare, constraint, group, ellipsis, joined}
 use Rattle.sl_ast.specs.declared.patterns.PatternOp.{PatternOp}
 use Rattle.sl_ast.specs.declared.patterns.PatternOp.TheVariants.{And, Then, Or}
-use Rattle.sl_patterns.specs.Patterns.{told}
+use Rattle.sl_shape_patterns.specs.Patterns.{told}
 use Rattle.sl_shape.specs.PatternShapes.{list_bytes, name_shape, shape_by}
 use Rattle.sl_shape.specs.declared.extent.Extent as code
-use Rattle.sl_shapes.specs.Shapes.{Shape, extended_kind, is_empty, is_fixed}
-use Rattle.sl_shapes.specs.declared.shapes.Kind.{Kind}
-use Rattle.sl_shapes.specs.declared.shapes.Kind.TheVariants.{Fixed, Trailing, Varying}
+use Rattle.sl_shape_tokens.specs.Shapes.{Shape, extended_kind, is_empty, is_fixed}
+use Rattle.sl_shape_tokens.specs.declared.shapes.Kind.{Kind}
+use Rattle.sl_shape_tokens.specs.declared.shapes.Kind.TheVariants.{Fixed, Trailing, Varying}
 use Rattle.sl_spec.specs.Named.{named}
 use Rattle.sl_spec.specs.declared.tables.Tables.{Tables}
 

@@ -3,18 +3,18 @@ use Rattle.std.specs.Prelude.{◌≡◌, ◌⊎◌, ℕ, ◌≤◌, ◌<◌, Lis
 use Rattle.sl_ast.specs.Trees.{Pattern, bare, constraint, group, ellipsis, joined}
 use Rattle.sl_ast.specs.declared.patterns.PatternOp.{PatternOp}
 use Rattle.sl_ast.specs.declared.patterns.PatternOp.TheVariants.{And, Then, Or}
-use Rattle.sl_constraints.specs.Sets.{IsNowhere}
-use Rattle.sl_constraints.specs.Windows.{IsEnd}
+use Rattle.sl_shape_constraints.specs.Sets.{IsNowhere}
+use Rattle.sl_shape_constraints.specs.Windows.{IsEnd}
 use Rattle.sl_cube.specs.Points.{InRange}
 use Rattle.sl_cube.specs.declared.Cube.{Cube}
 use Rattle.sl_cube.specs.declared.Point.{Point}
-use Rattle.sl_patterns.specs.Counts.{HasPatternCount}
-use Rattle.sl_patterns.specs.Patterns.{PatternHolds, told}
-use Rattle.sl_patterns.specs.Windows.{PatternConstrains}
+use Rattle.sl_shape_patterns.specs.Counts.{HasPatternCount}
+use Rattle.sl_shape_patterns.specs.Patterns.{PatternHolds, told}
+use Rattle.sl_shape_patterns.specs.Windows.{PatternConstrains}
 use Rattle.sl_shape.specs.PatternShapes.{pattern_bytes, reading, shape_of}
 use Rattle.sl_shape.specs.declared.faults.Fault.{Fault}
 use Rattle.sl_shape.specs.declared.faults.Fault.TheVariants as fault
-use Rattle.sl_shapes.specs.Shapes.{Shape}
+use Rattle.sl_shape_tokens.specs.Shapes.{Shape}
 use Rattle.sl_spec.specs.declared.tables.Tables.{Tables}
 
 -- What is told first: by the first one, and, where that tells nothing, by the second one.
@@ -42,15 +42,15 @@ DifferTells None found = found ≡ Some fault.TokensDiffer
 DifferTells (Some shape) found = found ≡ None
 
 module _ (t : Tables) (shapes : List Shape) (hulls : List (Option Cube)) where
-  abbrev pub Holds : Pattern → Point → Type 0
-  Holds p x = PatternHolds (reading t shapes hulls) p 0 x
+  abbrev pub PatternHoldsAt : Pattern → Point → Type 0
+  PatternHoldsAt p x = PatternHolds (reading t shapes hulls) p 0 x
 
   -- Behind a pattern without a fixed number of bytes there stands one that holds everywhere.
   abbrev pub BehindTells : Option ℕ → Pattern → Option Fault → Type 0
   BehindTells (Some bytes) q found = found ≡ None
-  BehindTells None q None = (x : Point) → InRange x → Holds q x
+  BehindTells None q None = (x : Point) → InRange x → PatternHoldsAt q x
   BehindTells None q (Some f) =
-      (f ≡ fault.InteriorEllipsis) × ((x : Point) × InRange x × (Holds q x → ⊥))
+      (f ≡ fault.InteriorEllipsis) × ((x : Point) × InRange x × (PatternHoldsAt q x → ⊥))
 
   -- the fault of two joined patterns, which have none themselves
   abbrev pub JoinTells : PatternOp → Pattern → Pattern → Option Fault → Type 0
@@ -76,10 +76,10 @@ module _ (t : Tables) (shapes : List Shape) (hulls : List (Option Cube)) where
 
   -- The pattern holds of no point, or there is no fault.
   abbrev pub PointTells : Pattern → Option Fault → Type 0
-  PointTells p None = (x : Point) × InRange x × Holds p x
-  PointTells p (Some f) = (f ≡ fault.Impossible) × IsNowhere (Holds p)
+  PointTells p None = (x : Point) × InRange x × PatternHoldsAt p x
+  PointTells p (Some f) = (f ≡ fault.Impossible) × IsNowhere (PatternHoldsAt p)
 
   -- the first fault of the pattern of a constructor
-  abbrev pub Tells : Pattern → Option Fault → Type 0
-  Tells p found = OrElse (CountTells t p)
+  abbrev pub PatternTells : Pattern → Option Fault → Type 0
+  PatternTells p found = OrElse (CountTells t p)
       (OrElse (ShapeTells p) (OrElse (WindowTells p) (PointTells p))) found

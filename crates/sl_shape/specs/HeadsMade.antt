@@ -4,8 +4,8 @@ use Rattle.std.specs.Global.{Vec}
 use Rattle.std.specs.List.{AllByRecursion}
 use Rattle.sl_ast.specs.Trees.{Head, Pattern}
 use Rattle.sl_cube.specs.declared.Cube.{Cube}
-use Rattle.sl_patterns.specs.Heads.{AreHeadCubes, IsHeadCount, IsHeadWindow}
-use Rattle.sl_patterns.specs.Patterns.{Reading, hull_at}
+use Rattle.sl_shape_patterns.specs.Heads.{AreHeadCubes, IsHeadCount, IsHeadWindow}
+use Rattle.sl_shape_patterns.specs.Patterns.{Reading, hull_at}
 use Rattle.sl_shape.specs.Below.{IsShaped, shapes_in}
 use Rattle.sl_shape.specs.Extents.{extent_bytes, extent_of}
 use Rattle.sl_shape.specs.PatternShapes.{Shapes}
@@ -13,9 +13,9 @@ use Rattle.sl_shape.specs.Tables.{named_by}
 use Rattle.sl_shape.specs.declared.below.Below.{Below}
 use Rattle.sl_shape.specs.declared.below.HeadsMade.{HeadsMade}
 use Rattle.sl_shape.specs.declared.below.TokenLists.{TokenLists}
-use Rattle.sl_shapes.specs.Lists.{IsThere}
-use Rattle.sl_shapes.specs.Shapes.{of_nothing}
-use Rattle.sl_shapes.specs.declared.shapes.Shape as code
+use Rattle.sl_shape_tokens.specs.Lists.{IsThere}
+use Rattle.sl_shape_tokens.specs.Shapes.{of_nothing}
+use Rattle.sl_shape_tokens.specs.declared.shapes.Shape as code
 use Rattle.sl_spec.specs.Numbers.{AreMade, AreTold, AreToldOf}
 use Rattle.sl_spec.specs.declared.tables.Tables.{Tables}
 use Rattle.sl_spec.specs.declared.unfolded.Around.{Around}

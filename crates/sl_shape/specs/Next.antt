@@ -4,16 +4,16 @@ use Rattle.std.specs.List.{AllByRecursion, Any}
 use Rattle.sl_ast.specs.Trees.{Constructor}
 use Rattle.sl_ast.specs.Unfolding.{Placed}
 use Rattle.sl_cube.specs.declared.Cube.{Cube}
-use Rattle.sl_patterns.specs.Hulls.{IsHullOrNone}
+use Rattle.sl_shape_patterns.specs.Hulls.{IsHullOrNone}
 use Rattle.sl_shape.specs.HeadsMade.{AreRightOf}
 use Rattle.sl_shape.specs.PatternShapes.{Shapes, token_sizes}
 use Rattle.sl_shape.specs.Tables.{CtorHolds, CtorTells, IfSetAt, IsSetAt, constructors_of, ctor_shape}
 use Rattle.sl_shape.specs.declared.below.Below.{Below}
 use Rattle.sl_shape.specs.declared.faults.Fault.{Fault}
 use Rattle.sl_shape.specs.declared.shaping.Known.{Known}
-use Rattle.sl_shapes.specs.Bytes.{Knows}
-use Rattle.sl_shapes.specs.Lists.{IsThere, Keeps, seen}
-use Rattle.sl_shapes.specs.Shapes.{of_table}
+use Rattle.sl_shape_tokens.specs.Bytes.{Knows}
+use Rattle.sl_shape_tokens.specs.Lists.{IsThere, Keeps, seen}
+use Rattle.sl_shape_tokens.specs.Shapes.{of_table}
 use Rattle.sl_spec.specs.declared.tables.Tables.{Tables}
 use Rattle.sl_spec.specs.declared.unfolded.Unfolded.{Unfolded}
 

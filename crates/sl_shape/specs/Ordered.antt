@@ -3,7 +3,7 @@ use Rattle.std.specs.Prelude.{◌≡◌, ℕ, List}
 use Rattle.std.specs.List.{AllByRecursion}
 use Rattle.sl_ast.specs.Trees.{Constructor}
 use Rattle.sl_ast.specs.Unfolding.{Placed}
-use Rattle.sl_heights.specs.Heights.{AreHeights}
+use Rattle.sl_base_graphs.specs.Heights.{AreHeights}
 use Rattle.sl_shape.specs.Next.{shapes_known}
 use Rattle.sl_shape.specs.Tables.{HasSets, IsError, IsFirstAmong, IsTable, order_by, table_graph}
 use Rattle.sl_shape.specs.declared.errors.ShapeError.{ShapeError}

@@ -4,11 +4,11 @@ use Rattle.std.specs.Prelude.{Option, Some, None, option_map, option_and_then}
 use Rattle.sl_ast.specs.Trees.{Name, Pattern, bare, constraint, group, ellipsis, joined}
 use Rattle.sl_ast.specs.declared.patterns.PatternOp.{PatternOp}
 use Rattle.sl_ast.specs.declared.patterns.PatternOp.TheVariants.{And, Then, Or}
-use Rattle.sl_constructors.specs.Operands.{is_epsilon}
+use Rattle.sl_spec_constructors.specs.Operands.{is_epsilon}
 use Rattle.sl_cube.specs.declared.Cube.{Cube}
-use Rattle.sl_patterns.specs.Patterns.{Reading}
-use Rattle.sl_shapes.specs.Shapes.{Shape, both, either, extended, followed, is_fixed}
-use Rattle.sl_shapes.specs.Shapes.{of_nothing, of_token}
+use Rattle.sl_shape_patterns.specs.Patterns.{Reading}
+use Rattle.sl_shape_tokens.specs.Shapes.{Shape, both, either, extended, followed, is_fixed}
+use Rattle.sl_shape_tokens.specs.Shapes.{of_nothing, of_token}
 use Rattle.sl_spec.specs.Named.{index_named, named}
 use Rattle.sl_spec.specs.Tables.{Field}
 use Rattle.sl_spec.specs.declared.tables.Tables.{Tables}

@@ -3,11 +3,11 @@ use Rattle.std.specs.Prelude.{◌≡◌, ℕ, List, Option, Some, slice_get}
 use Rattle.std.specs.List.{AllByRecursion}
 use Rattle.sl_ast.specs.Trees.{Constructor}
 use Rattle.sl_ast.specs.Unfolding.{Placed}
-use Rattle.sl_constraints.specs.Sets.{IsUnionOf}
+use Rattle.sl_shape_constraints.specs.Sets.{IsUnionOf}
 use Rattle.sl_cube.specs.declared.Cube.{Cube}
 use Rattle.sl_cube.specs.declared.Point.{Point}
-use Rattle.sl_heights.specs.Heights.{AreHeights}
-use Rattle.sl_settle.specs.declared.CubeSet.{CubeSet}
+use Rattle.sl_base_graphs.specs.Heights.{AreHeights}
+use Rattle.sl_cube_sets.specs.declared.CubeSet.{CubeSet}
 use Rattle.sl_shape.specs.PatternShapes.{Shapes}
 use Rattle.sl_shape.specs.Tables.{CtorHolds, IsFirstFault, IsTable, order_by, table_graph}
 use Rattle.sl_shape.specs.declared.faults.Fault.{Fault}

@@ -5,22 +5,22 @@ use Rattle.std.specs.Prelude.{Option, Some, None, option_and_then, option_map, s
 use Rattle.std.specs.List.{AllByRecursion, Any}
 use Rattle.sl_ast.specs.Trees.{Constructor, Pattern, bare, constraint, group, ellipsis, joined}
 use Rattle.sl_ast.specs.Unfolding.{Placed}
-use Rattle.sl_constraints.specs.Sets.{IsUnionOf}
+use Rattle.sl_shape_constraints.specs.Sets.{IsUnionOf}
 use Rattle.sl_cube.specs.declared.Cube.{Cube}
 use Rattle.sl_cube.specs.declared.Point.{Point}
-use Rattle.sl_heights.specs.Heights.{AreHeights, by_height}
-use Rattle.sl_levels.specs.Reaching.{Graph}
-use Rattle.sl_patterns.specs.Hulls.{IsHullOrNone}
-use Rattle.sl_patterns.specs.Patterns.{hull_at}
-use Rattle.sl_rules.specs.Gathered.{gathered}
-use Rattle.sl_settle.specs.declared.CubeSet.{CubeSet}
-use Rattle.sl_shape.specs.Faults.{Holds, Tells, most_cubes}
+use Rattle.sl_base_graphs.specs.Heights.{AreHeights, by_height}
+use Rattle.sl_base_graphs.specs.Reaching.{Graph}
+use Rattle.sl_shape_patterns.specs.Hulls.{IsHullOrNone}
+use Rattle.sl_shape_patterns.specs.Patterns.{hull_at}
+use Rattle.sl_spec_rules.specs.Gathered.{gathered}
+use Rattle.sl_cube_sets.specs.declared.CubeSet.{CubeSet}
+use Rattle.sl_shape.specs.Faults.{PatternHoldsAt, PatternTells, most_cubes}
 use Rattle.sl_shape.specs.PatternShapes.{Shapes, shape_of}
 use Rattle.sl_shape.specs.declared.errors.ShapeError.{ShapeError}
 use Rattle.sl_shape.specs.declared.errors.ShapeError.TheVariants as error
 use Rattle.sl_shape.specs.declared.faults.Fault.{Fault}
 use Rattle.sl_shape.specs.declared.faults.Fault.TheVariants as fault
-use Rattle.sl_shapes.specs.Shapes.{Shape, of_nothing, of_table}
+use Rattle.sl_shape_tokens.specs.Shapes.{Shape, of_nothing, of_table}
 use Rattle.sl_spec.specs.Named.{index_named}
 use Rattle.sl_spec.specs.Tables.{Ctor, Table}
 use Rattle.sl_spec.specs.declared.tables.Tables.{Tables}
@@ -91,7 +91,7 @@ module _ (t : Tables) (cs : List (Placed Constructor)) (shapes : Shapes)
     (hulls : List (Option Cube)) where
   abbrev pub IfTells : Option Pattern → Option Fault → Type 0
   IfTells None found = found ≡ None
-  IfTells (Some p) found = Tells t shapes hulls p found
+  IfTells (Some p) found = PatternTells t shapes hulls p found
 
   -- the first fault of a constructor
   abbrev pub CtorTells : ℕ → Option Fault → Type 0
@@ -99,7 +99,7 @@ module _ (t : Tables) (cs : List (Placed Constructor)) (shapes : Shapes)
 
   abbrev pub IfHolds : Option Pattern → Point → Type 0
   IfHolds None x = ⊥
-  IfHolds (Some p) x = Holds t shapes hulls p x
+  IfHolds (Some p) x = PatternHoldsAt t shapes hulls p x
 
   -- A constructor has the point.
   abbrev pub CtorHolds : ℕ → Point → Type 0

@@ -1,10 +1,10 @@
--- view: the shapes of tables as they are kept.
+-- step: the shapes of tables as they are kept.
 use Rattle.std.specs.Prelude.{ℕ, List, Option, map}
 use Rattle.sl_ast.specs.Trees.{Pattern}
 use Rattle.sl_shape.specs.Extents.{extent_bytes, extent_of}
 use Rattle.sl_shape.specs.declared.extents.Extents.{Extents}
-use Rattle.sl_shapes.specs.Lists.{seen}
-use Rattle.sl_shapes.specs.Shapes.{Shape}
+use Rattle.sl_shape_tokens.specs.Lists.{seen}
+use Rattle.sl_shape_tokens.specs.Shapes.{Shape}
 
 -- the shapes of the tables
 abbrev pub shapes_of : Extents → List Shape

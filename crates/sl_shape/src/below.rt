@@ -4,15 +4,15 @@ ghost use Rattle.std.specs.Prelude.{◌≡◌, ℕ, IfOk, get_or, true};
 ghost use Rattle.std.specs.Prelude as prelude;
 ghost use Rattle.std.specs.List.{AllByRecursion};
 ghost use Rattle.sl_ast.specs.Trees.{Head};
-ghost use Rattle.sl_levels.specs.Reaching.{successors};
-ghost use Rattle.sl_levels.specs.Views.{graph_of};
+ghost use Rattle.sl_base_graphs.specs.Reaching.{successors};
+ghost use Rattle.sl_base_graphs.specs.Views.{graph_of};
 ghost use Rattle.sl_shape.specs.HeadsMade.{AreRight, AreSameBut, IsMarked};
 ghost use Rattle.sl_shape.specs.declared.below.Below.{Below};
 ghost use Rattle.sl_shape.specs.declared.below.TokenLists.{TokenLists};
-ghost use Rattle.sl_shapes.specs.Lists.{IsThere};
+ghost use Rattle.sl_shape_tokens.specs.Lists.{IsThere};
 
 use sl_cube::Cube;
-use sl_shapes::{ListBytes, Lists, Shape};
+use sl_shape_tokens::{ListBytes, Lists, Shape};
 use sl_spec::{ByBlock, Tables};
 use std::alloc::{AllocError, Global};
 

@@ -5,19 +5,20 @@ ghost use Rattle.std.specs.List.{AllByRecursion};
 ghost use Rattle.sl_ast.specs.Views.{constructor_of, head_of, pattern_of};
 ghost use Rattle.sl_cube.specs.Points.{InRange, IsInSome};
 ghost use Rattle.sl_cube.specs.declared.Point as point;
-ghost use Rattle.sl_patterns.specs.Counts.{FitCount};
-ghost use Rattle.sl_patterns.specs.Heads.{AreHeadCubes, IsHeadCount, IsHeadWindow, KeepsOthers};
+ghost use Rattle.sl_shape_patterns.specs.Counts.{FitCount};
+ghost use Rattle.sl_shape_patterns.specs.Heads.{AreHeadCubes, IsHeadCount, IsHeadWindow};
+ghost use Rattle.sl_shape_patterns.specs.Heads.{KeepsOthers};
 ghost use Rattle.sl_shape.specs.Below.{AreSized, IsShaped, Shows};
-ghost use Rattle.sl_shape.specs.Faults.{CountTells, OrElse, PointTells, ShapeTells, Tells};
+ghost use Rattle.sl_shape.specs.Faults.{CountTells, OrElse, PatternTells, PointTells, ShapeTells};
 ghost use Rattle.sl_shape.specs.Faults.{WindowTells, most_cubes, most_window};
 ghost use Rattle.sl_shape.specs.HeadsMade.{AreMarked, AreRightFor, IsHeadShape, KeepsRight};
 ghost use Rattle.sl_shape.specs.HeadsMade.{KeepsShapes, read_with};
 ghost use Rattle.sl_shape.specs.Made.{IsMade, IsSetOf};
 ghost use Rattle.sl_shape.specs.PatternShapes.{Shapes, shape_of, token_sizes};
 ghost use Rattle.sl_shape.specs.Stops.{Stops};
-ghost use Rattle.sl_shapes.specs.Bytes.{Knows};
-ghost use Rattle.sl_shapes.specs.Lists.{IsThere};
-ghost use Rattle.sl_shapes.specs.Shapes as spec;
+ghost use Rattle.sl_shape_tokens.specs.Bytes.{Knows};
+ghost use Rattle.sl_shape_tokens.specs.Lists.{IsThere};
+ghost use Rattle.sl_shape_tokens.specs.Shapes as spec;
 ghost use Rattle.sl_spec.specs.Numbers.{AreMadeFor, KeepsMade};
 ghost use Rattle.sl_spec.specs.Unfolded.{heads_of, placed, under};
 
@@ -28,9 +29,9 @@ use crate::stop::Stop;
 use sl_ast::constructors::Constructor;
 use sl_ast::patterns::Pattern;
 use sl_cube::{Cube, Point};
-use sl_patterns::{Reader, constructor_count};
-use sl_settle::CubeSet;
-use sl_shapes::Shape;
+use sl_cube_sets::CubeSet;
+use sl_shape_patterns::{Reader, constructor_count};
+use sl_shape_tokens::Shape;
 use sl_spec::{Around, ByBlock, Unfolded};
 use std::alloc::Global;
 
@@ -218,7 +219,7 @@ impl Below<'_, '_> {
             → IsMade self.now shapes lists.old lists.new (placed of.now).1.pattern
             found.0 found.1) }
         ensures fault { IfErr result (λ stop. (shapes : Shapes) → Shows self.now lists.old shapes
-            → Stops (Tells self.now.tables.now shapes self.now.hulls.now
+            → Stops (PatternTells self.now.tables.now shapes self.now.hulls.now
             (placed of.now).1.pattern) stop) }
     {
         self.demand_count(alloc, of, &mut made.counts)?;

@@ -2,14 +2,14 @@
 
 ghost use Rattle.std.specs.Prelude.{◌≡◌, ◌&&◌, max, None};
 ghost use Rattle.sl_ast.specs.declared.patterns.PatternOp.TheVariants.{Then};
-ghost use Rattle.sl_patterns.specs.Patterns.{capped};
+ghost use Rattle.sl_shape_patterns.specs.Patterns.{capped};
 ghost use Rattle.sl_shape.specs.Extents as spec;
 ghost use Rattle.sl_shape.specs.Extents.{extent, extent_bytes, joined_extents, kept};
 ghost use Rattle.sl_shape.specs.PatternShapes.{token_shape};
 ghost use Rattle.sl_spec.specs.declared.tables.Tables as tables;
 
 use sl_ast::patterns::PatternOp;
-use sl_shapes::Kind;
+use sl_shape_tokens::Kind;
 
 /// The kind of a pattern, whether it has no token, and the bytes of its tokens, at most
 /// 4,294,967,295.

@@ -1,9 +1,9 @@
 //! What extents of patterns are told by.
 
 ghost use Rattle.std.specs.Prelude.{◌≡◌, ◌/◌, map};
-ghost use Rattle.sl_shapes.specs.Bytes.{Knows};
+ghost use Rattle.sl_shape_tokens.specs.Bytes.{Knows};
 
-use sl_shapes::{ListBytes, Lists, Shape};
+use sl_shape_tokens::{ListBytes, Lists, Shape};
 use sl_spec::Tables;
 
 /// The extents of patterns, by the shapes of the tables, whose lists all have known bytes.

@@ -4,12 +4,12 @@ ghost use Rattle.std.specs.Prelude.{◌≡◌, IfOk, IfErr, Some, None};
 ghost use Rattle.sl_ast.specs.Trees as trees;
 ghost use Rattle.sl_ast.specs.Views.{pattern_of};
 ghost use Rattle.sl_ast.specs.declared.patterns.PatternOp.TheVariants.{And, Then, Or};
-ghost use Rattle.sl_constraints.specs.Sets.{IsCubeOf};
+ghost use Rattle.sl_shape_constraints.specs.Sets.{IsCubeOf};
 ghost use Rattle.sl_shape.specs.Below.{AreSized, IsJoined, IsShaped, IsSide, Shows};
 ghost use Rattle.sl_shape.specs.Faults.{BehindTells, JoinTells, ShapeTells};
 ghost use Rattle.sl_shape.specs.PatternShapes.{Shapes, pattern_bytes, shape_of};
 ghost use Rattle.sl_shape.specs.Stops.{Stops};
-ghost use Rattle.sl_shapes.specs.Shapes as spec;
+ghost use Rattle.sl_shape_tokens.specs.Shapes as spec;
 
 use crate::below::{Below, TokenLists};
 use crate::extents::Extents;
@@ -17,8 +17,8 @@ use crate::faults::Fault;
 use crate::stop::Stop;
 use sl_ast::patterns::{Pattern, PatternOp};
 use sl_cube::{Cube, point_outside};
-use sl_patterns::Reader;
-use sl_shapes::{Shape, extended};
+use sl_shape_patterns::Reader;
+use sl_shape_tokens::{Shape, extended};
 use std::alloc::{AllocError, Global};
 
 /// The cube of all points.

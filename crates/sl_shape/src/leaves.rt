@@ -8,7 +8,7 @@ ghost use Rattle.sl_shape.specs.PatternShapes.{table_shape};
 ghost use Rattle.sl_spec.specs.Named.{index_named, named};
 
 use crate::below::{Below, TokenLists};
-use sl_shapes::{Shape, of_nothing};
+use sl_shape_tokens::{Shape, of_nothing};
 use sl_spec::Field;
 use std::alloc::AllocError;
 

@@ -6,14 +6,14 @@ ghost use Rattle.sl_shape.specs.Extents.{extent, extent_of, kept};
 ghost use Rattle.sl_shape.specs.PatternShapes.{field_shape, name_shape, shape_by, table_shape};
 ghost use Rattle.sl_shape.specs.PatternShapes.{token_sizes};
 ghost use Rattle.sl_shape.specs.Views.{shapes_of};
-ghost use Rattle.sl_shapes.specs.Lists.{seen};
+ghost use Rattle.sl_shape_tokens.specs.Lists.{seen};
 ghost use Rattle.sl_spec.specs.Named.{index_named, named};
 
 use crate::extent::Extent;
 use crate::extents::Extents;
 use sl_ast::patterns::Pattern;
-use sl_patterns::Lengths;
-use sl_shapes::{Kind, Shape};
+use sl_shape_patterns::Lengths;
+use sl_shape_tokens::{Kind, Shape};
 use sl_spec::{Field, Tables};
 use std::alloc::{AllocError, Global};
 

@@ -2,8 +2,8 @@
 
 ghost use Rattle.std.specs.Prelude.{◌≡◌, ◌∷◌, [], ◌++◌, IfOk, IsTrue, OnOk, Some};
 ghost use Rattle.sl_ast.specs.Views.{constructor_of, head_of, pattern_of};
-ghost use Rattle.sl_levels.specs.Views.{graph_of};
-ghost use Rattle.sl_rules.specs.Gathered.{gathered};
+ghost use Rattle.sl_base_graphs.specs.Views.{graph_of};
+ghost use Rattle.sl_spec_rules.specs.Gathered.{gathered};
 ghost use Rattle.sl_shape.specs.HeadsMade.{AreHeadTables, AreMadeOf};
 ghost use Rattle.sl_shape.specs.Tables.{appearing, begins, constructors_of, named_by};
 ghost use Rattle.sl_shape.specs.Tables.{one_or_none, pattern_at, table_graph, tables_named};

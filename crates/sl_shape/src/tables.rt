@@ -15,8 +15,8 @@ use crate::below::{Below, HeadsMade, TokenLists};
 use crate::errors::ShapeError;
 use crate::faults::Fault;
 use crate::stop::Stop;
-use sl_settle::CubeSet;
-use sl_shapes::{Shape, of_nothing};
+use sl_cube_sets::CubeSet;
+use sl_shape_tokens::{Shape, of_nothing};
 use sl_spec::{CtorId, Unfolded};
 use std::alloc::{AllocError, Global};
 

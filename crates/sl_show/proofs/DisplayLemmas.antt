@@ -4,7 +4,7 @@ use Rattle.std.specs.Prelude.{◌&&◌, if◌then◌else◌}
 use Rattle.std.specs.List.{flat_map}
 use Rattle.std.proofs.lemmas.List.{drop_more, get_or_default}
 use Rattle.sl_ast.specs.Trees.{Name, Piece, piece_blank}
-use Rattle.sl_constructors.specs.Displays.{behind, is_blank, is_literal}
+use Rattle.sl_spec_constructors.specs.Displays.{behind, is_blank, is_literal}
 use Rattle.sl_show.specs.Pieces.{ends_blanks, front, is_passed, literal_text, piece_text_by, pieces_text}
 
 module _ (ps : List Piece) (i : ℕ) (p : Piece) (below : i < length ps) (is : p ≡ get_or ps i p) where

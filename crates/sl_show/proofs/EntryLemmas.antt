@@ -2,9 +2,9 @@
 use Rattle.std.proofs.Common.{◌≡◌, ℕ, ℤ, zero, suc, ◌<◌, List, [], ◌∷◌, ◌++◌, length, take, drop, get_or, slice_get, slice_index, append-nil, refl, sym, ap, ◌∙◌, arith}
 use Rattle.std.proofs.Math.Seq.{take-append_seam, drop-append_seam}
 use Rattle.std.proofs.lemmas.List.{take-map, drop-map, length-map}
-use Rattle.sl_decoding.specs.Trees.{Node, Trees, none, tree}
-use Rattle.sl_decoding.specs.declared.entries.Entry.{Entry}
-use Rattle.sl_rules.proofs.Seen.{read_map}
+use Rattle.sl_decode_meaning.specs.Trees.{Node, Trees, none, tree}
+use Rattle.sl_decode_meaning.specs.declared.entries.Entry.{Entry}
+use Rattle.sl_spec_rules.proofs.Seen.{read_map}
 use Rattle.sl_show.specs.Entries.{Row, from_tree, row_of, rows, rows_of}
 use Rattle.sl_show.specs.Templates.{parts_of, parts_text, spot_among, template_text}
 use Rattle.sl_show.specs.Texts.{Spot, first_text, lengths_of, texts_by}

@@ -2,9 +2,10 @@
 use Rattle.std.proofs.Common.{◌≡◌, ℕ, ℤ, ◌+◌, ◌-◌, List, [], ◌∷◌, ◌++◌, length, take, drop, append-nil, refl, sym, ap, subst, ◌∙◌, arith, append_assoc, length-append}
 use Rattle.std.proofs.Math.Seq.{take-append_seam, drop-append_seam}
 use Rattle.std.proofs.lemmas.List.{map-append}
-use Rattle.sl_decoding.specs.Flat.{all_values, count, entries, entry_of}
-use Rattle.sl_decoding.specs.Trees.{Node, Trees, none, tree}
-use Rattle.sl_decoding.specs.declared.entries.Entry.{Entry}
+use Rattle.sl_decode_meaning.specs.Flat.{all_values, entries, entry_of}
+use Rattle.sl_decode_meaning.specs.TreeCounts.{count}
+use Rattle.sl_decode_meaning.specs.Trees.{Node, Trees, none, tree}
+use Rattle.sl_decode_meaning.specs.declared.entries.Entry.{Entry}
 use Rattle.sl_show.specs.Entries.{row_of, rows, rows_of}
 
 length_rows : (f : Trees Node) → length (rows f) ≡ count f

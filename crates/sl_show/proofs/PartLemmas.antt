@@ -8,8 +8,8 @@ use Rattle.std.proofs.lemmas.Grind.{flat_map-append}
 use Rattle.std.proofs.Math.Seq.{take-suc}
 use Rattle.sl_ast.specs.Trees.{Constructor}
 use Rattle.sl_ast.specs.Unfolding.{Placed}
-use Rattle.sl_decoding.specs.Lookups.{is_whole}
-use Rattle.sl_decoding.specs.Trees.{Node, Trees}
+use Rattle.sl_decode_meaning.specs.Lookups.{is_whole}
+use Rattle.sl_decode_meaning.specs.Trees.{Node, Trees}
 use Rattle.sl_show.specs.Templates.{AreTemplates, part_text, parts_text, template_text}
 use Rattle.sl_show.specs.Texts.{Spot, field_text, field_text_by, field_text_if, first_text, shown_text, texts_by}
 use Rattle.sl_show.specs.declared.templates.Part.{Part}

@@ -7,9 +7,9 @@ use Rattle.sl_ast.specs.Symbols.{plain}
 use Rattle.sl_ast.specs.Trees.{Constructor, Name, Pattern, Piece, bare, constraint, ellipsis, integer, joined, piece_blank, piece_caret, piece_char, piece_text, piece_word, unimplemented}
 use Rattle.sl_ast.specs.declared.patterns.PatternOp.TheVariants.{And, Then}
 use Rattle.sl_ast.specs.declared.patterns.Relation.TheVariants.{Equal}
-use Rattle.sl_decoding.specs.Places.{leaves}
-use Rattle.sl_decoding.specs.Trees.{Node, none, tree}
-use Rattle.sl_definitions.specs.Words.{word_bytes}
+use Rattle.sl_decode_meaning.specs.Places.{leaves}
+use Rattle.sl_decode_meaning.specs.Trees.{Node, none, tree}
+use Rattle.sl_spec_definitions.specs.Words.{word_bytes}
 use Rattle.sl_show.specs.Numbers.{number_text}
 use Rattle.sl_show.specs.Pieces.{display_text}
 use Rattle.sl_show.specs.Texts.{shown_text}

@@ -1,8 +1,8 @@
 -- step: trees as a row of their nodes, parents first, each with its values and the number of nodes
 -- below it.
 use Rattle.std.specs.Prelude.{ℕ, zero, suc, ◌-◌, ℤ, List, [], ◌∷◌, ◌++◌, drop, length, map, take}
-use Rattle.sl_decoding.specs.Trees.{Node, Trees, none, tree}
-use Rattle.sl_decoding.specs.declared.entries.Entry.{Entry}
+use Rattle.sl_decode_meaning.specs.Trees.{Node, Trees, none, tree}
+use Rattle.sl_decode_meaning.specs.declared.entries.Entry.{Entry}
 
 -- a node, and how many nodes are below it
 pub record Row : Type 0 where

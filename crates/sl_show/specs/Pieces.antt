@@ -4,8 +4,8 @@ use Rattle.std.specs.Prelude.{ℕ, ◌&&◌, Bool, true, false, List, [], ◌∷
 use Rattle.std.specs.List.{flat_map}
 use Rattle.sl_ast.specs.Trees.{Name, Piece, piece_word, piece_text, piece_blank, piece_caret}
 use Rattle.sl_ast.specs.Trees.{piece_char}
-use Rattle.sl_constructors.specs.Displays.{behind, is_blank, is_literal}
-use Rattle.sl_definitions.specs.Words.{unquoted, word_bytes}
+use Rattle.sl_spec_constructors.specs.Displays.{behind, is_blank, is_literal}
+use Rattle.sl_spec_definitions.specs.Words.{unquoted, word_bytes}
 
 -- the pieces up to the first that fails a test
 abbrev pub front : (Piece → Bool) → List Piece → List Piece

@@ -3,8 +3,8 @@ use Rattle.std.specs.Prelude.{◌≡◌, ℕ, ◌<◌, List, [], ◌++◌, Optio
 use Rattle.std.specs.List.{flat_map}
 use Rattle.sl_ast.specs.Trees.{Constructor}
 use Rattle.sl_ast.specs.Unfolding.{Placed}
-use Rattle.sl_decoding.specs.Trees.{Node, Trees}
-use Rattle.sl_leaves.specs.Extents.{extent}
+use Rattle.sl_decode_meaning.specs.Trees.{Node, Trees}
+use Rattle.sl_decode_leaves.specs.Extents.{extent}
 use Rattle.sl_show.specs.Texts.{Spot, action_text, field_text_at, lengths_of, node_text, spot}
 use Rattle.sl_show.specs.Texts.{texts_by}
 use Rattle.sl_show.specs.declared.templates.Maker.{Maker}

@@ -3,11 +3,11 @@ use Rattle.std.specs.Prelude.{ℕ, ◌+◌, ◌==◌, ℤ, Bool, false, List, []
 use Rattle.std.specs.Prelude.{Option, None, Some, option_and_then, get_or, slice_get}
 use Rattle.sl_ast.specs.Trees.{Constructor}
 use Rattle.sl_ast.specs.Unfolding.{Placed}
-use Rattle.sl_decoding.specs.Lookups.{entry_at, number_at}
-use Rattle.sl_decoding.specs.Meanings.{leaves_by}
-use Rattle.sl_decoding.specs.Places.{Leaf, bare_place, or_start, slot_from}
-use Rattle.sl_decoding.specs.Trees.{Node, Trees, none, tree}
-use Rattle.sl_decoding.specs.Values.{value_or_zero}
+use Rattle.sl_decode_meaning.specs.Lookups.{entry_at, number_at}
+use Rattle.sl_decode_meaning.specs.Meanings.{leaves_by}
+use Rattle.sl_decode_meaning.specs.Places.{Leaf, bare_place, or_start, slot_from}
+use Rattle.sl_decode_meaning.specs.Trees.{Node, Trees, none, tree}
+use Rattle.sl_decode_meaning.specs.Values.{value_or_zero}
 use Rattle.sl_show.specs.Numbers.{number_text}
 use Rattle.sl_show.specs.Pieces.{display_text}
 use Rattle.sl_spec.specs.Attachments.{attached_to}

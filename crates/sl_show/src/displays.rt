@@ -4,9 +4,9 @@ ghost use Rattle.std.specs.Prelude.{◌≡◌, ◌+◌, ◌<◌, ◌≤◌, ◌+
 ghost use Rattle.std.specs.Prelude.{drop, length, map};
 ghost use Rattle.std.specs.List.{flat_map};
 ghost use Rattle.sl_ast.specs.Views.{piece_of};
-ghost use Rattle.sl_constructors.specs.Displays.{behind, is_blank, is_literal};
-ghost use Rattle.sl_definitions.specs.Words.{unquoted};
-ghost use Rattle.sl_leaves.specs.Extents.{leaves_at};
+ghost use Rattle.sl_spec_constructors.specs.Displays.{behind, is_blank, is_literal};
+ghost use Rattle.sl_spec_definitions.specs.Words.{unquoted};
+ghost use Rattle.sl_decode_leaves.specs.Extents.{leaves_at};
 ghost use Rattle.sl_show.specs.Pieces.{display_text, ends_blanks, front, literal_text};
 ghost use Rattle.sl_show.specs.Pieces.{is_passed, piece_text_by, pieces_text};
 ghost use Rattle.sl_show.specs.Templates.{made, parts_text};
@@ -15,10 +15,9 @@ ghost use Rattle.sl_spec.specs.declared.tables.Tables.{Tables as TablesOf};
 
 use crate::templates::{Maker, Part, Template};
 use sl_ast::constructors::Shown;
-use sl_constructors::{blanks, is_blank, is_literal};
-use sl_fields::operand_named;
-use sl_leaves::{JoinedLeaves, bare, slot_number};
+use sl_decode_leaves::{JoinedLeaves, bare, operand_named, slot_number};
 use sl_spec::{Means, Operand};
+use sl_spec_constructors::{blanks, is_blank, is_literal};
 use std::alloc::{AllocError, Global};
 
 // ---- pieces
@@ -90,7 +89,7 @@ fn add_word(
 // ---- displays
 
 /// Adds a piece that isn't taken for an operand.
-#[tactic(auto, using(sl_definitions::proofs::WordLemmas::word_again))]
+#[tactic(auto, using(sl_spec_definitions::proofs::WordLemmas::word_again))]
 fn add_literal(maker: &mut Maker, piece: &Shown) -> Result<(), AllocError>
     ensures { OnOk result ((t : TablesOf) (s : Spot)
         → made t s maker.new ≡ made t s maker.old ++ literal_text (piece_of piece.now)) }
@@ -105,7 +104,7 @@ fn add_literal(maker: &mut Maker, piece: &Shown) -> Result<(), AllocError>
 }
 
 /// Adds a piece.
-#[tactic(auto, using(sl_definitions::proofs::WordLemmas::word_again))]
+#[tactic(auto, using(sl_spec_definitions::proofs::WordLemmas::word_again))]
 fn add_piece(
     alloc: Global,
     maker: &mut Maker,

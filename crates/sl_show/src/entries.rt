@@ -2,14 +2,14 @@
 
 ghost use Rattle.std.specs.Prelude.{◌≡◌, ◌-◌, ◌^◌, ◌<◌, ◌≤◌, ℕ, ℤ, List, length, take, drop};
 ghost use Rattle.std.specs.Prelude.{min, slice_get, slice_index};
-ghost use Rattle.sl_decoding.specs.Trees.{Node, Trees, tree};
-ghost use Rattle.sl_decoding.specs.Values.{value_or_zero};
-ghost use Rattle.sl_leaves.specs.Extents.{extent};
+ghost use Rattle.sl_decode_meaning.specs.Trees.{Node, Trees, tree};
+ghost use Rattle.sl_decode_meaning.specs.Values.{value_or_zero};
+ghost use Rattle.sl_decode_leaves.specs.Extents.{extent};
 ghost use Rattle.sl_show.specs.Entries.{from_tree, row_of, rows, rows_of};
 ghost use Rattle.sl_show.specs.Texts.{lengths_of};
 
-use sl_decoding::Entry;
-use sl_leaves::Extent;
+use sl_decode_leaves::Extent;
+use sl_decode_meaning::Entry;
 
 /// So many of a list, and those behind them.
 fn divided<T>(xs: &[T], count: usize) -> (&[T], &[T])

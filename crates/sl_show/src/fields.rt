@@ -6,7 +6,7 @@ ghost use Rattle.sl_spec.specs.Attachments.{attached_to};
 ghost use Rattle.sl_spec.specs.Views.{entries_of};
 
 use crate::numbers::push_number;
-use sl_fields::{number_at, number_of, register_at};
+use sl_decode_leaves::{number_at, number_of, register_at};
 use sl_spec::{Entries, Field, FieldId, Tables};
 use std::alloc::AllocError;
 

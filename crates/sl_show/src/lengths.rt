@@ -5,7 +5,7 @@ use crate::entries::{parted, skip, value_of};
 use crate::numbers::push_number;
 use crate::templates::{Part, Template};
 use crate::texts::{Instruction, parts_of, push_field_at};
-use sl_decoding::Entry;
+use sl_decode_meaning::Entry;
 use sl_spec::Tables;
 use std::alloc::{AllocError, Global};
 

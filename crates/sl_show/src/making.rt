@@ -1,9 +1,9 @@
 //! Templates of constructors.
 
 ghost use Rattle.std.specs.Prelude.{◌≡◌, ℕ, List, IfOk, Some};
-ghost use Rattle.sl_decoding.specs.Meanings.{leaves_by};
-ghost use Rattle.sl_leaves.specs.Blocks.{AreLeavesOfHead};
-ghost use Rattle.sl_leaves.specs.Extents.{leaves_at};
+ghost use Rattle.sl_decode_meaning.specs.Meanings.{leaves_by};
+ghost use Rattle.sl_decode_leaves.specs.Blocks.{AreLeavesOfHead};
+ghost use Rattle.sl_decode_leaves.specs.Extents.{leaves_at};
 ghost use Rattle.sl_show.specs.Pieces.{display_text};
 ghost use Rattle.sl_show.specs.Templates.{AreTemplates, parts_text};
 ghost use Rattle.sl_show.specs.Texts.{Spot, node_text_by, word_text};
@@ -12,7 +12,7 @@ ghost use Rattle.sl_spec.specs.Unfolded.{all_placed, placed};
 
 use crate::displays::template_of;
 use crate::templates::Template;
-use sl_leaves::{BlockLeaves, JoinedLeaves, leaves_among, leaves_of};
+use sl_decode_leaves::{BlockLeaves, JoinedLeaves, leaves_among, leaves_of};
 use sl_spec::{ByBlock, Ctor, Operand, TableId, Tables, Unfolded};
 use std::alloc::{AllocError, Global};
 

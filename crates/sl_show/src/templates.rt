@@ -5,7 +5,7 @@ ghost use Rattle.sl_show.specs.Templates.{AreOnce, made, part_text, parts_text};
 ghost use Rattle.sl_show.specs.Texts.{Spot};
 ghost use Rattle.sl_spec.specs.declared.tables.Tables.{Tables as TablesOf};
 
-use sl_leaves::Extent;
+use sl_decode_leaves::Extent;
 use sl_spec::FieldId;
 use std::alloc::{AllocError, Global};
 use std::collections::BTreeSet;

@@ -4,9 +4,9 @@ ghost use Rattle.std.specs.Prelude.{◌≡◌, ◌+◌, ◌≤◌, ◌++◌, ℤ
 ghost use Rattle.std.specs.Prelude.{get_or, length, slice_get};
 ghost use Rattle.sl_ast.specs.Trees.{Constructor as ConstructorOf};
 ghost use Rattle.sl_ast.specs.Unfolding.{Placed};
-ghost use Rattle.sl_decoding.specs.Flat.{all_values, entries};
-ghost use Rattle.sl_decoding.specs.Trees.{Node, Trees};
-ghost use Rattle.sl_leaves.specs.Extents.{extent};
+ghost use Rattle.sl_decode_meaning.specs.Flat.{all_values, entries};
+ghost use Rattle.sl_decode_meaning.specs.Trees.{Node, Trees};
+ghost use Rattle.sl_decode_leaves.specs.Extents.{extent};
 ghost use Rattle.sl_show.specs.Entries.{row_of, rows, rows_of};
 ghost use Rattle.sl_show.specs.Spans.{AreTexts, AreWithin};
 ghost use Rattle.sl_show.specs.Templates.{AreTemplates, operand_texts, part_text};
@@ -19,8 +19,8 @@ use crate::lengths::text_length;
 use crate::numbers::push_number;
 use crate::spans::{Span, Spans};
 use crate::templates::{Part, Template};
-use sl_decoding::Entry;
-use sl_leaves::Extent;
+use sl_decode_leaves::Extent;
+use sl_decode_meaning::Entry;
 use sl_spec::{CtorId, FieldId, Tables};
 use std::alloc::AllocError;
 

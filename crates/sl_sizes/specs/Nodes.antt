@@ -1,4 +1,4 @@
--- Trees of variables whose sizes differ by known numbers, and the assignments that they leave.
+-- step: trees of variables whose sizes differ by known numbers, and the assignments that they leave.
 use Rattle.std.specs.Prelude.{◌≡◌, ◌≢◌, ◌↔◌, ℕ, ◌+◌, ◌<◌, ◌≤◌, Bool, MatchBool, List, length, slice_index_or}
 use Rattle.sl_sizes.specs.declared.Equation.{Equation}
 use Rattle.sl_sizes.specs.declared.SizeError.{SizeError}

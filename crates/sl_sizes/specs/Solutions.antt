@@ -1,4 +1,4 @@
--- Assignments of sizes to variables, and the equations that they meet.
+-- meaning: assignments of sizes to variables, and the equations that they meet.
 use Rattle.std.specs.Prelude.{◌≡◌, ◌≢◌, ℕ, ◌+◌, ◌<◌, ◌≤◌, List, [], ◌∷◌, map, take, length, slice_index}
 use Rattle.sl_word.specs.declared.word.Size.{Size}
 use Rattle.sl_sizes.specs.declared.Equation.{Equation}

@@ -3,7 +3,7 @@ use Rattle.std.proofs.Common.{◌≡◌, ◌+◌, ℕ, zero, suc, Bool, true, fa
 use Rattle.std.specs.List.{list_any, position_or_len}
 use Rattle.std.proofs.lemmas.List.{length-map}
 use Rattle.std.proofs.lemmas.List.Folds.{find_at}
-use Rattle.sl_index.proofs.IndexLemmas.{position_cons}
+use Rattle.sl_base_names.proofs.IndexLemmas.{position_cons}
 use Rattle.sl_spec.specs.Begun.{with_number, with_number_at}
 use Rattle.sl_spec.specs.Tables.{Table}
 

@@ -14,7 +14,8 @@ use Rattle.sl_ast.specs.declared.constructors.Inner.{Inner}
 use Rattle.sl_ast.specs.declared.constructors.Inner.TheFolds.{fold-roll-Inner}
 use Rattle.sl_ast.specs.declared.constructors.Inner.TheOpen.{Inner-F}
 use Rattle.sl_ast.specs.declared.constructors.Inner.TheVariants.{rolls-Constructor, rolls-With}
-use Rattle.sl_spec.specs.Unfolded.{constructor_at, constructors_in, under, unfolded_one}
+use Rattle.sl_spec.specs.Unfolded.{under, unfolded_one}
+use Rattle.sl_spec.specs.ConstructorItems.{constructor_at, constructors_in}
 use Rattle.sl_spec.specs.Walks.{Adds, AddsItem, all_under, inner_before}
 
 -- ---- what a part of a block is, by its shape

@@ -6,4 +6,5 @@ pub mod Numbers
 pub mod Tables
 pub mod Views
 pub mod Unfolded
+pub mod ConstructorItems
 pub mod Walks

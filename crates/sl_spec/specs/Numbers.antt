@@ -1,4 +1,4 @@
--- meaning: the numbers of blocks, by which what was made of a block is known again.
+-- view: the numbers of blocks, by which what was made of a block is known again.
 use Rattle.std.specs.Prelude.{◌≡◌, ℕ, ◌<◌, Bool, List, Option, Some}
 use Rattle.std.specs.List.{AllByRecursion}
 use Rattle.std.specs.Map.{lookup}

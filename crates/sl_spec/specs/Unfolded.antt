@@ -1,6 +1,6 @@
--- view: constructors without `with` blocks, as the program keeps them.
-use Rattle.std.specs.Prelude.{ℕ, List, [], ◌∷◌, ◌++◌, map}
-use Rattle.sl_ast.specs.Trees.{Constructor, Head, Item, constructor}
+-- law: constructors without `with` blocks, as the program keeps them.
+use Rattle.std.specs.Prelude.{ℕ, List, [], ◌∷◌, map}
+use Rattle.sl_ast.specs.Trees.{Constructor, Head, Item}
 use Rattle.sl_ast.specs.Unfolding.{Placed, in_block, unfolded_from}
 use Rattle.sl_ast.specs.Views.{constructor_of, head_of}
 use Rattle.sl_spec.specs.declared.unfolded.Around.{Around}
@@ -23,16 +23,6 @@ placed u = (u.number, under (heads_of u.heads.items) (constructor_of u.own.now))
 abbrev pub all_placed : List Unfolded → List (Placed Constructor)
 all_placed us = map placed us
 
--- the constructor that an item is
-abbrev pub constructor_at : ℕ → Item → List (Placed Constructor)
-constructor_at n (constructor c) = (n, c) ∷ []
-constructor_at n _ = []
-
 -- what an item is without `with` blocks: itself, or the constructors of a block
 abbrev pub unfolded_one : ℕ → Item → List (Placed Item)
 unfolded_one n item = unfolded_from n (item ∷ [])
-
--- the constructors among items
-unfoldable pub constructors_in : List (Placed Item) → List (Placed Constructor)
-constructors_in [] = []
-constructors_in (item ∷ items) = constructor_at item.0 item.1 ++ constructors_in items

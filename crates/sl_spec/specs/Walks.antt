@@ -1,10 +1,11 @@
--- step: the constructors of a part of a block, or of an item, added to those so far.
+-- view: the constructors of a part of a block, or of an item, added to those so far.
 use Rattle.std.specs.Prelude.{◌≡◌, ℕ, ◌+◌, List, ◌∷◌, ◌++◌, map}
 use Rattle.sl_ast.specs.Trees.{Constructor, Head, Inside, Item}
 use Rattle.sl_ast.specs.Unfolding.{Placed, constructors_inside, count_inside, unfolded_from}
 use Rattle.sl_ast.specs.Views.{inner_step}
 use Rattle.sl_ast.specs.declared.constructors.Inner.{Inner, fold-Inner}
-use Rattle.sl_spec.specs.Unfolded.{constructors_in, under, unfolded_one}
+use Rattle.sl_spec.specs.Unfolded.{under, unfolded_one}
+use Rattle.sl_spec.specs.ConstructorItems.{constructors_in}
 
 -- a part of a block before what stands behind it
 abbrev pub inner_before : Inner → Inside → Inside

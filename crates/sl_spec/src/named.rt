@@ -11,7 +11,7 @@ ghost use Rattle.sl_spec.specs.Named.{has_name, named, index_named};
 
 use crate::constructors::Table;
 use crate::ids::CtorId;
-use sl_index::NameIndex;
+use sl_base_names::NameIndex;
 use std::alloc::{AllocError, Global};
 use std::marker::Model;
 use std::slice::Iter;

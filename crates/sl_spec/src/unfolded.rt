@@ -5,7 +5,8 @@ ghost use Rattle.sl_ast.specs.Trees.{block};
 ghost use Rattle.sl_ast.specs.Unfolding.{unfolded};
 ghost use Rattle.sl_ast.specs.Views.{constructor_of, head_of, inside_of, item_of};
 ghost use Rattle.sl_spec.specs.Numbers.{AreNumbered, AreNumberedBelow};
-ghost use Rattle.sl_spec.specs.Unfolded.{all_placed, constructors_in, heads_of, under};
+ghost use Rattle.sl_spec.specs.Unfolded.{all_placed, heads_of, under};
+ghost use Rattle.sl_spec.specs.ConstructorItems.{constructors_in};
 ghost use Rattle.sl_spec.specs.Walks.{Adds, AddsItem, inner_before};
 
 use sl_ast::constructors::{Constructor, Head, Inner};

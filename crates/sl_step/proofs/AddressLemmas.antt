@@ -7,9 +7,9 @@ use Rattle.std.proofs.Math.Nat.{div-add-mod', div-lt_iff_lt-mul}
 use Rattle.std.proofs.lemmas.Nat.{mod-mul-add, mod_below, pow-add}
 use Rattle.std.specs.Int.{int_wrap}
 use Rattle.std.specs.Prelude.{find, map, position, slice_index, unwrap_or}
-use Rattle.sl_decoding.specs.Actions.{address_bytes, size_or_all}
-use Rattle.sl_instruction.specs.Instructions.{default_space, setting_of}
-use Rattle.sl_operators.specs.Operators.{wrapped}
+use Rattle.sl_decode_meaning.specs.Actions.{address_bytes, size_or_all}
+use Rattle.sl_meaning_instruction.specs.Instructions.{default_space, setting_of}
+use Rattle.sl_spec_operators.specs.Operators.{wrapped}
 use Rattle.sl_spec.specs.Tables.{Space}
 use Rattle.sl_spec.specs.declared.tables.Tables.{Tables}
 use Rattle.sl_word.proofs.Powers.{bytes-bits, bytes_pos, low-wrap}

@@ -1,19 +1,19 @@
 -- Where the run of a translation leads, and where its instruction does.
 use Rattle.std.proofs.Common.{◌≡◌, ℕ, ◌%◌, ◌^◌, ◌≤◌, List, pos, refl, sym, ap, ◌∙◌}
 use Rattle.std.specs.Prelude.{map, slice_index}
-use Rattle.sl_code.specs.Nodes.{AreBytes}
-use Rattle.sl_code.specs.Runs as final
-use Rattle.sl_code.specs.Runs.{Final, final_ending, final_outcome, final_run}
+use Rattle.sl_faithful_code.specs.Faithful.{AreBytes}
+use Rattle.sl_faithful_code.specs.Runs as final
+use Rattle.sl_faithful_code.specs.Runs.{Final, final_ending, final_outcome, final_run}
 use Rattle.sl_emu.specs.Outcomes.{left_ending}
 use Rattle.sl_emu.specs.declared.run.Left.{Left}
 use Rattle.sl_emu.specs.declared.run.Left.TheVariants.{Next, To}
-use Rattle.sl_fitting.specs.Laws.{IsTranslation}
-use Rattle.sl_instruction.specs.Instructions.{default_space, setting_of}
-use Rattle.sl_meaning.specs.Nodes.{After, Node, after_outcome, goes_to, outcome, stopped}
-use Rattle.sl_meaning.specs.References.{Setting}
-use Rattle.sl_meaning.specs.Statements as does
-use Rattle.sl_meaning.specs.Statements.{Outcome}
-use Rattle.sl_operators.specs.Operators.{wrapped}
+use Rattle.sl_faithful_keeping.specs.Translations.{IsTranslation}
+use Rattle.sl_meaning_instruction.specs.Instructions.{default_space, setting_of}
+use Rattle.sl_meaning_sections.specs.Nodes.{After, Node, after_outcome, goes_to, outcome, stopped}
+use Rattle.sl_meaning_sections.specs.References.{Setting}
+use Rattle.sl_meaning_sections.specs.Statements as does
+use Rattle.sl_meaning_sections.specs.Statements.{Outcome}
+use Rattle.sl_spec_operators.specs.Operators.{wrapped}
 use Rattle.sl_pcode.specs.Machine.{Ending, EndsSo, Run, ended, ending_of, memory_of, run_of, whole}
 use Rattle.sl_pcode.specs.declared.operation.Op.{Op}
 use Rattle.sl_spec.specs.Tables.{Space}

@@ -2,8 +2,8 @@
 use Rattle.std.proofs.Common.{ℕ, zero, suc, ◌+◌, Bool, true, false, List, [], ◌∷◌, drop, Option, Some, None}
 use Rattle.std.proofs.Common.{subst}
 use Rattle.std.specs.Prelude.{if◌then◌else◌, ◌==◌}
-use Rattle.sl_code.proofs.Bytes.{low_stored}
-use Rattle.sl_code.specs.Nodes.{AreBytes}
+use Rattle.sl_faithful_code.proofs.Bytes.{low_stored}
+use Rattle.sl_faithful_code.specs.Faithful.{AreBytes}
 use Rattle.sl_emu.specs.Outcomes.{HasEffectsOf}
 use Rattle.sl_pcode.specs.Effects.{effect_of}
 use Rattle.sl_pcode.specs.Machine.{Ending, Run, Temporaries, at_target, does, ended, first_memory, has_no_value}

@@ -2,21 +2,22 @@
 use Rattle.std.proofs.Common.{◌≡◌, ℕ, List, [], map, Result, Ok, Err, refl, sym, ap, subst}
 use Rattle.std.specs.Prelude.{ℤ}
 use Rattle.sl_ast.specs.Views.{items_of}
-use Rattle.sl_bound_translations.specs.Laws.{BoundAreTranslated}
+use Rattle.sl_faithful_accepted.specs.Laws.{BoundAreTranslated}
 use Rattle.sl_build.specs.Built.{IsBuilt}
 use Rattle.sl_build.specs.Stands as sections
 use Rattle.sl_build.specs.declared.built.Built.{Built}
 use Rattle.sl_build.specs.declared.built.Built.TheVariants.{Ops, Unimplemented}
-use Rattle.sl_code.specs.Nodes.{node_code, top_of}
-use Rattle.sl_code.specs.Operations.{operation_of}
-use Rattle.sl_contexts.specs.declared.commits.Commit.{Commit}
+use Rattle.sl_faithful_code.specs.Nodes.{node_code, top_of}
+use Rattle.sl_faithful_code.specs.Operations.{operation_of}
+use Rattle.sl_decode_contexts.specs.declared.commits.Commit.{Commit}
 use Rattle.sl_decode.specs.Walks.{Walked, walk_of, walked}
-use Rattle.sl_decoding.specs.Decoding.{Decoded, decoded}
-use Rattle.sl_decoding.specs.Flat.{all_values, count, entries}
-use Rattle.sl_decoding.specs.Trees.{Node, Trees}
-use Rattle.sl_decoding.specs.declared.entries.Entry.{Entry}
-use Rattle.sl_decoding.specs.declared.faults.Fault.{Fault}
-use Rattle.sl_instruction.specs.Instructions.{Specification, instruction, setting_of}
+use Rattle.sl_decode_meaning.specs.Decoding.{Decoded, decoded}
+use Rattle.sl_decode_meaning.specs.Flat.{all_values, entries}
+use Rattle.sl_decode_meaning.specs.TreeCounts.{count}
+use Rattle.sl_decode_meaning.specs.Trees.{Node, Trees}
+use Rattle.sl_decode_meaning.specs.declared.entries.Entry.{Entry}
+use Rattle.sl_decode_meaning.specs.declared.faults.Fault.{Fault}
+use Rattle.sl_meaning_instruction.specs.Instructions.{Specification, instruction, setting_of}
 use Rattle.sl_pcode.specs.Operations.{operations}
 use Rattle.sl_pcode.specs.declared.list.OpList.{OpList}
 use Rattle.sl_step.specs.Stages.{IsRead, IsUnimplemented}

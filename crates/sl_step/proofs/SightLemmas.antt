@@ -3,23 +3,23 @@ use Rattle.std.proofs.Common.{◌≡◌, ℕ, ◌≤◌, List, Ok, length, min, 
 use Rattle.std.proofs.lemmas.List.{length-take}
 use Rattle.sl_ast.specs.Trees.{Item}
 use Rattle.sl_bind.specs.Binding.{Binds, constructors_of}
-use Rattle.sl_bound_lengths.proofs.BoundLemmas.{bound_are_taken}
-use Rattle.sl_contexts.specs.declared.commits.Commit.{Commit}
-use Rattle.sl_decoding.specs.Flat.{entries}
-use Rattle.sl_decoding.specs.Laws.{Choice}
-use Rattle.sl_decoding.specs.declared.entries.Entry.{Entry}
-use Rattle.sl_fitting.specs.Laws.{IsTranslation}
-use Rattle.sl_given.proofs.TakenLemmas.{taken_are_read}
-use Rattle.sl_instruction.specs.Instructions.{Specification, setting_of}
-use Rattle.sl_instruction_bytes.proofs.TreeLemmas.{bytes_decide_instructions}
-use Rattle.sl_instruction_bytes.specs.Laws.{FieldsAreMeant}
-use Rattle.sl_meaning.specs.Nodes.{Node}
+use Rattle.sl_decode_lengths.proofs.AcceptedLemmas.{bound_are_taken}
+use Rattle.sl_decode_contexts.specs.declared.commits.Commit.{Commit}
+use Rattle.sl_decode_meaning.specs.Flat.{entries}
+use Rattle.sl_decode_meaning.specs.Choices.{Choice}
+use Rattle.sl_decode_meaning.specs.declared.entries.Entry.{Entry}
+use Rattle.sl_faithful_keeping.specs.Translations.{IsTranslation}
+use Rattle.sl_faithful_accepted.proofs.TakenLemmas.{taken_are_read}
+use Rattle.sl_meaning_instruction.specs.Instructions.{Specification, setting_of}
+use Rattle.sl_faithful_reach.proofs.TreeLemmas.{bytes_decide_instructions}
+use Rattle.sl_faithful_reach.specs.InstructionLaws.{FieldsAreMeant}
+use Rattle.sl_meaning_sections.specs.Nodes.{Node}
 use Rattle.sl_pcode.specs.Operations.{operations}
 use Rattle.sl_pcode.specs.declared.operation.Op.{Op}
-use Rattle.sl_sight.proofs.EntryLemmas.{entries_tell}
-use Rattle.sl_sight.proofs.ReadLemmas.{bytes_decide}
-use Rattle.sl_sight.specs.Laws.{TokensAreShort}
-use Rattle.sl_sight.specs.Sight.{sight, sight_in}
+use Rattle.sl_faithful_reach.proofs.EntryLemmas.{entries_tell}
+use Rattle.sl_faithful_reach.proofs.ReadLemmas.{bytes_decide}
+use Rattle.sl_faithful_reach.specs.DecodeLaws.{TokensAreShort}
+use Rattle.sl_faithful_reach.specs.Sight.{sight, sight_in}
 use Rattle.sl_step.specs.Kept.{IsReadAs, IsReadFrom}
 use Rattle.sl_step.specs.Stages.{IsRead}
 use Rattle.sl_spec.specs.declared.tables.Tables.{Tables}

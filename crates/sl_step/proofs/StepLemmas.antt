@@ -3,18 +3,18 @@ use Rattle.std.proofs.Common.{◌≡◌, ℕ, ◌+◌, ◌%◌, ◌^◌, ◌<◌
 use Rattle.std.proofs.Common.{Result, Ok, Err, refl, sym, ap, subst, ◌∙◌, arith}
 use Rattle.std.specs.List.{range_with_len}
 use Rattle.std.specs.Prelude.{if◌then◌else◌, map, slice_index, take}
-use Rattle.sl_contexts.specs.Commits.{IsContextAt}
-use Rattle.sl_contexts.specs.Kept.{Kept}
-use Rattle.sl_contexts.specs.Runs.{Stands}
-use Rattle.sl_contexts.specs.declared.commits.Commit.{Commit}
-use Rattle.sl_decoding.specs.Actions.{address_bytes}
-use Rattle.sl_decoding.specs.Decoding.{Decoded, decoded}
-use Rattle.sl_decoding.specs.Laws.{Choice}
-use Rattle.sl_decoding.specs.declared.faults.Fault as decoding
+use Rattle.sl_decode_contexts.specs.Commits.{IsContextAt}
+use Rattle.sl_decode_contexts.specs.Kept.{Kept}
+use Rattle.sl_decode_contexts.specs.Runs.{Stands}
+use Rattle.sl_decode_contexts.specs.declared.commits.Commit.{Commit}
+use Rattle.sl_decode_meaning.specs.Actions.{address_bytes}
+use Rattle.sl_decode_meaning.specs.Decoding.{Decoded, decoded}
+use Rattle.sl_decode_meaning.specs.Choices.{Choice}
+use Rattle.sl_decode_meaning.specs.declared.faults.Fault as decoding
 use Rattle.sl_emu.specs.Outcomes.{HasEffectsOf, left_ending, run_over}
-use Rattle.sl_faithful.specs.Faithful.{IsFaithfulList}
-use Rattle.sl_instruction.specs.Instructions.{Specification, default_space, instruction, is_unimplemented, setting_of}
-use Rattle.sl_meaning.specs.Nodes.{After}
+use Rattle.sl_faithful_lists.specs.Faithful.{IsFaithfulList}
+use Rattle.sl_meaning_instruction.specs.Instructions.{Specification, default_space, instruction, is_unimplemented, setting_of}
+use Rattle.sl_meaning_sections.specs.Nodes.{After}
 use Rattle.sl_pcode.specs.Machine.{Ending, EndsSo, Run, run_of}
 use Rattle.sl_pcode.specs.declared.operation.Op.{Op}
 use Rattle.sl_spec.specs.Tables.{Space}
@@ -22,17 +22,17 @@ use Rattle.sl_step.proofs.AddressLemmas.{sizes_are}
 use Rattle.sl_step.proofs.AfterLemmas.{goes_on, stops_there}
 use Rattle.sl_step.specs.Machines.{Fits, IsSeen}
 use Rattle.sl_step.specs.Outcomes.{Goes, Steps, nothing, some_commits, some_operations}
-use Rattle.sl_step.specs.Stages.{IsRead, IsRun, IsUnread, Runs, fault_ending}
+use Rattle.sl_step.specs.Stages.{IsExecuted, IsRead, IsUnread, Runs, fault_ending}
 use Rattle.sl_step.specs.Stages.{machine_with, target}
 use Rattle.sl_step.specs.declared.error.StepError.{StepError}
 use Rattle.sl_step.specs.declared.error.StepError.TheVariants.{Decode, Emu, Misaligned, NoMemory, Unimplemented}
 use Rattle.sl_step.specs.declared.machine.Machine.{Machine}
 use Rattle.sl_step.specs.declared.step.Trace.{Trace}
-use Rattle.sl_steps.specs.Counted.{Counts, executed as counts_executed, off as counts_off}
-use Rattle.sl_steps.specs.Counted.{undecoded as counts_undecoded, unimplemented as counts_unimplemented}
-use Rattle.sl_steps.specs.Steps as steps
-use Rattle.sl_steps.specs.Steps.{IsStep, StepFault, Stepped, after_of, committed, decoded_at, executed, failed, goes}
-use Rattle.sl_steps.specs.Steps.{misaligned, off, on, run_decoded, stops, undecoded, unimplemented, window, window_of}
+use Rattle.sl_step_meaning.specs.Counted.{Counts, executed as counts_executed, off as counts_off}
+use Rattle.sl_step_meaning.specs.Counted.{undecoded as counts_undecoded, unimplemented as counts_unimplemented}
+use Rattle.sl_step_meaning.specs.Steps as steps
+use Rattle.sl_step_meaning.specs.Steps.{IsStep, StepFault, Stepped, after_of, committed, decoded_at, executed, failed, goes}
+use Rattle.sl_step_meaning.specs.Steps.{misaligned, off, on, run_decoded, step_window, stops, undecoded, unimplemented, window_of}
 use Rattle.sl_word.specs.Bytes.{byte_at}
 use Rattle.sl_word.specs.Memories.{Memory}
 use Rattle.sl_word.specs.declared.state.State.{State}
@@ -84,12 +84,12 @@ seen_holds P start old m seen holds = subst P (same_machine m.commits _ _ _ _ se
 -- the bytes of a space, which is the default one
 pub window_same : (s : Specification) (choose : Choice) (start : ℕ) (old : Machine) (cs : List Commit) (space bytes : ℕ)
     → space ≡ default_space s.tables → bytes ≡ address_bytes s.tables
-    → map (λ (i : ℕ). byte_at old.state space ((old.counter + i) % 256 ^ bytes)) (range_with_len 0 window)
+    → map (λ (i : ℕ). byte_at old.state space ((old.counter + i) % 256 ^ bytes)) (range_with_len 0 step_window)
     ≡ window_of s choose start (machine_with old cs)
 window_same s choose start old cs space bytes is size =
-    ap (λ (k : ℕ). map (λ (i : ℕ). byte_at old.state k ((old.counter + i) % 256 ^ bytes)) (range_with_len 0 window)) is
+    ap (λ (k : ℕ). map (λ (i : ℕ). byte_at old.state k ((old.counter + i) % 256 ^ bytes)) (range_with_len 0 step_window)) is
     ∙ ap (λ (n : ℕ). map (λ (i : ℕ). byte_at old.state (default_space s.tables) ((old.counter + i) % 256 ^ n))
-    (range_with_len 0 window)) size
+    (range_with_len 0 step_window)) size
 
 run_over_same : (ops : List Op) (m : Memory) (a b : Endian) (x y : List ℕ) → a ≡ b → x ≡ y → run_of a x ops m
     ≡ run_of b y ops m
@@ -191,7 +191,7 @@ module _ (s : Specification) (choose : Choice) (start : ℕ) (old : Machine) (cs
         (record { ops = ops; faithful = faithful; count_is = sym (ends_at ran ending ends).ran })
 
     -- where its list is left
-    goes_there : (trace : Trace) (before behind : ℕ) → IsRun ops after n mid new before behind trace
+    goes_there : (trace : Trace) (before behind : ℕ) → IsExecuted ops after n mid new before behind trace
         → Goes s choose start (machine_with old cs) new before behind trace
     goes_there trace before behind runs =
         let ends = ends_at trace.ran (left_ending trace.left) runs.ends in

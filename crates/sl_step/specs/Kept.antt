@@ -1,13 +1,13 @@
--- meaning: instructions that are kept.
+-- view: instructions that are kept.
 use Rattle.std.specs.Prelude.{◌≡◌, ◌<◌, ℕ, List, IfSome, length, take}
 use Rattle.std.specs.List.{All}
-use Rattle.sl_decoding.specs.Laws.{Choice}
-use Rattle.sl_instruction.specs.Instructions.{Specification}
+use Rattle.sl_decode_meaning.specs.Choices.{Choice}
+use Rattle.sl_meaning_instruction.specs.Instructions.{Specification}
 use Rattle.sl_pcode.specs.Operations.{operations}
 use Rattle.sl_step.specs.Stages.{IsRead}
 use Rattle.sl_step.specs.declared.buffers.StepBuffers.{StepBuffers}
 use Rattle.sl_step.specs.declared.instruction.Instruction.{Instruction}
-use Rattle.sl_steps.specs.Steps.{window}
+use Rattle.sl_step_meaning.specs.Steps.{step_window}
 
 -- It is what these bytes decode to at an address, from a context.
 abbrev pub IsReadAs : Specification → Choice → List ℕ → (address context : ℕ) → Instruction → Type 0
@@ -24,7 +24,7 @@ IsKept s choose x = (bytes : List ℕ) → take (length x.bytes.items) bytes ≡
 pub record IsReadFrom (s : Specification) (choose : Choice) (bytes : List ℕ) (address context : ℕ)
     (x : Instruction) : Type 0 where
   pub reads : IsReadAs s choose bytes address context x
-  pub kept : length x.bytes.items < window → IsKept s choose x
+  pub kept : length x.bytes.items < step_window → IsKept s choose x
 
 -- Each that is kept is what was read.
 abbrev pub AreKept : Specification → Choice → StepBuffers → Type 0

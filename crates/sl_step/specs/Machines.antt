@@ -1,11 +1,11 @@
 -- view: which machine a machine of the program is.
 use Rattle.std.specs.Prelude.{◌≡◌, ℕ, ◌^◌, ◌<◌, map}
-use Rattle.sl_code.specs.Nodes.{AreBytes}
-use Rattle.sl_contexts.specs.Runs.{Stands}
-use Rattle.sl_decoding.specs.Actions.{address_bytes}
+use Rattle.sl_faithful_code.specs.Faithful.{AreBytes}
+use Rattle.sl_decode_contexts.specs.Runs.{Stands}
+use Rattle.sl_decode_meaning.specs.Actions.{address_bytes}
 use Rattle.sl_spec.specs.declared.tables.Tables.{Tables}
 use Rattle.sl_step.specs.declared.machine.Machine.{Machine}
-use Rattle.sl_steps.specs.Steps as steps
+use Rattle.sl_step_meaning.specs.Steps as steps
 use Rattle.sl_word.specs.Bytes.{address_sizes, byte_at, endian_of}
 
 -- It has this memory and this counter, and its contexts are those of these commits, where `start`

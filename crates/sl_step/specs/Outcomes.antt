@@ -1,12 +1,12 @@
--- meaning: what a step of a machine answers.
+-- view: what a step of a machine answers.
 use Rattle.std.specs.Prelude.{◌≡◌, ℕ, ◌^◌, ◌<◌, false, List, ◌++◌, take, Option, None, Some, Result, Ok, Err}
-use Rattle.sl_contexts.specs.Commits.{IsContextAt}
-use Rattle.sl_decoding.specs.Decoding.{Decoded}
-use Rattle.sl_decoding.specs.Laws.{Choice}
+use Rattle.sl_decode_contexts.specs.Commits.{IsContextAt}
+use Rattle.sl_decode_meaning.specs.Decoding.{Decoded}
+use Rattle.sl_decode_meaning.specs.Choices.{Choice}
 use Rattle.sl_emu.specs.Outcomes.{HasEffectsOf, left_ending}
-use Rattle.sl_faithful.specs.Faithful.{IsFaithfulList}
-use Rattle.sl_instruction.specs.Instructions.{Specification, is_unimplemented, setting_of}
-use Rattle.sl_meaning.specs.Values.{Fault, calls_user_op, divides_by_zero, jumps_too_often}
+use Rattle.sl_faithful_lists.specs.Faithful.{IsFaithfulList}
+use Rattle.sl_meaning_instruction.specs.Instructions.{Specification, is_unimplemented, setting_of}
+use Rattle.sl_meaning_sections.specs.Values.{Fault, calls_user_op, divides_by_zero, jumps_too_often}
 use Rattle.sl_pcode.specs.Machine.{EndsSo, run_of}
 use Rattle.sl_pcode.specs.Operations.{operations}
 use Rattle.sl_pcode.specs.declared.operation.Op.{Op}
@@ -19,11 +19,10 @@ use Rattle.sl_step.specs.declared.error.StepError.TheVariants.{Decode, Emu, Misa
 use Rattle.sl_step.specs.declared.error.StepError.TheVariants.{Unimplemented}
 use Rattle.sl_step.specs.declared.machine.Machine.{Machine}
 use Rattle.sl_step.specs.declared.step.Trace.{Trace}
-use Rattle.sl_steps.specs.Counted.{Counts}
-use Rattle.sl_steps.specs.Steps as steps
-use Rattle.sl_steps.specs.Steps.{IsStep, StepFault, committed, decoded_at, failed, goes, misaligned}
-use Rattle.sl_steps.specs.Steps.{stops}
-use Rattle.sl_steps.specs.Steps.{undecoded, unimplemented, window_of}
+use Rattle.sl_step_meaning.specs.Counted.{Counts}
+use Rattle.sl_step_meaning.specs.Steps as steps
+use Rattle.sl_step_meaning.specs.Steps.{IsStep, StepFault, committed, decoded_at, failed, goes, misaligned}
+use Rattle.sl_step_meaning.specs.Steps.{stops, undecoded, unimplemented, window_of}
 use Rattle.sl_word.specs.Memories.{Memory}
 
 -- ---- faults

@@ -1,20 +1,19 @@
--- step: the parts of a step: an instruction that is read, and the run of its list.
+-- view: the parts of a step: an instruction that is read, and the run of its list.
 use Rattle.std.specs.Prelude.{◌≡◌, ℕ, ◌+◌, ◌-◌, ◌%◌, ◌^◌, min, true, false, List, Result, Ok, Err}
-use Rattle.sl_contexts.specs.declared.commits.Commit.{Commit}
-use Rattle.sl_decoding.specs.Decoding.{Decoded, decoded}
-use Rattle.sl_decoding.specs.Flat.{entries}
-use Rattle.sl_decoding.specs.Laws.{Choice}
-use Rattle.sl_decoding.specs.declared.entries.Entry.{Entry}
-use Rattle.sl_decoding.specs.declared.faults.Fault as decoding
+use Rattle.sl_decode_contexts.specs.declared.commits.Commit.{Commit}
+use Rattle.sl_decode_meaning.specs.Decoding.{Decoded, decoded}
+use Rattle.sl_decode_meaning.specs.Flat.{entries}
+use Rattle.sl_decode_meaning.specs.Choices.{Choice}
+use Rattle.sl_decode_meaning.specs.declared.entries.Entry.{Entry}
+use Rattle.sl_decode_meaning.specs.declared.faults.Fault as decoding
 use Rattle.sl_emu.specs.Outcomes.{HasEffectsOf, left_ending, run_over}
 use Rattle.sl_emu.specs.declared.run.EmuError.{EmuError}
 use Rattle.sl_emu.specs.declared.run.EmuError.TheVariants as emu
 use Rattle.sl_emu.specs.declared.run.Left.{Left}
 use Rattle.sl_emu.specs.declared.run.Left.TheVariants.{Next, To}
-use Rattle.sl_faithful.specs.Faithful.{IsFaithfulList}
-use Rattle.sl_instruction.specs.Instructions.{Specification, is_unimplemented}
-use Rattle.sl_pcode.specs.Machine.{Ending, EndsSo, calls_user_op, divides_by_zero}
-use Rattle.sl_pcode.specs.Machine.{jumps_too_often}
+use Rattle.sl_faithful_lists.specs.Faithful.{IsFaithfulList}
+use Rattle.sl_meaning_instruction.specs.Instructions.{Specification, is_unimplemented}
+use Rattle.sl_pcode.specs.Machine.{Ending, EndsSo, calls_user_op, divides_by_zero, jumps_too_often}
 use Rattle.sl_pcode.specs.Operations.{operations}
 use Rattle.sl_pcode.specs.declared.operation.Op.{Op}
 use Rattle.sl_step.specs.declared.error.EmuFault.{EmuFault}
@@ -25,7 +24,7 @@ use Rattle.sl_step.specs.declared.error.StepError.TheVariants.{Unimplemented}
 use Rattle.sl_step.specs.declared.machine.Machine.{Machine}
 use Rattle.sl_step.specs.declared.step.Trace.{Trace}
 use Rattle.sl_step.specs.declared.instruction.Listed.{Listed}
-use Rattle.sl_steps.specs.Steps as steps
+use Rattle.sl_step_meaning.specs.Steps as steps
 use Rattle.sl_word.specs.Bytes.{byte_at}
 
 -- the machine of the program, where these commits were made
@@ -99,7 +98,7 @@ CountsMore ran before behind = behind ≡ min (before + ran) (2 ^ 64 - 1)
 -- a list with an address behind it, in a space whose addresses have so many bytes; a machine and a
 -- runner's count before and behind its run
 module _ (ops : List Op) (after bytes : ℕ) (old new : Machine) (before behind : ℕ) where
-  pub record IsRun (trace : Trace) : Type 0 where
+  pub record IsExecuted (trace : Trace) : Type 0 where
     pub same : operations trace.instruction.value.ops ≡ ops
     pub ends : EndsSo trace.ran (run_over old.state ops) (left_ending trace.left)
         (byte_at new.state)
@@ -121,7 +120,7 @@ module _ (ops : List Op) (after bytes : ℕ) (old new : Machine) (before behind 
 
   -- What came of its run.
   abbrev pub Runs : Result Trace StepError → Type 0
-  Runs (Ok trace) = IsRun trace
+  Runs (Ok trace) = IsExecuted trace
   Runs (Err (Emu fault)) = IsFaulted fault
   Runs (Err NoMemory) = IsCut
   Runs (Err Misaligned) = ⊥

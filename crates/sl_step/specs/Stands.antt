@@ -1,16 +1,16 @@
--- meaning: which specification a stepper runs.
+-- view: which specification a stepper runs.
 use Rattle.std.specs.Prelude.{◌≡◌, position, Some}
 use Rattle.sl_ast.specs.Views.{items_of}
-use Rattle.sl_bound_translations.specs.Laws.{IsShort}
+use Rattle.sl_faithful_accepted.specs.Laws.{IsShort}
 use Rattle.sl_build.specs.Stands as sections
-use Rattle.sl_choices.specs.Choosers.{chosen}
-use Rattle.sl_compile.specs.Compiled.{IsCompiled}
-use Rattle.sl_decoding.specs.Actions.{address_bytes}
-use Rattle.sl_decoding.specs.Laws.{Choice}
-use Rattle.sl_instruction.specs.Instructions.{Specification, specification_of}
-use Rattle.sl_lister.specs.Disassemblies as disassembly
-use Rattle.sl_sight.specs.Laws.{TokensAreShort}
-use Rattle.sl_sizing.specs.Sizings.{lists_of}
+use Rattle.sl_decode_choices.specs.Choosers.{chosen}
+use Rattle.sl_bind_compile.specs.Compiled.{IsCompiled}
+use Rattle.sl_decode_meaning.specs.Actions.{address_bytes}
+use Rattle.sl_decode_meaning.specs.Choices.{Choice}
+use Rattle.sl_meaning_instruction.specs.Instructions.{Specification, specification_of}
+use Rattle.sl_list_instructions.specs.Disassemblies as disassembly
+use Rattle.sl_faithful_reach.specs.DecodeLaws.{TokensAreShort}
+use Rattle.sl_section_sizes.specs.Sizings.{lists_of}
 use Rattle.sl_step.specs.declared.stepper.Stepper.{Stepper}
 
 -- the specification that was compiled

@@ -1,8 +1,8 @@
 //! What steps use again.
 
 ghost use Rattle.std.specs.Prelude.{◌<◌, IfOk, IfSome, length};
-ghost use Rattle.sl_decoding.specs.Laws.{Choice};
-ghost use Rattle.sl_instruction.specs.Instructions.{Specification};
+ghost use Rattle.sl_decode_meaning.specs.Choices.{Choice};
+ghost use Rattle.sl_meaning_instruction.specs.Instructions.{Specification};
 ghost use Rattle.sl_step.specs.Kept.{AreKept, IsKept, IsReadAs};
 
 use crate::instruction::Instruction;

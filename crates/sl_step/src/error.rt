@@ -1,6 +1,6 @@
 //! Why an instruction doesn't end.
 
-use sl_decoding::Fault;
+use sl_decode_meaning::Fault;
 use sl_word::UserId;
 
 /// A fault of an instruction's section.

@@ -2,7 +2,7 @@
 
 ghost use Rattle.std.specs.Prelude.{◌≡◌, IfOk, IsTrue, length, take};
 
-use sl_contexts::Commit;
+use sl_decode_contexts::Commit;
 use sl_pcode::OpList;
 use std::alloc::{AllocError, Global};
 

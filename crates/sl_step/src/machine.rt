@@ -1,6 +1,6 @@
 //! Machines between two instructions.
 
-use sl_contexts::ContextMap;
+use sl_decode_contexts::ContextMap;
 use sl_word::State;
 
 /// A machine between two instructions.

@@ -1,7 +1,7 @@
 //! The run of an instruction's list.
 
 ghost use Rattle.std.specs.Prelude.{◌≡◌, ◌^◌, ◌<◌};
-ghost use Rattle.sl_code.specs.Nodes.{AreBytes};
+ghost use Rattle.sl_faithful_code.specs.Faithful.{AreBytes};
 ghost use Rattle.sl_pcode.specs.Operations.{operations};
 ghost use Rattle.sl_pcode.specs.WellFormed.{IsWellFormed};
 ghost use Rattle.sl_step.specs.Stages.{Runs, error_of, target};

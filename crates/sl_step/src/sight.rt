@@ -1,9 +1,9 @@
 //! How far a decode looked.
 
 ghost use Rattle.std.specs.Prelude.{◌≡◌};
-ghost use Rattle.sl_sight.specs.Sight.{reach, sight_in};
+ghost use Rattle.sl_faithful_reach.specs.Sight.{reach, sight_in};
 
-use sl_decoding::Entry;
+use sl_decode_meaning::Entry;
 
 /// How many of the first bytes a node looks at.
 fn reach(node: &Entry) -> usize

@@ -5,7 +5,7 @@ ghost use Rattle.sl_step.specs.Kept.{AreKept};
 ghost use Rattle.sl_step.specs.Machines.{Fits, IsSeen};
 ghost use Rattle.sl_step.specs.Outcomes.{Steps};
 ghost use Rattle.sl_step.specs.Stands.{StandsFor, choice_in, specification_in};
-ghost use Rattle.sl_steps.specs.Steps.{Machine as MachineOf};
+ghost use Rattle.sl_step_meaning.specs.Steps.{Machine as MachineOf};
 
 use crate::buffers::StepBuffers;
 use crate::error::StepError;

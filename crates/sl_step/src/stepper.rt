@@ -2,8 +2,8 @@
 
 ghost use Rattle.std.specs.Prelude.{◌≡◌, IfErr, IfOk, length};
 ghost use Rattle.sl_ast.specs.Views.{items_of};
-ghost use Rattle.sl_bound_translations.specs.Laws.{IsShort};
-ghost use Rattle.sl_compile.specs.Compiled.{IsCompiled};
+ghost use Rattle.sl_faithful_accepted.specs.Laws.{IsShort};
+ghost use Rattle.sl_bind_compile.specs.Compiled.{IsCompiled};
 ghost use Rattle.sl_step.specs.Kept.{AreKept, IsReadAs, IsReadFrom};
 ghost use Rattle.sl_step.specs.Stages.{IsUnread, Reads};
 ghost use Rattle.sl_step.specs.Stands.{StandsFor, choice_in, specification_in};
@@ -14,11 +14,11 @@ use crate::instruction::{Instruction, Listed};
 use crate::sight::sight_of;
 use crate::spaces::default_space;
 use crate::window::WINDOW;
+use sl_bind_compile::Compiled;
 use sl_build::{Built, Decoded, Sections};
-use sl_compile::Compiled;
 use sl_decode::{DecodeError, Walk, address_size};
-use sl_lister::Disassembly;
-use sl_sight::tokens_are_short;
+use sl_faithful_reach::tokens_are_short;
+use sl_list_instructions::Disassembly;
 use sl_word::{AddressSize, SpaceId};
 use std::alloc::{AllocError, Global};
 use std::rc::Rc;

@@ -2,7 +2,7 @@
 
 ghost use Rattle.std.specs.Prelude.{◌≡◌, ◌+◌, ◌%◌, ◌^◌, ◌<◌, length, map};
 ghost use Rattle.std.specs.List.{range_with_len};
-ghost use Rattle.sl_steps.specs.Steps.{window};
+ghost use Rattle.sl_step_meaning.specs.Steps.{step_window};
 ghost use Rattle.sl_word.specs.Bytes.{address_size, address_sizes, byte_at};
 
 use sl_word::{AddressSize, SpaceId, State};
@@ -22,7 +22,7 @@ pub(crate) fn wrapped(number: u128, size: AddressSize) -> u64
 pub(crate) fn window_at(state: &State, space: SpaceId, address: u64) -> [u8; WINDOW]
     requires { space.0 < length (address_sizes state.now) }
     ensures { result ≡ map (λ i. byte_at state.now space.0
-        ((address + i) % 256 ^ address_size state.now space.0)) (range_with_len 0 window) }
+        ((address + i) % 256 ^ address_size state.now space.0)) (range_with_len 0 step_window) }
 {
     let mut window = [0; WINDOW];
     state.fill(space, address, &mut window);

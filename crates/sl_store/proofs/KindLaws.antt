@@ -5,10 +5,10 @@ use Rattle.std.proofs.Math.Seq.{get_or-append_seam}
 use Rattle.sl_lex.specs.Bytes as b
 use Rattle.sl_lex.specs.Lexemes as l
 use Rattle.sl_store.specs.Kinds.{KindsAreLexemes}
-use Rattle.sl_packing.specs.Lexemes.{Follow, Follows, IsRead, put_after}
-use Rattle.sl_packing.specs.Lists.{AreGood}
-use Rattle.sl_packing.specs.Numbers.{greatest}
-use Rattle.sl_packing.specs.Words as w
+use Rattle.sl_store_bytes.specs.Lexemes.{Follow, Follows, IsRead, put_after}
+use Rattle.sl_store_bytes.specs.Lists.{AreGood}
+use Rattle.sl_store_bytes.specs.Numbers.{greatest}
+use Rattle.sl_store_bytes.specs.Words as w
 
 -- ---- classes of bytes
 
@@ -70,10 +70,10 @@ module _ (follow : Follow) (test : ℕ → Bool) (same : (left : ℕ) (before : 
   of_all before [] all = tt
   of_all before (c ∷ v) all = (same (length v) before c ∙ and_left (test c) (list_all test v) all, of_all (put_after before c) v (and_right (test c) (list_all test v) all))
 
-  run_of : (v : List ℕ) → IsRead follow 1 greatest v → l.IsRun test v × (length v ≤ greatest)
+  run_of : (v : List ℕ) → IsRead follow 1 greatest v → l.IsSpan test v × (length v ≤ greatest)
   run_of v read = ((read.long.low, all_of [] v read.good), read.long.high)
 
-  of_run : (v : List ℕ) → l.IsRun test v × (length v ≤ greatest) → IsRead follow 1 greatest v
+  of_run : (v : List ℕ) → l.IsSpan test v × (length v ≤ greatest) → IsRead follow 1 greatest v
   of_run v run = record { long = record { low = run.0.0; high = run.1 }; good = of_all [] v run.0.1 }
 
   one_of : (v : List ℕ) → IsRead follow 1 1 v → l.IsOne test v × (length v ≤ greatest)

@@ -1,20 +1,20 @@
 -- Laws of packing and unpacking.
 use Rattle.std.proofs.Common.{◌≡◌, ℕ, ◌-◌, ◌==◌, Bool, true, false, List, [], ◌∷◌, ◌++◌, length, Result, Ok, Err, refl, ap, sym, ◌∙◌, append-nil, arith}
-use Rattle.sl_pack.specs.Packs.{IsFileOf, packed_of}
-use Rattle.sl_pack.specs.declared.packed.Packed as program
-use Rattle.sl_packed.specs.Packed.{Written, Packed, IsPackable, IsPacked, apart, mark, pack, write_written, written_here}
-use Rattle.sl_packing.specs.Reader.{Fault, cut, damaged}
-use Rattle.sl_packing.specs.Verdicts.{HasMark, at_end}
+use Rattle.sl_store_write.specs.Packs.{IsFileOf, packed_of}
+use Rattle.sl_store_write.specs.declared.packed.Packed as program
+use Rattle.sl_store_format.specs.Packed.{Written, Packed, IsPackable, IsPacked, apart, mark, pack, write_written, written_here}
+use Rattle.sl_store_bytes.specs.Reader.{Fault, cut, damaged}
+use Rattle.sl_store_bytes.specs.Verdicts.{HasMark, at_end}
 use Rattle.sl_store.specs.Answers.{Answers, Opens, IsCut, IsDamagedAt}
 use Rattle.sl_store.specs.Laws.{HasFile, AreOneToOne, AnswersAgree, Verdict, not_packed, file_of, is_cut, is_damaged, EachHasAVerdict}
 use Rattle.sl_store.specs.Reads.{IsWhole}
 use Rattle.sl_store.specs.declared.opening.UnpackError as u
 use Rattle.sl_store.specs.declared.opening.UnpackError.TheVariants as uv
-use Rattle.sl_packed.proofs.ConditionLaws.{conditions_exact}
-use Rattle.sl_packed.proofs.PackedLaws.{exact_written, apart_one}
-use Rattle.sl_packed.proofs.ValidLaws.{packs_apart, whole_not_cut}
-use Rattle.sl_packing.proofs.MarkLaws.{right_value, right_cut, right_damaged}
-use Rattle.sl_packing.proofs.VerdictLaws.{cut_not_damaged, whole_not_damaged, one_place}
+use Rattle.sl_store_format.proofs.ConditionLaws.{conditions_exact}
+use Rattle.sl_store_format.proofs.PackedLaws.{exact_written, apart_one}
+use Rattle.sl_store_format.proofs.ValidLaws.{packs_apart, whole_not_cut}
+use Rattle.sl_store_bytes.proofs.MarkLaws.{right_value, right_cut, right_damaged}
+use Rattle.sl_store_bytes.proofs.VerdictLaws.{cut_not_damaged, whole_not_damaged, one_place}
 
 -- ---- one to one
 

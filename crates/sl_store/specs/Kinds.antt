@@ -1,12 +1,12 @@
--- Meaning: the words, texts and tokens of displays that a file may have are those of the lexer.
+-- law: the words, texts and tokens of displays that a file may have are those of the lexer.
 use Rattle.std.specs.Prelude.{◌≤◌, List, [], ℕ, length, Some}
 use Rattle.sl_lex.specs.Lexemes.{IsLexeme}
 use Rattle.sl_lex.specs.declared.TokKind.{TokKind}
 use Rattle.sl_lex.specs.declared.TokKind.TheVariants as kind
 use Rattle.sl_lex.specs.declared.mode.Mode.{Mode}
 use Rattle.sl_lex.specs.declared.mode.Mode.TheVariants as mode
-use Rattle.sl_packing.specs.Numbers.{greatest}
-use Rattle.sl_packing.specs.Words.{IsWord, IsDottedWord, IsText, IsBlank, IsCaret, IsChar}
+use Rattle.sl_store_bytes.specs.Numbers.{greatest}
+use Rattle.sl_store_bytes.specs.Words.{IsWord, IsDottedWord, IsText, IsBlank, IsCaret, IsChar}
 
 -- a lexeme of the kind with nothing after it, whose bytes a file can count
 abbrev pub IsAlone : Mode → TokKind → List ℕ → Type 0

@@ -1,12 +1,12 @@
--- Step: what is read after the mark, and at the end of the bytes.
+-- step: what is read after the mark, and at the end of the bytes.
 use Rattle.std.specs.Prelude.{◌≡◌, ℕ, List, Result, Ok, Err}
-use Rattle.sl_pack.specs.Packs.{packed_of}
-use Rattle.sl_pack.specs.declared.packed.Packed as program
-use Rattle.sl_packed.specs.Packed.{Written, apart}
-use Rattle.sl_packing.specs.Reader.{Fault, cut, damaged, Outcome}
-use Rattle.sl_packing.specs.Reads.{Stops}
-use Rattle.sl_packing.specs.declared.bytes.Stop as s
-use Rattle.sl_packing.specs.declared.bytes.Stop.TheVariants as sv
+use Rattle.sl_store_write.specs.Packs.{packed_of}
+use Rattle.sl_store_write.specs.declared.packed.Packed as program
+use Rattle.sl_store_format.specs.Packed.{Written, apart}
+use Rattle.sl_store_bytes.specs.Reader.{Fault, cut, damaged, Outcome}
+use Rattle.sl_store_bytes.specs.Reads.{Stops}
+use Rattle.sl_store_bytes.specs.declared.bytes.Stop as s
+use Rattle.sl_store_bytes.specs.declared.bytes.Stop.TheVariants as sv
 
 pub record IsRead (outcome : Outcome Written) (p : program.Packed) (left : List ℕ) : Type 0 where
   pub written : Written

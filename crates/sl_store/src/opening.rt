@@ -1,15 +1,15 @@
 //! Packed files, read.
 
-ghost use Rattle.sl_pack.specs.Packs.{IsFileOf};
-ghost use Rattle.sl_packed.specs.Packed.{Packed as PackedOf, written_here};
-ghost use Rattle.sl_packing.specs.Verdicts.{at_end};
+ghost use Rattle.sl_store_write.specs.Packs.{IsFileOf};
+ghost use Rattle.sl_store_format.specs.Packed.{Packed as PackedOf, written_here};
+ghost use Rattle.sl_store_bytes.specs.Verdicts.{at_end};
 ghost use Rattle.sl_store.specs.Answers.{Answers, Opens};
 ghost use Rattle.sl_store.specs.Reads.{Ends, ReadsPacked};
 
 use sl_ast::items::Spec;
-use sl_pack::{MARK, Packed};
-use sl_packing::{Bytes, Stop};
-use sl_unpack::{all_items, file_names};
+use sl_store_bytes::{Bytes, Stop};
+use sl_store_read::{all_items, file_names};
+use sl_store_write::{MARK, Packed};
 use std::alloc::Global;
 
 /// Why bytes aren't opened.
@@ -25,7 +25,7 @@ pub enum UnpackError {
 }
 
 /// What is after the mark.
-#[tactic(auto, unfolding(sl_packed::specs::Packed::written_here))]
+#[tactic(auto, unfolding(sl_store_format::specs::Packed::written_here))]
 fn parts<'a>(alloc: Global, bytes: &mut Bytes<'a>) -> Result<Packed<'a>, Stop>
     ensures { ReadsPacked (written_here bytes.old) result bytes.new }
 {

@@ -7,11 +7,12 @@ use Rattle.sl_outside.specs.Causes.{Rose}
 use Rattle.sl_outside.specs.Folder.{Folder}
 use Rattle.sl_outside.specs.Uses.{Names, Asks, AsksFront, UsesFiles, UsesSink}
 use Rattle.sl_preproc.specs.Asks.{AsksFor as AsksForText}
-use Rattle.sl_surely.specs.Surely.{Surely}
-use Rattle.sl_surely.proofs.SurelyLemmas.{surely, surely_map}
+use Rattle.sl_base_surely.specs.Surely.{Surely}
+use Rattle.sl_base_surely.proofs.SurelyLemmas.{surely, surely_map}
 use Rattle.sl_tool.specs.Answers.{AsksFrom, Due, Shows, UsesFilesFor, asked_after}
 use Rattle.sl_tool.specs.Answers.AsksFrom.{sound, unsound}
-use Rattle.sl_tool.specs.Outcomes.{FailsToRead, FailsToWrite, Gives, Grew, IsEarly, IsReadFault, Obtains, RanNone, StopsEarly, Streams, Writes, WritesFront}
+use Rattle.sl_tool.specs.Outcomes.{FailsToRead, FailsToWrite, Gives, IsEarly, IsReadFault, Obtains, RanNone, StopsEarly, Streams, Writes, WritesFront}
+use Rattle.sl_tool.specs.Growth.{Grew}
 use Rattle.sl_tool.specs.Request.{Request, spec_of}
 use Rattle.sl_tool.specs.Stage.{Stage, Then}
 use Rattle.sl_tool.specs.Stage.Then.{stops, goes}

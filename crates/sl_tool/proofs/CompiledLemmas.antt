@@ -3,10 +3,11 @@ use Rattle.std.proofs.Common.{◌≡◌, ℕ, List, Err, ap, ◌∙◌}
 use Rattle.sl_ast.specs.Unfolding.{firsts}
 use Rattle.sl_ast.specs.Views.{indexes_of, items_of}
 use Rattle.sl_ast.specs.declared.items.Spec.{Spec}
-use Rattle.sl_compile.specs.Outcomes as outcome
-use Rattle.sl_compile.specs.Refusals.{Refuses, at_tokens}
-use Rattle.sl_compile.specs.declared.error.CompileError.{CompileError}
-use Rattle.sl_compile.specs.declared.error.CompileError.TheVariants as e
+use Rattle.sl_bind_compile.specs.Outcomes as outcome
+use Rattle.sl_bind_compile.specs.Refusals.{Refuses}
+use Rattle.sl_bind_compile.specs.AtTokens.{at_tokens}
+use Rattle.sl_bind_compile.specs.declared.error.CompileError.{CompileError}
+use Rattle.sl_bind_compile.specs.declared.error.CompileError.TheVariants as e
 use Rattle.sl_tool.specs.Halts.{TellsRefusal}
 use Rattle.sl_tool.specs.Outcomes.{Gives}
 use Rattle.sl_tool.specs.Stages.{Compiles, refusal_told}

@@ -2,12 +2,12 @@
 use Rattle.std.proofs.Common.{◌≡◌, ℕ, ◌⊎◌, inl, inr, List, Option, Some, Result, Ok, Err, refl, subst}
 use Rattle.std.specs.Io.KnownBytes.{Appends}
 use Rattle.sl_outside.specs.Folder.{Folder}
-use Rattle.sl_surely.proofs.SurelyLemmas.{surely_map}
+use Rattle.sl_base_surely.proofs.SurelyLemmas.{surely_map}
 use Rattle.sl_tool.specs.Answers.{Answers, Shows, counts_of, figures_of, generated, shows_of}
 use Rattle.sl_tool.specs.Ends.{Means, ReadsFiles, WritesWhole}
 use Rattle.sl_tool.specs.Ends.Means.{answer}
 use Rattle.sl_tool.specs.Laws.{AcceptedAreAnswered, Accepts, Counted, EndsSo, IsAccepted, IsAnswered, IsComplete, IsTold, MayEnd, WritesAnswer}
-use Rattle.sl_tool.specs.Outcomes.{Grew}
+use Rattle.sl_tool.specs.Growth.{Grew}
 use Rattle.sl_tool.specs.Request.{CheckSpec, Generate, Request, ShowImage, Listing, Operations, Run, spec_of}
 use Rattle.sl_tool.specs.Stage.{HasOneResult, Stage, Then}
 use Rattle.sl_tool.specs.Stage.Then.{goes, stops}

@@ -7,8 +7,8 @@ use Rattle.sl_outside.specs.Uses.{Names, AsksFront}
 use Rattle.sl_preproc.specs.Asks.{AsksFor as AsksForText}
 use Rattle.sl_preproc.specs.Expanded.{asked_by}
 use Rattle.sl_preproc.proofs.MainLemmas.{asked_first}
-use Rattle.sl_surely.specs.Surely.{Surely}
-use Rattle.sl_surely.proofs.SurelyLemmas.{surely}
+use Rattle.sl_base_surely.specs.Surely.{Surely}
+use Rattle.sl_base_surely.proofs.SurelyLemmas.{surely}
 use Rattle.sl_tool.specs.Answers.{Answers, AsksFor, UsesFilesFor, ran_of, text_of, status_of}
 use Rattle.sl_tool.specs.Endings.{ended}
 use Rattle.sl_tool.specs.Ends.{Means, WritesWhole, WritesFirst, Ends, RunsFor}

@@ -2,10 +2,11 @@
 use Rattle.std.proofs.Common.{◌≡◌, ℕ, List, Option, Some, None, Ok, Err, refl, sym, ap}
 use Rattle.sl_outside.specs.Folder.{Folder}
 use Rattle.sl_outside.specs.Uses.{Names, UsesFiles}
-use Rattle.sl_directive.specs.declared.fault.Cause.TheVariants as cause
+use Rattle.sl_preproc_directives.specs.declared.fault.Cause.TheVariants as cause
 use Rattle.sl_preproc.specs.Expanded.{Text, expanded, seen}
 use Rattle.sl_preproc.specs.Expansion as preproc
-use Rattle.sl_preproc.specs.Refusals.{WhereTold, with_place}
+use Rattle.sl_preproc.specs.Refusals.{with_place}
+use Rattle.sl_preproc.specs.Folders.{WhereTold}
 use Rattle.sl_preproc.specs.Refusals.{Answers as ExpandsAs}
 use Rattle.sl_preproc.specs.Sound.{IsSound}
 use Rattle.sl_preproc.specs.Stops as early

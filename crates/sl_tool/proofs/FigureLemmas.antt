@@ -5,15 +5,15 @@ use Rattle.std.proofs.Math.ListN.{drop_of_length-le}
 use Rattle.std.specs.Prelude.{slice_get}
 use Rattle.sl_ast.specs.Trees.{Item}
 use Rattle.sl_bind.specs.Binding.{Binds, constructors_of}
-use Rattle.sl_bound_lengths.proofs.BoundLemmas.{bound_are_taken}
-use Rattle.sl_bound_places.proofs.PlaceLemmas.{taken_are_defined}
-use Rattle.sl_generator.specs.Image.{image}
-use Rattle.sl_generator.specs.Line.{figures_line}
-use Rattle.sl_lister.specs.Listing.{IsListing, image_from}
-use Rattle.sl_runner.specs.Executing.{Executes}
-use Rattle.sl_runner.specs.Running.{RunsCountedTo}
-use Rattle.sl_runner.specs.Told.{RegistersAreInSpaces}
-use Rattle.sl_runner.specs.declared.execution.Execution.{Execution}
+use Rattle.sl_decode_lengths.proofs.AcceptedLemmas.{bound_are_taken}
+use Rattle.sl_faithful_places.proofs.PlaceLemmas.{taken_are_defined}
+use Rattle.sl_tool_generator.specs.Image.{image}
+use Rattle.sl_tool_generator.specs.Line.{figures_line}
+use Rattle.sl_list_instructions.specs.Listing.{IsListing, image_from}
+use Rattle.sl_step_run.specs.Executing.{Executes}
+use Rattle.sl_step_run.specs.Running.{RunsCountedTo}
+use Rattle.sl_step_run.specs.Told.{RegistersAreInSpaces}
+use Rattle.sl_step_run.specs.declared.execution.Execution.{Execution}
 use Rattle.sl_spec.specs.declared.tables.Tables.{Tables}
 use Rattle.sl_tool.specs.Figures.{CountsSo, IsFigured, IsListed}
 use Rattle.sl_tool.specs.Generated.{figures_told, lines_behind, shown_from, shown_lines}

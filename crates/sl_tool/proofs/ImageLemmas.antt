@@ -4,7 +4,7 @@ use Rattle.std.proofs.Math.Nat.{mod-eq_of_lt}
 use Rattle.std.proofs.Math.Pow.{pow_mono}
 use Rattle.sl_word.proofs.Powers.{bytes-bits, bytes_mono}
 use Rattle.sl_tool.specs.Outcomes.{Gives, Obtains}
-use Rattle.sl_runner.specs.Running.{HasRoom}
+use Rattle.sl_step_run.specs.Running.{HasRoom}
 use Rattle.sl_tool.specs.declared.halt.Halt.{Halt}
 use Rattle.sl_tool.specs.declared.halt.Halt.TheVariants.{Refused, ReadFault, WriteFault, NoMemory}
 use Rattle.sl_tool.specs.declared.refusal.Refusal.{Refusal}

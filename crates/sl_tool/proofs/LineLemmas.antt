@@ -6,8 +6,8 @@ use Rattle.hex.specs.Hex.{encode_lower}
 use Rattle.sl_cube.specs.declared.Point.{Point}
 use Rattle.sl_tool.specs.Lines.{point_text}
 use Rattle.sl_tool.specs.Problems.{point_line, apart_lines}
-use Rattle.sl_settle.specs.declared.report.Apart.{Apart}
-use Rattle.sl_settle.specs.declared.report.Apart.TheVariants.{Two}
+use Rattle.sl_cube_sets.specs.declared.report.Apart.{Apart}
+use Rattle.sl_cube_sets.specs.declared.report.Apart.TheVariants.{Two}
 
 -- three pieces after a text, of which the last came with a result
 three_pieces : {T E : Type 0} (r : Result T E) (start one two whole a b c : List ℕ)

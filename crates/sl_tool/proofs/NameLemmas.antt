@@ -13,8 +13,8 @@ use Rattle.sl_ast.specs.Spelling.{name, spell}
 use Rattle.sl_ast.specs.Symbols.{Sym, keyword_of, plain, word_by, word_of}
 use Rattle.sl_ast.specs.Trees.{Item}
 use Rattle.sl_ast.specs.declared.symbols.Keyword.{Keyword}
-use Rattle.sl_bound_places.specs.Laws.{IsText, NamesAreTexts}
-use Rattle.sl_bound_translations.proofs.Flats.{of_map}
+use Rattle.sl_faithful_places.specs.Laws.{IsText, NamesAreTexts}
+use Rattle.sl_faithful_accepted.proofs.Flats.{of_map}
 use Rattle.sl_lex.specs.Bytes.{begins_word, is_between, is_digit, is_letter, is_word_byte}
 use Rattle.sl_lex.specs.Laws.{IsSliceOf, IsSomeLexeme}
 use Rattle.sl_lex.specs.Reading.{ReadsAs, Token}
@@ -24,7 +24,7 @@ use Rattle.sl_lex.proofs.KindLemmas.{lexemes, word_of as word_bytes}
 use Rattle.sl_lex.proofs.RunLemmas.{both_true}
 use Rattle.sl_lex.proofs.SliceLemmas.{slices}
 use Rattle.sl_outside.specs.Folder.{size_limit}
-use Rattle.sl_symbols.specs.Symbols.{symbol_by, symbol_of, symbols_of}
+use Rattle.sl_parse_terminals.specs.Symbols.{symbol_by, symbol_of, symbols_of}
 
 -- ---- the bytes of words
 

@@ -1,9 +1,9 @@
 -- A request has one answer, but for lists of operations.
 use Rattle.std.proofs.Common.{◌≡◌, ℕ, List, Option, Some, Result, Ok, Err, refl, sym, ◌∙◌}
-use Rattle.sl_compile.specs.Outcomes.{all_constructors}
-use Rattle.sl_lister.proofs.LawLemmas.{listing_is_one}
+use Rattle.sl_bind_compile.specs.Outcomes.{all_constructors}
+use Rattle.sl_list_instructions.proofs.ImageLawLemmas.{listing_is_one}
 use Rattle.sl_outside.specs.Folder.{Folder}
-use Rattle.sl_tool.specs.Answers.{Due, Follows, Shows, Tells, counts_of, figures_of, generated, shows_of}
+use Rattle.sl_tool.specs.Answers.{Due, Follows, Shows, ShowsText, counts_of, figures_of, generated, shows_of}
 use Rattle.sl_tool.specs.Laws.{AreAlike, HasOneAnswer, IsTold, PrintsNoList}
 use Rattle.sl_tool.specs.Request.{CheckSpec, Generate, Request, ShowImage, Listing, Operations, Run, spec_of}
 use Rattle.sl_tool.specs.Values.{Compiled, Shown}
@@ -21,7 +21,7 @@ shows_one due a one (Ok s) (Ok u) h g = one s u h g
 shows_one due a one (Ok s) (Err y) h g = absurd g
 shows_one due a one (Err x) y h g = absurd h
 
-tells_one : (Is : List ℕ → Type 0) → ((text other : List ℕ) → Is text → Is other → text ≡ other) → IsOne (Tells Is)
+tells_one : (Is : List ℕ → Type 0) → ((text other : List ℕ) → Is text → Is other → text ≡ other) → IsOne (ShowsText Is)
 tells_one Is one s u h g = (h.ending ∙ sym g.ending, one s.text u.text h.text g.text)
 
 follows_one : (told : Option Folder) (r : Request) → IsTold told r → PrintsNoList r → (c : Compiled) (x y : Result Shown Refusal)

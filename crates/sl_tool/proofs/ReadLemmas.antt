@@ -1,8 +1,8 @@
 -- What is known of a specification that was read: it is short, and its names are UTF-8.
 use Rattle.std.proofs.Common.{◌≡◌, List, ℕ, Option, None, Some, Result, Ok, Err, refl, sym, ap, subst}
-use Rattle.sl_bound_places.specs.Laws.{NamesAreTexts}
-use Rattle.sl_bound_translations.specs.Laws.{IsShort}
-use Rattle.sl_compile.specs.Outcomes as outcome
+use Rattle.sl_faithful_places.specs.Laws.{NamesAreTexts}
+use Rattle.sl_faithful_accepted.specs.Laws.{IsShort}
+use Rattle.sl_bind_compile.specs.Outcomes as outcome
 use Rattle.sl_outside.specs.Folder.{Folder}
 use Rattle.sl_preproc.specs.Expanded.{Text, expanded}
 use Rattle.sl_preproc.specs.Readings as preproc

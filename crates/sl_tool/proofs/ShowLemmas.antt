@@ -6,18 +6,18 @@ use Rattle.std.proofs.lemmas.List.{take-append-le, take_min}
 use Rattle.sl_ast.specs.Trees.{Constructor, Item}
 use Rattle.sl_ast.specs.Unfolding.{Placed}
 use Rattle.sl_bind.specs.Binding.{Binds}
-use Rattle.sl_bound_translations.specs.Laws.{IsShort}
-use Rattle.sl_compile.specs.Outcomes.{Compiles, all_constructors}
-use Rattle.sl_list.specs.Listings.{AppendsFront}
-use Rattle.sl_list.specs.declared.listings.ListError.{ListError}
-use Rattle.sl_list.specs.declared.listings.ListError.TheVariants as list
-use Rattle.sl_lister.specs.Listing.{Image, IsListing}
+use Rattle.sl_faithful_accepted.specs.Laws.{IsShort}
+use Rattle.sl_bind_compile.specs.Outcomes.{Compiles, all_constructors}
+use Rattle.sl_list_instructions.specs.Fronts.{AppendsFront}
+use Rattle.sl_list_instructions.specs.declared.listings.ListError.{ListError}
+use Rattle.sl_list_instructions.specs.declared.listings.ListError.TheVariants as list
+use Rattle.sl_list_instructions.specs.Listing.{Image, IsListing}
 use Rattle.sl_spec.specs.declared.tables.Tables.{Tables}
-use Rattle.sl_lister.specs.Writing as lister
+use Rattle.sl_list_instructions.specs.Writing as lister
 use Rattle.sl_outside.specs.Uses.{UsesSink}
-use Rattle.sl_pcode_lister.proofs.WholeLemmas.{begun_go_on}
-use Rattle.sl_pcode_lister.specs.Writing as pcode
-use Rattle.sl_tool.specs.Answers.{Due, Tells, shows_of}
+use Rattle.sl_list_pcode.proofs.WholeLemmas.{begun_go_on}
+use Rattle.sl_list_pcode.specs.Writing as pcode
+use Rattle.sl_tool.specs.Answers.{Due, ShowsText, shows_of}
 use Rattle.sl_tool.specs.Halts.{listed}
 use Rattle.sl_tool.specs.Outcomes.{FailsToWrite, RanNone, Streams, StreamsFront}
 use Rattle.sl_tool.specs.Writing.{IsOfWriting}
@@ -30,14 +30,14 @@ use Rattle.sl_tool.specs.declared.status.Ending.TheVariants.{Done}
 use Rattle.sl_word.specs.declared.word.Size.{Size}
 
 -- a text that is due, in which nothing runs
-abbrev pub told_so : (Is : List ℕ → Type 0) (text : List ℕ) → Is text → Tells Is (shown Done text 0)
+abbrev pub told_so : (Is : List ℕ → Type 0) (text : List ℕ) → Is text → ShowsText Is (shown Done text 0)
 told_so Is text is = record { ending = refl; text = is; ran = refl }
 
 module _ (Is : List ℕ → Type 0) (a b : Option (List ℕ)) where
-  whole_told : (text : List ℕ) → Is text → Appends a b text → Streams (Tells Is) a b RanNone (Ok Done)
+  whole_told : (text : List ℕ) → Is text → Appends a b text → Streams (ShowsText Is) a b RanNone (Ok Done)
   whole_told text is w = (text, 0, told_so Is text is, w, refl)
 
-  front_told : (text : List ℕ) → Is text → AppendsFront a b text → StreamsFront (Tells Is) a b RanNone
+  front_told : (text : List ℕ) → Is text → AppendsFront a b text → StreamsFront (ShowsText Is) a b RanNone
   front_told text is w = (shown Done text 0, w.0, told_so Is text is, w.1, refl)
 
 -- the front of a front of a text is one of the text

@@ -1,22 +1,22 @@
 -- It can't be that a request has no answer.
 use Rattle.std.proofs.Common.{ℕ, Bool, List, codes, length, Option, Some, Result, Ok, refl, sym, subst}
 use Rattle.sl_bind.specs.Binding.{constructors_of}
-use Rattle.sl_compile.specs.Outcomes.{all_constructors}
-use Rattle.sl_lister.proofs.AcceptedLemmas.{IsAccepted, accepted}
-use Rattle.sl_lister.proofs.LawLemmas.{some_listing}
-use Rattle.sl_lister.specs.Listing.{Image, IsListing}
+use Rattle.sl_bind_compile.specs.Outcomes.{all_constructors}
+use Rattle.sl_list_instructions.proofs.AcceptedLemmas.{IsAccepted, accepted}
+use Rattle.sl_list_instructions.proofs.ImageLawLemmas.{some_listing}
+use Rattle.sl_list_instructions.specs.Listing.{Image, IsListing}
 use Rattle.sl_outside.specs.Folder.{Folder}
-use Rattle.sl_pcode_lister.proofs.WholeLemmas.{some_pcode_listing}
-use Rattle.sl_pcode_lister.specs.Listing.{IsPcodeListing}
-use Rattle.sl_runner.proofs.CountedLemmas.{some_counted_outcome, some_counted_text}
-use Rattle.sl_runner.specs.Running.{IsCountedRunText, Outcome, RunsCountedTo}
-use Rattle.sl_surely.proofs.SurelyLemmas.{surely, surely_map, surely_then}
+use Rattle.sl_list_pcode.proofs.WholeLemmas.{some_pcode_listing}
+use Rattle.sl_list_pcode.specs.Listing.{IsPcodeListing}
+use Rattle.sl_step_run.proofs.CountedLemmas.{some_counted_outcome, some_counted_text}
+use Rattle.sl_step_run.specs.Running.{IsCountedRunText, RunOutcome, RunsCountedTo}
+use Rattle.sl_base_surely.proofs.SurelyLemmas.{surely, surely_map, surely_then}
 use Rattle.sl_tool.specs.Answers.{Answers, Shows, counts_of, figures_of, generated, shows_of}
 use Rattle.sl_tool.specs.Endings.{ending_of}
 use Rattle.sl_tool.specs.Generated.{generated_image}
 use Rattle.sl_tool.specs.Lines.{count_line}
 use Rattle.sl_tool.specs.Request.{CheckSpec, Generate, Request, Show, ShowImage, Listing, Operations, Run, spec_of}
-use Rattle.sl_surely.specs.Surely.{Surely}
+use Rattle.sl_base_surely.specs.Surely.{Surely}
 use Rattle.sl_tool.specs.Stage.{HasSomeResult}
 use Rattle.sl_tool.specs.Values.{Compiled, Loaded, Shown, shown}
 use Rattle.sl_tool.specs.declared.refusal.Refusal.{Refusal}
@@ -41,7 +41,7 @@ module _ (c : Compiled) (size : ℕ) (is : IsSpecified c) (known : IsAccepted c.
   HasListing = (listing : List ℕ) × IsListing c.tables (constructors_of c.tree.items) image listing
 
   abbrev HasOutcome : Type 0
-  HasOutcome = (count : ℕ) × (outcome : Outcome) × RunsCountedTo c.tree.items c.tables known.sizes image size count outcome
+  HasOutcome = (count : ℕ) × (outcome : RunOutcome) × RunsCountedTo c.tree.items c.tables known.sizes image size count outcome
 
   figures_of_both : HasListing → HasOutcome → (r : Result Shown Refusal) × Shows (figures_of size) c r
   figures_of_both l o = (

@@ -2,15 +2,16 @@
 use Rattle.std.proofs.Common.{◌≡◌, ℕ, zero, suc, ◌+◌, Bool, true, false, List, [], ◌∷◌, Option, Some, None, Result, Ok, Err, refl, subst}
 use Rattle.std.specs.Prelude.{IfOk, ◌==◌, if◌then◌else◌}
 use Rattle.std.specs.List.{AllByRecursion}
-use Rattle.sl_directive.specs.Lines.{lines, on_first_line}
-use Rattle.sl_directive.specs.Outcomes.{◌>>◌}
+use Rattle.sl_preproc_directives.specs.Lines.{lines, on_first_line}
+use Rattle.sl_preproc_directives.specs.Outcomes.{◌>>◌}
 use Rattle.sl_outside.specs.Folder.{Folder}
 use Rattle.sl_preproc.specs.ByLines.{at_end, expand_lines, line_done, line_step}
 use Rattle.sl_preproc.specs.Expanded.{Text, expanded, text_of}
 use Rattle.sl_preproc.specs.Expansion.{Includer, Work, expand_file, expansion, fetched, if_included, included, nothing_yet, on_line}
 use Rattle.sl_preproc.specs.Naming.{joined_name}
 use Rattle.sl_preproc.specs.Readings.{Reading, Refusal, going_on, pure, ◌>>=◌}
-use Rattle.sl_preproc.specs.Sound.{IsSound, IsWhole, NoFeed}
+use Rattle.sl_preproc.specs.Sound.{IsSound}
+use Rattle.sl_preproc.specs.Whole.{IsWhole, NoFeed}
 use Rattle.sl_preproc.specs.declared.groups.Group.{Group}
 use Rattle.sl_preproc.proofs.LineLemmas.{by_lines}
 use Rattle.sl_preproc.proofs.SoundLemmas.{is_sound, nothing_whole, read_whole}

@@ -6,28 +6,28 @@ use Rattle.sl_ast.specs.Spelling.{spell}
 use Rattle.sl_ast.specs.Trees.{Item}
 use Rattle.sl_ast.specs.Unfolding.{firsts}
 use Rattle.sl_ast.specs.Validity.{AreItems}
-use Rattle.sl_compile.specs.Outcomes as outcome
-use Rattle.sl_compile.specs.Refusals.{at_tokens}
-use Rattle.sl_compile.proofs.OutcomeLemmas.{compiles_one as outcome_one, some_compiles}
-use Rattle.sl_context_words.specs.Words.{starting_context}
-use Rattle.sl_decoding.specs.Actions.{address_bytes}
-use Rattle.sl_grammar.proofs.Faults.{one_tree}
+use Rattle.sl_bind_compile.specs.Outcomes as outcome
+use Rattle.sl_bind_compile.specs.AtTokens.{at_tokens}
+use Rattle.sl_bind_compile.proofs.OutcomeLemmas.{compiles_one as outcome_one, some_compiles}
+use Rattle.sl_tool_contexts.specs.Words.{starting_context}
+use Rattle.sl_decode_meaning.specs.Actions.{address_bytes}
+use Rattle.sl_parse_grammar.proofs.Faults.{one_tree}
 use Rattle.sl_lex.specs.Faults.{Fault}
 use Rattle.sl_lex.specs.Reading.{Token}
 use Rattle.sl_lex.specs.Laws.{HasReading}
 use Rattle.sl_lex.proofs.OneReading.{one_bad_place, one_reading, reads_well}
 use Rattle.sl_lex.proofs.SomeReading.{each_text_reads}
-use Rattle.sl_lister.specs.Listing.{Image}
+use Rattle.sl_list_instructions.specs.Listing.{Image}
 use Rattle.sl_outside.specs.Folder.{Folder, IsTooLong, size_limit}
-use Rattle.sl_places.specs.Causes.{IsFault, Reason}
-use Rattle.sl_places.specs.Laws.{IsSpelled}
-use Rattle.sl_places.proofs.Places.{any_have, faults_are_one, trees_have_none}
+use Rattle.sl_parse_faults.specs.Causes.{IsFault, Reason}
+use Rattle.sl_parse_faults.specs.Laws.{IsSpelled}
+use Rattle.sl_parse_faults.proofs.Places.{any_have, faults_are_one, trees_have_none}
 use Rattle.sl_preproc.specs.Expanded.{expanded}
-use Rattle.sl_request.specs.Requests.{Target}
-use Rattle.sl_surely.specs.Surely.{Surely}
-use Rattle.sl_surely.proofs.SurelyLemmas.{surely, surely_map}
+use Rattle.sl_tool_request.specs.Requests.{Target}
+use Rattle.sl_base_surely.specs.Surely.{Surely}
+use Rattle.sl_base_surely.proofs.SurelyLemmas.{surely, surely_map}
 use Rattle.sl_spec.specs.declared.tables.Tables as spec
-use Rattle.sl_symbols.specs.Symbols.{symbols_of}
+use Rattle.sl_parse_terminals.specs.Symbols.{symbols_of}
 use Rattle.sl_tool.specs.Places.{place_of_byte, place_of_token}
 use Rattle.sl_tool.specs.Problems.{refusal, refusal_at}
 use Rattle.sl_tool.specs.Stage.{HasOneResult, HasSomeResult}
@@ -107,7 +107,7 @@ compiles_one t (Err x) (Err y) h g =
     ap Err (h.2 ∙ ap (λ (w : outcome.Refusal). refusal_told t.tokens (at_tokens (firsts t.items) w))
     (err_is spec.Tables h.0 g.0 (outcome_one t.items (Err h.0) (Err g.0) h.1 g.1)) ∙ sym g.2)
 
-compiles_by : (t : Tree) → (r : outcome.Outcome) × outcome.Compiles t.items r → (r : Result Compiled Refusal) × Compiles t r
+compiles_by : (t : Tree) → (r : outcome.Compilation) × outcome.Compiles t.items r → (r : Result Compiled Refusal) × Compiles t r
 compiles_by t (Ok b, h) = (Ok (compiled t b), (refl, h))
 compiles_by t (Err why, h) = (Err (refusal_told t.tokens (at_tokens (firsts t.items) why)), (why, h, refl))
 

@@ -1,6 +1,6 @@
 -- Two stages, one after the other.
 use Rattle.std.proofs.Common.{◌≡◌, None, Some, Result, Ok, Err, sym, ap, subst}
-use Rattle.sl_surely.proofs.SurelyLemmas.{surely, surely_map, surely_then}
+use Rattle.sl_base_surely.proofs.SurelyLemmas.{surely, surely_map, surely_then}
 use Rattle.sl_tool.specs.Stage.{Stage, Then, HasOneResult, HasSomeResult}
 use Rattle.sl_tool.specs.Stage.Then.{stops, goes}
 

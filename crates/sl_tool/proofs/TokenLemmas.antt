@@ -6,7 +6,7 @@ use Rattle.std.proofs.lemmas.List.{length-map}
 use Rattle.sl_ast.specs.Spelling.{spell}
 use Rattle.sl_ast.specs.Symbols.{Sym}
 use Rattle.sl_ast.specs.Trees.{Item}
-use Rattle.sl_bound_translations.specs.Laws.{IsShort}
+use Rattle.sl_faithful_accepted.specs.Laws.{IsShort}
 use Rattle.sl_lex.specs.Faults.{Fault}
 use Rattle.sl_lex.specs.Reading.{Piece, Reads, ReadsAs, Token, kept, mode_after, tokens_of}
 use Rattle.sl_lex.specs.declared.TokKind.{TokKind}
@@ -15,7 +15,7 @@ use Rattle.sl_lex.specs.declared.mode.Mode.TheVariants.{Top}
 use Rattle.sl_lex.proofs.ReadingLemmas.{lexeme_some}
 use Rattle.sl_preproc.specs.Expanded.{Text}
 use Rattle.sl_preproc.specs.Sound.{IsSound}
-use Rattle.sl_symbols.specs.Symbols.{symbol_of, symbols_of}
+use Rattle.sl_parse_terminals.specs.Symbols.{symbol_of, symbols_of}
 
 one_kept : (kind : Option TokKind) (p : Piece) (ts : List Token) → length (kept kind p ts) ≤ 1 + length ts
 one_kept None p ts = omega arith

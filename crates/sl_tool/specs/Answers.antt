@@ -1,9 +1,9 @@
 -- meaning: the answer to a request, and the files that it asks for.
 use Rattle.std.specs.Prelude.{◌≡◌, ℕ, ◌≤◌, List, [], ◌∷◌, ◌++◌, codes, length, Option, None, Some, Result, Ok, Err, if◌then◌else◌}
 use Rattle.std.specs.Str.{bytes_eq}
-use Rattle.sl_compile.specs.Outcomes.{all_constructors}
-use Rattle.sl_generator.specs.Specification.{specification}
-use Rattle.sl_lister.specs.Listing.{IsListing}
+use Rattle.sl_bind_compile.specs.Outcomes.{all_constructors}
+use Rattle.sl_tool_generator.specs.Specification.{specification}
+use Rattle.sl_list_instructions.specs.Listing.{IsListing}
 use Rattle.sl_outside.specs.Causes.{Rose}
 use Rattle.sl_outside.specs.Folder.{Folder}
 use Rattle.sl_outside.specs.Uses.{Names, Asks, AsksFront}
@@ -13,8 +13,8 @@ use Rattle.sl_tool.specs.Generated.{AreFigures}
 use Rattle.sl_tool.specs.Lines.{count_line}
 use Rattle.sl_tool.specs.Problems.{refusal_text}
 use Rattle.sl_tool.specs.Request.{Request, CheckSpec, ShowImage, Generate, Show, Listing, Operations, Run, spec_of}
-use Rattle.sl_tool.specs.Shows.{IsOperations, IsRun}
-use Rattle.sl_surely.specs.Surely.{Surely}
+use Rattle.sl_tool.specs.Shows.{IsOperations, ShowsRun}
+use Rattle.sl_base_surely.specs.Surely.{Surely}
 use Rattle.sl_tool.specs.Stage.{Stage, Then}
 use Rattle.sl_tool.specs.Stages.{Loads, Specifies}
 use Rattle.sl_tool.specs.Values.{Compiled, Loaded, Shown}
@@ -30,20 +30,20 @@ abbrev pub Due : Type 1
 Due = Shown → Type 0
 
 -- This text is written, and no operation is run.
-pub record Tells (Is : List ℕ → Type 0) (s : Shown) : Type 0 where
+pub record ShowsText (Is : List ℕ → Type 0) (s : Shown) : Type 0 where
   pub ending : s.ending ≡ Done
   pub text : Is s.text
   pub ran : s.ran ≡ 0
 
 -- what is due of a sound specification: how many tables and constructors there are
 abbrev pub counts_of : Compiled → Due
-counts_of c = Tells (λ text. text ≡ count_line (length c.tables.tables) (length c.tables.constructors))
+counts_of c = ShowsText (λ text. text ≡ count_line (length c.tables.tables) (length c.tables.constructors))
 
 -- what is due of an image
 abbrev pub shows_of : Show → Loaded → Due
-shows_of Listing l = Tells (IsListing l.compiled.tables (all_constructors l.compiled.tree.items) l.image)
-shows_of Operations l = Tells (IsOperations l)
-shows_of (Run steps) l = IsRun l steps
+shows_of Listing l = ShowsText (IsListing l.compiled.tables (all_constructors l.compiled.tree.items) l.image)
+shows_of Operations l = ShowsText (IsOperations l)
+shows_of (Run steps) l = ShowsRun l steps
 
 -- what is due of a specification that was generated
 abbrev pub figures_of : (size : ℕ) → Compiled → Due

@@ -1,12 +1,12 @@
 -- step: parts of what `gen` tells.
 use Rattle.std.specs.Prelude.{◌≡◌, ℕ, ◌^◌, ◌≤◌, Bool, List, drop, length}
 use Rattle.sl_bind.specs.Binding.{constructors_of}
-use Rattle.sl_decoding.specs.Actions.{address_bytes}
-use Rattle.sl_lister.specs.Listing.{IsListing, image_from}
-use Rattle.sl_runner.specs.Running.{HasRoom}
+use Rattle.sl_decode_meaning.specs.Actions.{address_bytes}
+use Rattle.sl_list_instructions.specs.Listing.{IsListing, image_from}
+use Rattle.sl_step_run.specs.Running.{HasRoom}
 use Rattle.sl_spec.specs.declared.tables.Tables.{Tables}
 use Rattle.sl_tool.specs.Generated.{AreFigures, shown_from, shown_lines}
-use Rattle.sl_tool.specs.Outcomes.{Grew}
+use Rattle.sl_tool.specs.Growth.{Grew}
 use Rattle.sl_tool.specs.Values.{Compiled, shown}
 use Rattle.sl_tool.specs.declared.status.Ending.TheVariants.{Done}
 

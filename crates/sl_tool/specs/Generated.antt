@@ -1,12 +1,12 @@
 -- meaning: what `gen` tells of the specification that it generates.
 use Rattle.std.specs.Prelude.{◌≡◌, ℕ, ◌+◌, ◌%◌, ◌==◌, ◌||◌, Bool, false, if◌then◌else◌, List, [], ◌∷◌, Option, None, Some, Ok, slice_get}
 use Rattle.sl_bind.specs.Binding.{Binds, constructors_of}
-use Rattle.sl_generator.specs.Image.{image}
-use Rattle.sl_generator.specs.Line.{figures_line}
-use Rattle.sl_generator.specs.declared.line.Figures.{Figures}
-use Rattle.sl_lister.specs.Listing.{Image, IsListing, image_from}
-use Rattle.sl_runner.specs.RunLines.{held}
-use Rattle.sl_runner.specs.Running.{Outcome, RunsCountedTo}
+use Rattle.sl_tool_generator.specs.Image.{image}
+use Rattle.sl_tool_generator.specs.Line.{figures_line}
+use Rattle.sl_tool_generator.specs.declared.line.Figures.{Figures}
+use Rattle.sl_list_instructions.specs.Listing.{Image, IsListing, image_from}
+use Rattle.sl_step_run.specs.RunLines.{held}
+use Rattle.sl_step_run.specs.Running.{RunOutcome, RunsCountedTo}
 use Rattle.sl_spec.specs.Tables.{Register}
 use Rattle.sl_spec.specs.declared.tables.Tables.{Tables}
 use Rattle.sl_tool.specs.Values.{Compiled, Shown}
@@ -56,7 +56,7 @@ figures_told t size listed ran m = record {
 pub record AreFigures (c : Compiled) (size : ℕ) (s : Shown) : Type 0 where
   pub sizes : List (List Size)
   pub listing : List ℕ
-  pub outcome : Outcome
+  pub outcome : RunOutcome
   pub bound : Binds c.tree.items (Ok (c.tables, sizes))
   pub lists : IsListing c.tables (constructors_of c.tree.items) (generated_image size) listing
   pub runs : RunsCountedTo c.tree.items c.tables sizes (generated_image size) size s.ran outcome

@@ -1,12 +1,12 @@
--- view: the errors of the crates below as halts and problems.
+-- step: the errors of the crates below as halts and problems.
 use Rattle.std.specs.Prelude.{◌≡◌, ℕ, Option, Some, None, Result, Ok, Err, string_bytes, ⊤}
-use Rattle.sl_compile.specs.Outcomes.{ambiguous, flawed}
-use Rattle.sl_compile.specs.declared.error.CompileError.{CompileError}
-use Rattle.sl_compile.specs.declared.error.CompileError.TheVariants as compile
+use Rattle.sl_bind_compile.specs.Outcomes.{ambiguous, flawed}
+use Rattle.sl_bind_compile.specs.declared.error.CompileError.{CompileError}
+use Rattle.sl_bind_compile.specs.declared.error.CompileError.TheVariants as compile
 use Rattle.sl_lex.specs.declared.LexError.{LexError}
 use Rattle.sl_lex.specs.declared.LexError.TheVariants as lex
-use Rattle.sl_list.specs.declared.listings.ListError.{ListError}
-use Rattle.sl_list.specs.declared.listings.ListError.TheVariants as list
+use Rattle.sl_list_instructions.specs.declared.listings.ListError.{ListError}
+use Rattle.sl_list_instructions.specs.declared.listings.ListError.TheVariants as list
 use Rattle.sl_parse.specs.declared.parser.ParseError.{ParseError}
 use Rattle.sl_parse.specs.declared.parser.ParseError.TheVariants as parse
 use Rattle.sl_preproc.specs.declared.error.PreError.{PreError}

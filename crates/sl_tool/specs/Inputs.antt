@@ -1,8 +1,8 @@
 -- step: what the last stages need of those before.
 use Rattle.std.specs.Prelude.{◌+◌, ◌^◌, ◌≤◌, length}
-use Rattle.sl_compile.specs.Compiled.{IsCompiled}
-use Rattle.sl_decoding.specs.Actions.{address_bytes}
-use Rattle.sl_runner.specs.Running.{HasRoom}
+use Rattle.sl_bind_compile.specs.Compiled.{IsCompiled}
+use Rattle.sl_decode_meaning.specs.Actions.{address_bytes}
+use Rattle.sl_step_run.specs.Running.{HasRoom}
 use Rattle.sl_tool.specs.declared.loaded.Loaded.{Loaded}
 
 -- The specification was compiled, and the image fits its default space.

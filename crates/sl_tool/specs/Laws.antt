@@ -6,9 +6,9 @@ use Rattle.sl_outside.specs.Folder.{Folder}
 use Rattle.sl_tool.specs.Answers.{Answers, generated}
 use Rattle.sl_tool.specs.Endings.{ended}
 use Rattle.sl_tool.specs.Ends.{Ends, ReadsFiles}
-use Rattle.sl_tool.specs.Outcomes.{Grew}
+use Rattle.sl_tool.specs.Growth.{Grew}
 use Rattle.sl_tool.specs.Request.{CheckSpec, Generate, Request, ShowImage, Listing, Operations, Run, spec_of}
-use Rattle.sl_surely.specs.Surely.{Surely}
+use Rattle.sl_base_surely.specs.Surely.{Surely}
 use Rattle.sl_tool.specs.Stage.{Then}
 use Rattle.sl_tool.specs.Stages.{Loads, Specifies}
 use Rattle.sl_tool.specs.Values.{Compiled, Loaded, Shown}

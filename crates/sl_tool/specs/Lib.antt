@@ -11,6 +11,7 @@ pub mod Generated
 pub mod Figures
 pub mod Answers
 pub mod Outcomes
+pub mod Growth
 pub mod Ends
 pub mod Laws
 pub mod Requests

@@ -1,5 +1,5 @@
--- meaning: what a part of the program promises of a stage.
-use Rattle.std.specs.Prelude.{◌≡◌, ℕ, ◌+◌, ◌-◌, ◌^◌, min, ◌⊎◌, List, [], take, Option, Result, Ok, Err, ⊤}
+-- step: what a part of the program promises of a stage.
+use Rattle.std.specs.Prelude.{◌≡◌, ℕ, ◌⊎◌, List, [], take, Option, Result, Ok, Err, ⊤}
 use Rattle.std.specs.Io.KnownBytes.{Appends}
 use Rattle.sl_tool.specs.Answers.{Due, ran_of, text_of}
 use Rattle.sl_tool.specs.Values.{Shown, shown}
@@ -62,10 +62,6 @@ FailsToWrite (Ok v) = ⊥
 FailsToWrite (Err h) = IsWriteFault h
 
 -- ---- what was written, and how many operations ran
-
--- The count of a runner grew by so many, up to the largest of 64 bits.
-abbrev pub Grew : (old new : ℕ) → (ran : ℕ) → Type 0
-Grew old new ran = new ≡ min (old + ran) (2 ^ 64 - 1)
 
 -- No operation ran.
 abbrev pub RanNone : (ran : ℕ) → Type 0

@@ -4,8 +4,8 @@ use Rattle.std.specs.Fmt.{decimal}
 use Rattle.sl_ast.specs.declared.symbols.Feature.{Feature}
 use Rattle.sl_ast.specs.declared.symbols.Feature.TheVariants as feature
 use Rattle.sl_cube.specs.declared.Point.{Point}
-use Rattle.sl_settle.specs.declared.report.Apart.{Apart}
-use Rattle.sl_settle.specs.declared.report.Apart.TheVariants.{Same, Two}
+use Rattle.sl_cube_sets.specs.declared.report.Apart.{Apart}
+use Rattle.sl_cube_sets.specs.declared.report.Apart.TheVariants.{Same, Two}
 use Rattle.sl_tool.specs.Lines.{place_text, point_text}
 use Rattle.sl_tool.specs.declared.problem.Conflict.{Conflict}
 use Rattle.sl_tool.specs.declared.problem.Problem.{Problem}

@@ -1,6 +1,6 @@
 -- meaning: the requests, and the usage line.
 use Rattle.std.specs.Prelude.{ℕ, List, Option, codes, option_map}
-use Rattle.sl_request.specs.Requests.{Asked, Checks, Lists, Prints, Runs, Generates, Target, asked_of}
+use Rattle.sl_tool_request.specs.Requests.{Asked, Checks, Lists, Prints, Runs, Generates, Target, asked_of}
 
 -- What is shown of an image: its listing, the listing with the operations of each instruction, or its
 -- run for at most so many steps.

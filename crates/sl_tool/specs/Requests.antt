@@ -1,5 +1,5 @@
--- view: a request as the program keeps it.
-use Rattle.sl_request.specs.Views.{target}
+-- step: a request as the program keeps it.
+use Rattle.sl_tool_request.specs.Views.{target}
 use Rattle.sl_tool.specs.Request as spec
 use Rattle.sl_tool.specs.declared.request.Request.{Request}
 use Rattle.sl_tool.specs.declared.request.Request.TheVariants.{Check, Generate, Show as ShowImage}

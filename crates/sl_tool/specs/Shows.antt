@@ -1,8 +1,8 @@
 -- meaning: what is shown of an image besides its listing.
 use Rattle.std.specs.Prelude.{◌≡◌, ℕ, Bool, List, Ok}
 use Rattle.sl_bind.specs.Binding.{Binds}
-use Rattle.sl_pcode_lister.specs.Listing.{IsPcodeListing}
-use Rattle.sl_runner.specs.Running.{IsCountedRunText}
+use Rattle.sl_list_pcode.specs.Listing.{IsPcodeListing}
+use Rattle.sl_step_run.specs.Running.{IsCountedRunText}
 use Rattle.sl_tool.specs.Endings.{ending_of}
 use Rattle.sl_tool.specs.Values.{Loaded, Shown}
 use Rattle.sl_word.specs.declared.word.Size.{Size}
@@ -15,7 +15,7 @@ pub record IsOperations (l : Loaded) (text : List ℕ) : Type 0 where
 
 -- It tells the run of the image for at most so many steps, in which so many operations ran. Where a step has a fault, the
 -- request ends as stopped.
-pub record IsRun (l : Loaded) (steps : ℕ) (s : Shown) : Type 0 where
+pub record ShowsRun (l : Loaded) (steps : ℕ) (s : Shown) : Type 0 where
   pub sizes : List (List Size)
   pub bound : Binds l.compiled.tree.items (Ok (l.compiled.tables, sizes))
   pub stopped : Bool

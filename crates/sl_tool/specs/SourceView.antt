@@ -1,4 +1,4 @@
--- view: the expanded text as a value of the first stage.
+-- step: the expanded text as a value of the first stage.
 use Rattle.sl_preproc.specs.Expanded.{seen}
 use Rattle.sl_tool.specs.Values as values
 use Rattle.sl_tool.specs.declared.source.Source.{Source}

@@ -1,6 +1,6 @@
 -- meaning: stages, each of which makes one value of another or refuses it.
 use Rattle.std.specs.Prelude.{◌≡◌, Result, Ok, Err}
-use Rattle.sl_surely.specs.Surely.{Surely}
+use Rattle.sl_base_surely.specs.Surely.{Surely}
 
 -- what becomes of an A: a B, or a refusal
 abbrev pub Stage : Type 0 → Type 0 → Type 0 → Type 1

@@ -1,7 +1,7 @@
--- view: the later stages as values.
+-- step: the later stages as values.
 use Rattle.sl_ast.specs.Views.{items_of}
-use Rattle.sl_lister.specs.Listing as listing
-use Rattle.sl_lister.specs.Listing.{image_from}
+use Rattle.sl_list_instructions.specs.Listing as listing
+use Rattle.sl_list_instructions.specs.Listing.{image_from}
 use Rattle.sl_tool.specs.TokensView.{tokens_view}
 use Rattle.sl_tool.specs.Values as values
 use Rattle.sl_tool.specs.declared.tree.Tree.{Tree}

@@ -3,32 +3,32 @@ use Rattle.std.specs.Prelude.{◌≡◌, ℕ, ◌^◌, ◌≤◌, ◌⊎◌, Lis
 use Rattle.sl_ast.specs.Spelling.{spell}
 use Rattle.sl_ast.specs.Unfolding.{firsts}
 use Rattle.sl_ast.specs.Validity.{AreItems}
-use Rattle.sl_compile.specs.Ambiguity.{Ambiguity}
-use Rattle.sl_compile.specs.Outcomes.{ambiguous, flawed}
-use Rattle.sl_compile.specs.Outcomes as outcome
-use Rattle.sl_compile.specs.Refusals.{at_tokens}
-use Rattle.sl_compile.specs.declared.error.Flaw.{Flaw}
-use Rattle.sl_compile.specs.declared.error.Flaw.TheVariants as flaw
-use Rattle.sl_context_words.specs.Words.{Bad, starting_context}
-use Rattle.sl_context_words.specs.declared.words.Cause as context
-use Rattle.sl_context_words.specs.declared.words.Cause.TheVariants as word
-use Rattle.sl_decoding.specs.Actions.{address_bytes}
-use Rattle.sl_directive.specs.declared.fault.Cause.{Cause}
-use Rattle.sl_directive.specs.declared.fault.Cause.TheVariants as cause
+use Rattle.sl_bind_compile.specs.Ambiguity.{Ambiguity}
+use Rattle.sl_bind_compile.specs.Outcomes.{ambiguous, flawed}
+use Rattle.sl_bind_compile.specs.Outcomes as outcome
+use Rattle.sl_bind_compile.specs.AtTokens.{at_tokens}
+use Rattle.sl_bind_compile.specs.declared.error.Flaw.{Flaw}
+use Rattle.sl_bind_compile.specs.declared.error.Flaw.TheVariants as flaw
+use Rattle.sl_tool_contexts.specs.Words.{Bad, starting_context}
+use Rattle.sl_tool_contexts.specs.declared.words.Cause as context
+use Rattle.sl_tool_contexts.specs.declared.words.Cause.TheVariants as word
+use Rattle.sl_decode_meaning.specs.Actions.{address_bytes}
+use Rattle.sl_preproc_directives.specs.declared.fault.Cause.{Cause}
+use Rattle.sl_preproc_directives.specs.declared.fault.Cause.TheVariants as cause
 use Rattle.sl_lex.specs.Faults.{Fault}
 use Rattle.sl_lex.specs.Faults.Fault.{NoLexeme, OpenQuote, TooWide}
 use Rattle.sl_lex.specs.Reading.{ReadsAs, HasBadPlace}
-use Rattle.sl_lister.specs.Listing.{Image, image_from}
-use Rattle.sl_outside.specs.Folder.{Folder, Holds, Lacks, HoldsTooLong, size_limit}
-use Rattle.sl_places.specs.Causes.{IsFault, Reason, no_spelling, too_deep, left_out}
+use Rattle.sl_list_instructions.specs.Listing.{Image, image_from}
+use Rattle.sl_outside.specs.Folder.{Folder, FolderHas, Lacks, HoldsTooLong, size_limit}
+use Rattle.sl_parse_faults.specs.Causes.{IsFault, Reason, no_spelling, too_deep, left_out}
 use Rattle.sl_preproc.specs.Expanded.{Text, expanded}
 use Rattle.sl_preproc.specs.Expansion as preproc
 use Rattle.sl_preproc.specs.Sound.{IsSound}
-use Rattle.sl_request.specs.Images.{image_of}
-use Rattle.sl_request.specs.Requests.{Target}
+use Rattle.sl_tool_request.specs.Images.{image_of}
+use Rattle.sl_tool_request.specs.Requests.{Target}
 use Rattle.sl_spec.specs.declared.tables.Tables as spec
-use Rattle.sl_symbols.specs.Symbols.{symbols_of}
-use Rattle.sl_runner.specs.Running.{HasRoom}
+use Rattle.sl_parse_terminals.specs.Symbols.{symbols_of}
+use Rattle.sl_step_run.specs.Running.{HasRoom}
 use Rattle.sl_tool.specs.Places.{place_of_byte, place_of_some, place_of_token}
 use Rattle.sl_tool.specs.Problems.{refusal, refusal_at, refusal_of_field}
 use Rattle.sl_tool.specs.Stage.{Stage, Then}
@@ -129,7 +129,7 @@ Specifies told = Then (Reads told) Compiles
 
 -- The file of this name has these bytes, which aren't too many for a file; or there is no such file.
 abbrev pub Fetches : Option Folder → Stage Refusal (List ℕ) (List ℕ)
-Fetches told name (Ok bytes) = Holds told name bytes × (length bytes ≤ size_limit)
+Fetches told name (Ok bytes) = FolderHas told name bytes × (length bytes ≤ size_limit)
 Fetches told name (Err x) = (Lacks told name × (x ≡ refusal name 0 NoFile)) ⊎ (HoldsTooLong told name × (x ≡ refusal name 0 TooLong))
 
 -- the image that the bytes of a file are, or that they spell as hexadecimal text

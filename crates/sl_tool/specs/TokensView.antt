@@ -1,4 +1,4 @@
--- view: tokens as a value of the second stage.
+-- step: tokens as a value of the second stage.
 use Rattle.sl_lex.specs.Views.{views}
 use Rattle.sl_tool.specs.SourceView.{source_view}
 use Rattle.sl_tool.specs.Values as values

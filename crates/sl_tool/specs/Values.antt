@@ -2,7 +2,7 @@
 use Rattle.std.specs.Prelude.{ℕ, List}
 use Rattle.sl_ast.specs.Trees.{Item}
 use Rattle.sl_lex.specs.Reading.{Token}
-use Rattle.sl_lister.specs.Listing.{Image}
+use Rattle.sl_list_instructions.specs.Listing.{Image}
 use Rattle.sl_preproc.specs.Expanded.{Text}
 use Rattle.sl_spec.specs.declared.tables.Tables as spec
 use Rattle.sl_tool.specs.declared.status.Ending.{Ending}

@@ -4,7 +4,8 @@ ghost use Rattle.std.specs.Prelude.{◌≡◌, Some};
 ghost use Rattle.sl_outside.specs.Uses.{UsesSink};
 ghost use Rattle.sl_tool.specs.Answers.{Answers, AnswersFrom, AsksFor, AsksFrom, UsesFilesFor};
 ghost use Rattle.sl_tool.specs.Ends.{ReadsFiles, RunsNothing};
-ghost use Rattle.sl_tool.specs.Outcomes.{FailsToRead, FailsToWrite, Grew, IsEarly, Writes};
+ghost use Rattle.sl_tool.specs.Outcomes.{FailsToRead, FailsToWrite, IsEarly, Writes};
+ghost use Rattle.sl_tool.specs.Growth.{Grew};
 ghost use Rattle.sl_tool.specs.Requests.{request as request_view};
 
 use crate::check::check;

@@ -2,7 +2,7 @@
 
 ghost use Rattle.std.specs.Prelude.{◌≡◌, IfOk};
 ghost use Rattle.sl_ast.specs.Views.{items_of};
-ghost use Rattle.sl_bound_translations.specs.Laws.{IsShort};
+ghost use Rattle.sl_faithful_accepted.specs.Laws.{IsShort};
 ghost use Rattle.sl_tool.specs.Halts.{TellsRefusal};
 ghost use Rattle.sl_tool.specs.Places.{place_of_some};
 ghost use Rattle.sl_tool.specs.Problems.{refusal_at};
@@ -15,7 +15,7 @@ use crate::problem::{Conflict, Problem};
 use crate::refusal::{Refusal, Subject};
 use crate::tokens::Tokens;
 use crate::tree::Tree;
-use sl_compile::{Ambiguity, CompileError, Compiled as Specification, Flaw, compile};
+use sl_bind_compile::{Ambiguity, CompileError, Compiled as Specification, Flaw, compile};
 use std::alloc::{AllocError, Global};
 
 /// A specification with its tables, which are sound, beside its tokens. It has no more tokens than a
@@ -112,7 +112,7 @@ fn refused(alloc: Global, tokens: &Tokens<'_, '_>, error: CompileError<'_>) -> H
 
 impl<'s, 'r> Compiled<'s, 'r> {
     ghost use Rattle.std.specs.Prelude.{IfOk};
-    ghost use Rattle.sl_compile.specs.Compiled.{IsCompiled};
+    ghost use Rattle.sl_bind_compile.specs.Compiled.{IsCompiled};
     ghost use Rattle.sl_tool.specs.Outcomes.{Gives};
     ghost use Rattle.sl_tool.specs.Stages.{Compiles};
     ghost use Rattle.sl_tool.specs.StageViews.{compiled_view, tree_view};

@@ -1,15 +1,16 @@
 //! `gen`: an image that is generated is listed and run.
 
 ghost use Rattle.std.specs.Prelude.{◌≡◌, ◌-◌, ◌^◌, ◌<◌, IfOk};
-ghost use Rattle.sl_compile.specs.Compiled.{IsCompiled};
-ghost use Rattle.sl_generator.specs.Image.{image};
+ghost use Rattle.sl_bind_compile.specs.Compiled.{IsCompiled};
+ghost use Rattle.sl_tool_generator.specs.Image.{image};
 ghost use Rattle.sl_outside.specs.Uses.{UsesSink};
-ghost use Rattle.sl_runner.specs.Told.{RegistersAreInSpaces};
+ghost use Rattle.sl_step_run.specs.Told.{RegistersAreInSpaces};
 ghost use Rattle.sl_step.specs.Machines.{Fits};
 ghost use Rattle.sl_tool.specs.Answers.{figures_of};
 ghost use Rattle.sl_tool.specs.Figures.{ImageFits, IsFigured, IsListed};
 ghost use Rattle.sl_tool.specs.Generated.{figures_told, lines_behind, register_at, shown_lines};
-ghost use Rattle.sl_tool.specs.Outcomes.{FailsToWrite, Grew, Streams};
+ghost use Rattle.sl_tool.specs.Outcomes.{FailsToWrite, Streams};
+ghost use Rattle.sl_tool.specs.Growth.{Grew};
 ghost use Rattle.sl_tool.specs.StageViews.{compiled_view};
 ghost use Rattle.sl_word.specs.Bytes.{byte_at};
 
@@ -18,14 +19,14 @@ use crate::halt::Halt;
 use crate::image::has_room;
 use crate::status::Ending;
 use crate::writing::write_all;
-use sl_compile::Compiled as Specification;
+use sl_bind_compile::Compiled as Specification;
 use sl_decode::address_size;
 use sl_emu::Runner;
-use sl_generator::{Figures, generated_image, push_line};
-use sl_lister::list_image;
+use sl_list_instructions::list_image;
 use sl_outside::{MemSink, Sink};
-use sl_runner::{Execution, Machine, execute, held};
 use sl_spec::Tables;
+use sl_step_run::{Execution, Machine, execute, held};
+use sl_tool_generator::{Figures, generated_image, push_line};
 use std::alloc::{AllocError, Global};
 
 /// Writes what the listing and the run of the generated image come to, by the specification.

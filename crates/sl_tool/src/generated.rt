@@ -4,7 +4,8 @@ ghost use Rattle.std.specs.Prelude.{◌≡◌, IfOk, None};
 ghost use Rattle.sl_outside.specs.Memory.{folder_of};
 ghost use Rattle.sl_outside.specs.Uses.{UsesSink};
 ghost use Rattle.sl_tool.specs.Answers.{Answers, generated};
-ghost use Rattle.sl_tool.specs.Outcomes.{FailsToRead, FailsToWrite, Grew, Writes};
+ghost use Rattle.sl_tool.specs.Outcomes.{FailsToRead, FailsToWrite, Writes};
+ghost use Rattle.sl_tool.specs.Growth.{Grew};
 ghost use Rattle.sl_tool.specs.Request.{Generate};
 
 use crate::answer::answered_from;
@@ -12,8 +13,8 @@ use crate::halt::Halt;
 use crate::request::Request;
 use crate::status::Ending;
 use sl_emu::Runner;
-use sl_generator::generated_specification;
 use sl_outside::{MemFiles, Sink};
+use sl_tool_generator::generated_specification;
 use std::alloc::{AllocError, Global};
 
 /// A folder with the generated specification alone.

@@ -1,15 +1,15 @@
 //! The bytes of a file as an image: decoded, and fitted into the memory.
 
 ghost use Rattle.std.specs.Prelude.{◌≡◌, ◌↔◌, ◌≤◌, ◌^◌, IfOk, IsTrue, length};
-ghost use Rattle.sl_request.specs.Views.{target as target_view};
+ghost use Rattle.sl_tool_request.specs.Views.{target as target_view};
 ghost use Rattle.sl_tool.specs.Outcomes.{Gives};
-ghost use Rattle.sl_runner.specs.Running.{HasRoom};
+ghost use Rattle.sl_step_run.specs.Running.{HasRoom};
 ghost use Rattle.sl_tool.specs.Stages.{Decodes, Fits, Prepares};
 
 use crate::halt::Halt;
 use crate::problem::Problem;
 use crate::refusal::Refusal;
-use sl_request::{Target, decode_hex};
+use sl_tool_request::{Target, decode_hex};
 use std::alloc::Global;
 
 /// The bytes themselves, or with `--hex` those that they spell as hexadecimal text.

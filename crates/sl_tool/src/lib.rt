@@ -1,7 +1,7 @@
 //! The tool as one call: [`run_tool`] takes the words of a command line, reads the files that they
 //! name, writes one text and gives a [`Status`].
 //!
-//! The words are read by `sl_words`. `check SPEC` prints why a specification is refused, or how many
+//! The words are read by `sl_tool_words`. `check SPEC` prints why a specification is refused, or how many
 //! tables and constructors it has; `list SPEC IMAGE` prints a listing, `pcode SPEC IMAGE` the listing
 //! with the operations of each instruction, and `run SPEC IMAGE` runs instructions and prints
 //! registers, changed memory and the fault; the image may be hexadecimal text, and begin at a base.

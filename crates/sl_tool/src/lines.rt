@@ -8,7 +8,7 @@ ghost use Rattle.sl_tool.specs.Lines.{point_text, place_text};
 use crate::place::Place;
 use itoa::Buffer;
 use sl_cube::Point;
-use sl_list::push_hex;
+use sl_list_instructions::push_hex;
 use std::alloc::AllocError;
 
 /// Appends the sixteen bytes of a point and its context.

@@ -1,8 +1,8 @@
 //! The stage behind the sound specification: the image beside it.
 
 ghost use Rattle.std.specs.Prelude.{◌≡◌, ℕ, List, IfOk};
-ghost use Rattle.sl_lister.specs.Listing.{image_from};
-ghost use Rattle.sl_request.specs.Views.{target as target_view};
+ghost use Rattle.sl_list_instructions.specs.Listing.{image_from};
+ghost use Rattle.sl_tool_request.specs.Views.{target as target_view};
 ghost use Rattle.sl_tool.specs.Outcomes.{Gives};
 ghost use Rattle.sl_tool.specs.Stages.{Starts, problem_of_word};
 
@@ -12,11 +12,11 @@ use crate::halt::Halt;
 use crate::image::prepared;
 use crate::problem::Problem;
 use crate::refusal::Refusal;
-use sl_context_words::{Cause, starting_context};
 use sl_decode::address_size;
 use sl_outside::Files;
-use sl_request::Target;
 use sl_spec::Tables;
+use sl_tool_contexts::{Cause, starting_context};
+use sl_tool_request::Target;
 use std::alloc::Global;
 
 /// An image that fits the default space from its base on.
@@ -64,8 +64,8 @@ impl Image {
     ghost use Rattle.std.specs.Prelude.{[], ◌∷◌, ◌+◌, ◌^◌, ◌≤◌, length};
     ghost use Rattle.sl_outside.specs.Uses.{UsesFiles};
     ghost use Rattle.sl_tool.specs.Outcomes.{FailsToRead, IsEarly, Obtains};
-    ghost use Rattle.sl_decoding.specs.Actions.{address_bytes};
-    ghost use Rattle.sl_runner.specs.Running.{HasRoom};
+    ghost use Rattle.sl_decode_meaning.specs.Actions.{address_bytes};
+    ghost use Rattle.sl_step_run.specs.Running.{HasRoom};
     ghost use Rattle.sl_tool.specs.Stages.{Readies};
     ghost use Rattle.sl_tool.specs.StageViews.{image_view};
 
@@ -100,7 +100,7 @@ impl Image {
 impl<'s, 'r> Loaded<'s, 'r> {
     ghost use Rattle.std.specs.Prelude.{[], ◌∷◌};
     ghost use Rattle.sl_outside.specs.Uses.{UsesFiles};
-    ghost use Rattle.sl_compile.specs.Compiled.{IsCompiled};
+    ghost use Rattle.sl_bind_compile.specs.Compiled.{IsCompiled};
     ghost use Rattle.sl_tool.specs.Inputs.{IsLoaded};
     ghost use Rattle.sl_tool.specs.Outcomes.{FailsToRead, IsEarly, Obtains};
     ghost use Rattle.sl_tool.specs.Stages.{Loads};

@@ -6,7 +6,7 @@ ghost use Rattle.sl_tool.specs.Problems.{conflict_words, feature_words, words_of
 use crate::lines::{push_counted, push_place};
 use crate::place::{Name, Place};
 use sl_ast::symbols::Feature;
-use sl_compile::Apart;
+use sl_bind_compile::Apart;
 use sl_cube::Point;
 use std::alloc::AllocError;
 

@@ -6,7 +6,7 @@ ghost use Rattle.sl_tool.specs.Problems.{apart_lines, lines_after, point_line, r
 use crate::lines::{push_place, push_point};
 use crate::place::{Name, Place};
 use crate::problem::{Conflict, Problem, push_words};
-use sl_compile::Apart;
+use sl_bind_compile::Apart;
 use sl_cube::Point;
 use std::alloc::{AllocError, Global};
 

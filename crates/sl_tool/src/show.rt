@@ -1,14 +1,15 @@
 //! What is shown of an image: its listing, the listing with operations, or its run.
 
 ghost use Rattle.std.specs.Prelude.{◌≡◌, [], ◌∷◌};
-ghost use Rattle.sl_compile.specs.Compiled.{IsCompiled};
+ghost use Rattle.sl_bind_compile.specs.Compiled.{IsCompiled};
 ghost use Rattle.sl_outside.specs.Uses.{UsesFiles, UsesSink};
-ghost use Rattle.sl_request.specs.Views.{target as target_view};
+ghost use Rattle.sl_tool_request.specs.Views.{target as target_view};
 ghost use Rattle.sl_tool.specs.Answers.{Shows, shows_of};
 ghost use Rattle.sl_tool.specs.Ends.{IsStill};
 ghost use Rattle.sl_tool.specs.Halts.{listed};
 ghost use Rattle.sl_tool.specs.Inputs.{IsLoaded};
-ghost use Rattle.sl_tool.specs.Outcomes.{FailsToRead, FailsToWrite, Grew, IsEarly, RanNone};
+ghost use Rattle.sl_tool.specs.Outcomes.{FailsToRead, FailsToWrite, IsEarly, RanNone};
+ghost use Rattle.sl_tool.specs.Growth.{Grew};
 ghost use Rattle.sl_tool.specs.Outcomes.{Streams, Writes};
 ghost use Rattle.sl_tool.specs.Request.{Listing, Operations, Run};
 ghost use Rattle.sl_tool.specs.Requests.{show_of};
@@ -23,11 +24,11 @@ use crate::request::Show;
 use crate::status::{Ending, ending_of};
 use crate::writing::write_all;
 use sl_emu::Runner;
-use sl_lister::{ListError, list_image};
+use sl_list_instructions::{ListError, list_image};
+use sl_list_pcode::list_pcode;
 use sl_outside::{Files, Sink};
-use sl_pcode_lister::list_pcode;
-use sl_request::Target;
-use sl_runner::run_image;
+use sl_step_run::run_image;
+use sl_tool_request::Target;
 use std::alloc::Global;
 
 /// Shows the target's image by the specification. `Loaded::read` is the last stage that has the files,

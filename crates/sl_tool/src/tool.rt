@@ -3,7 +3,7 @@
 ghost use Rattle.std.specs.Prelude.{◌≡◌, ◌≢◌, map, string_bytes};
 ghost use Rattle.sl_outside.specs.Uses.{UsesSink};
 ghost use Rattle.sl_tool.specs.Ends.{Ends, RunsFor, RunsNothing};
-ghost use Rattle.sl_tool.specs.Outcomes.{Grew};
+ghost use Rattle.sl_tool.specs.Growth.{Grew};
 ghost use Rattle.sl_tool.specs.Problems.{refusal_text};
 ghost use Rattle.sl_tool.specs.Request.{request_of as request_meant};
 ghost use Rattle.sl_tool.specs.Writing.{IsWritten};
@@ -16,7 +16,7 @@ use crate::status::{Status, ended};
 use crate::writing::write_all;
 use sl_emu::Runner;
 use sl_outside::{Files, Sink};
-use sl_request::USAGE;
+use sl_tool_request::USAGE;
 use std::alloc::Global;
 
 /// Answers the words of a command line, the program's name first, from these files, and writes the

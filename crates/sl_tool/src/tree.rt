@@ -3,7 +3,7 @@
 ghost use Rattle.std.specs.Prelude.{◌≡◌};
 ghost use Rattle.sl_ast.specs.Unfolding.{firsts};
 ghost use Rattle.sl_ast.specs.Views.{indexes_of, items_of};
-ghost use Rattle.sl_bound_translations.specs.Laws.{IsShort};
+ghost use Rattle.sl_faithful_accepted.specs.Laws.{IsShort};
 ghost use Rattle.sl_tool.specs.Halts.{first_fault};
 
 use crate::halt::Halt;

@@ -2,13 +2,13 @@
 
 ghost use Rattle.std.specs.Prelude.{OnOk, OnErr, IfErr};
 ghost use Rattle.std.specs.Io.KnownBytes.{Appends};
-ghost use Rattle.sl_list.specs.Listings.{AppendsFront};
+ghost use Rattle.sl_list_instructions.specs.Fronts.{AppendsFront};
 ghost use Rattle.sl_outside.specs.Uses.{UsesSink};
 ghost use Rattle.sl_tool.specs.Outcomes.{FailsToWrite};
 ghost use Rattle.sl_tool.specs.Writing.{IsOfWriting};
 
 use crate::halt::Halt;
-use sl_list::ListError;
+use sl_list_instructions::ListError;
 use sl_outside::Sink;
 
 /// Writes the text, piece by piece. At an `Err` its first bytes were written, or none.
@@ -18,7 +18,7 @@ pub fn write_all<K: Sink>(out: &mut K, text: &[u8]) -> Result<(), Halt>
     ensures writing { IfErr result IsOfWriting }
     ensures sink { UsesSink K.faults K.calls out.old out.new (FailsToWrite result) }
 {
-    match sl_list::write_all(out, text) {
+    match sl_list_instructions::write_all(out, text) {
         Ok(()) => Ok(()),
         Err(ListError::WriteFault) => Err(Halt::WriteFault),
         Err(ListError::NoMemory) => Err(Halt::NoMemory),

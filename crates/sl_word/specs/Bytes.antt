@@ -1,4 +1,4 @@
--- meaning: what bytes a state has, in spaces whose addresses have a size, and what a write changes.
+-- view: what bytes a state has, in spaces whose addresses have a size, and what a write changes.
 use Rattle.std.specs.Prelude.{◌≡◌, ◌≢◌, ℕ, ◌+◌, ◌%◌, ◌^◌, List, map, slice_get, slice_index}
 use Rattle.std.specs.Option.{option_map_or}
 use Rattle.sl_word.specs.declared.word.Endian.{Endian}

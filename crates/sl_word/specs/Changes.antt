@@ -1,4 +1,4 @@
--- meaning: the bytes that differ between two states, in their order.
+-- view: the bytes that differ between two states, in their order.
 use Rattle.std.specs.Prelude.{◌≡◌, ◌≢◌, ℕ, ◌^◌, ◌<◌, ◌⊎◌, List}
 use Rattle.std.specs.List.{All, AllPairs, Contains}
 use Rattle.sl_word.specs.declared.state.Change.{Change}

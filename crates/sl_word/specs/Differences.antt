@@ -1,4 +1,4 @@
--- step: where two functions differ first, and what a walk over pages has listed.
+-- view: where two functions differ first, and what a walk over pages has listed.
 use Rattle.std.specs.Prelude.{◌≡◌, ◌≢◌, ℕ, ◌^◌, ◌<◌, ◌≤◌, List, Option, Some, None}
 use Rattle.std.specs.List.{All, AllPairs, Contains}
 use Rattle.sl_word.specs.declared.state.Change.{Change}

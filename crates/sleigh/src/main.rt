@@ -1,9 +1,9 @@
 //! The program `sleigh`: the tool over the files of the machine, its standard output, and the emulator.
 #![tactic(auto)]
 
-use sl_buffered::BufferedSink;
 use sl_emu::KeepingEmu;
 use sl_outside::{DiskFiles, SinkError, StdSink};
+use sl_outside_buffered::BufferedSink;
 use sl_tool::{Status, run_tool};
 use std::io::{self, ErrorKind};
 use std::process::ExitCode;

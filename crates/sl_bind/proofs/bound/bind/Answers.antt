@@ -3,7 +3,7 @@ use Rattle.sl_ast.specs.Views.{item_of, items_of}
 use Rattle.sl_ast.specs.declared.items.Item.{Item}
 use Rattle.sl_bind.specs.Sections.{AreParts}
 use Rattle.sl_bind.proofs.VerdictLemmas.{parts_bind}
-use Rattle.sl_sizing.specs.Sizings.{lists_of}
+use Rattle.sl_section_sizes.specs.Sizings.{lists_of}
 use Rattle.sl_bind.proofs.bound.bind.Goals as goal
 
 pub returns-in-Ok-clause-bound : goal.returns-in-Ok-clause-bound

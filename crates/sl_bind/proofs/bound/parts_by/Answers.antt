@@ -1,7 +1,7 @@
 use Rattle.std.proofs.Common.{map}
 use Rattle.sl_ast.specs.Views.{item_of}
 use Rattle.sl_bind.proofs.VerdictLemmas.{late_holds, none_by_operands, parts_refuse, tables_refuse}
-use Rattle.sl_flat_sections.specs.Views.{scopes_view}
+use Rattle.sl_section_all.specs.Views.{scopes_view}
 use Rattle.sl_spec.specs.Unfolded.{all_placed}
 use Rattle.sl_bind.proofs.bound.parts_by.Goals as goal
 

@@ -1,8 +1,8 @@
 use Rattle.std.proofs.Common.{◌≡◌, ◌++◌, sym, ap, subst, ◌∙◌}
 use Rattle.sl_ast.specs.declared.constructors.Inner.{Inner}
 use Rattle.sl_bind.specs.Indexes.{indexes_in}
-use Rattle.sl_rules.specs.Gathered.{gathered}
-use Rattle.sl_rules.proofs.Gathers.{all_gathered, gathers}
+use Rattle.sl_spec_rules.specs.Gathered.{gathered}
+use Rattle.sl_spec_rules.proofs.Gathers.{all_gathered, gathers}
 use Rattle.sl_bind.proofs.IndexLemmas.{adds_block}
 use Rattle.sl_bind.proofs.indexes.+add_inner.Goals as goal
 

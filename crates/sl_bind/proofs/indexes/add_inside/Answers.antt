@@ -1,5 +1,5 @@
 use Rattle.sl_bind.specs.Indexes.{indexes_in}
-use Rattle.sl_rules.proofs.Gathers.{all_gathered, gathers}
+use Rattle.sl_spec_rules.proofs.Gathers.{all_gathered, gathers}
 use Rattle.sl_bind.proofs.indexes.add_inside.Goals as goal
 
 pub inside-preserved : goal.inside-preserved

@@ -1,5 +1,5 @@
 use Rattle.sl_bind.specs.Indexes.{indexes_in}
-use Rattle.sl_rules.proofs.Gathers.{IsGathered}
+use Rattle.sl_spec_rules.proofs.Gathers.{IsGathered}
 use Rattle.sl_bind.proofs.indexes.add_inside.Given as goal
 
 abbrev pub invariant-inside : goal.invariant-inside

@@ -1,7 +1,7 @@
 use Rattle.std.proofs.Common.{ℕ, List, [], ◌∙◌, ap}
 use Rattle.std.specs.Prelude.{slice_get}
 use Rattle.sl_ast.specs.Views.{item_indexes}
-use Rattle.sl_rules.proofs.Gathers.{all_gathered, gathers}
+use Rattle.sl_spec_rules.proofs.Gathers.{all_gathered, gathers}
 use Rattle.sl_bind.proofs.indexes.first_token.Goals as goal
 
 pub items-preserved : goal.items-preserved

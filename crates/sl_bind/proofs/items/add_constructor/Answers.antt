@@ -1,7 +1,7 @@
 use Rattle.std.proofs.Common.{false, sym, subst}
 use Rattle.std.specs.Prelude.{IfOk}
 use Rattle.sl_bind.proofs.GrowLemmas.{begins_as}
-use Rattle.sl_constructors.specs.Made.{IsMadeFor, StaysMade}
+use Rattle.sl_spec_constructors.specs.Made.{IsMadeFor, StaysMade}
 use Rattle.sl_spec.specs.declared.tables.Tables.{Tables}
 use Rattle.sl_bind.proofs.items.add_constructor.Goals as goal
 

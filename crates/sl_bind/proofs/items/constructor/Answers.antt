@@ -1,7 +1,7 @@
 use Rattle.std.proofs.Common.{subst}
 use Rattle.std.specs.Prelude.{IfOk}
-use Rattle.sl_constructors.proofs.MadeLemmas.{anyway}
-use Rattle.sl_constructors.specs.Made.{StaysMade}
+use Rattle.sl_spec_constructors.proofs.MadeLemmas.{anyway}
+use Rattle.sl_spec_constructors.specs.Made.{StaysMade}
 use Rattle.sl_section_rules.specs.WholeText.{Whole}
 use Rattle.sl_bind.proofs.items.constructor.Goals as goal
 

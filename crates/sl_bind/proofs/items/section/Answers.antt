@@ -1,7 +1,7 @@
 use Rattle.std.proofs.Common.{sym}
 use Rattle.sl_ast.specs.Views.{constructor_of}
 use Rattle.sl_spec.specs.Unfolded.{heads_of}
-use Rattle.sl_tables.proofs.HeadLemmas.{under_section}
+use Rattle.sl_spec_tables.proofs.HeadLemmas.{under_section}
 use Rattle.sl_bind.proofs.items.section.Goals as goal
 
 pub returns : goal.returns

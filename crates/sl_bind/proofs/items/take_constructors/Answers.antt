@@ -4,8 +4,8 @@ use Rattle.sl_bind.proofs.ItemLemmas.{run_stops_at}
 use Rattle.sl_bind.proofs.MadeLemmas.{made_behind_one, made_for_one, none_made, right_behind}
 use Rattle.sl_bind.specs.Steps.{constructor_item}
 use Rattle.sl_bind.specs.Verdict.{placed_step}
-use Rattle.sl_rules.proofs.Runs.{run_ends, run_goes}
-use Rattle.sl_rules.proofs.Seen.{below_map, past_map, seen_map}
+use Rattle.sl_spec_rules.proofs.Runs.{run_ends, run_goes}
+use Rattle.sl_spec_rules.proofs.Seen.{below_map, past_map, seen_map}
 use Rattle.sl_spec.specs.Unfolded.{placed}
 use Rattle.sl_bind.proofs.items.take_constructors.Goals as goal
 

@@ -1,7 +1,7 @@
 use Rattle.std.specs.Prelude.{map}
 use Rattle.sl_bind.specs.Steps.{IsMadeForAll, constructor_item}
 use Rattle.sl_bind.specs.Verdict.{placed_step}
-use Rattle.sl_rules.proofs.Runs.{IsRun}
+use Rattle.sl_spec_rules.proofs.Runs.{IsRun}
 use Rattle.sl_bind.proofs.items.take_constructors.Given as goal
 
 abbrev pub invariant-constructors : goal.invariant-constructors

@@ -3,7 +3,7 @@ use Rattle.std.proofs.lemmas.Result.{err_from_is_err_and}
 use Rattle.sl_ast.specs.Views.{item_of}
 use Rattle.sl_bind.proofs.ItemLemmas.{all_taken, stops, takes_more}
 use Rattle.sl_bind.specs.Verdict.{placed_step}
-use Rattle.sl_rules.proofs.Seen.{below_map, past_map, seen_map}
+use Rattle.sl_spec_rules.proofs.Seen.{below_map, past_map, seen_map}
 use Rattle.sl_bind.proofs.items.take_items.Goals as goal
 
 pub returns-in_err-number : goal.returns-in_err-number

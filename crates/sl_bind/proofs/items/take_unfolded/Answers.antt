@@ -3,8 +3,9 @@ use Rattle.sl_ast.specs.Views.{constructor_of, head_of, inside_of, kind_of}
 use Rattle.sl_ast.specs.declared.items.ItemKind.{ItemKind}
 use Rattle.sl_bind.proofs.ItemLemmas.{carried, of_block, of_constructor, single_run}
 use Rattle.sl_bind.specs.Verdict.{placed_step}
-use Rattle.sl_rules.specs.Demands.{run}
-use Rattle.sl_spec.specs.Unfolded.{constructors_in, unfolded_one}
+use Rattle.sl_spec_rules.specs.Demands.{run}
+use Rattle.sl_spec.specs.Unfolded.{unfolded_one}
+use Rattle.sl_spec.specs.ConstructorItems.{constructors_in}
 use Rattle.sl_bind.proofs.items.take_unfolded.Goals as goal
 
 pub returns-in-Constructor : goal.returns-in-Constructor

@@ -1,8 +1,8 @@
 use Rattle.std.proofs.Common.{ap, subst, ◌∙◌}
 use Rattle.sl_bind.proofs.VerdictLemmas.{sizes_stop}
-use Rattle.sl_flat_sections.specs.Judging.{Judges}
-use Rattle.sl_flat_sections.specs.Views.{flats_of, scopes_view}
-use Rattle.sl_flat_sections.specs.declared.judge.Judged.TheVariants.{Kept}
+use Rattle.sl_section_all.specs.Judging.{Judges}
+use Rattle.sl_section_all.specs.Views.{flats_of, scopes_view}
+use Rattle.sl_section_all.specs.declared.judge.Judged.TheVariants.{Kept}
 use Rattle.sl_spec.specs.Unfolded.{all_placed}
 use Rattle.sl_bind.proofs.sections.sizes_of.Goals as goal
 

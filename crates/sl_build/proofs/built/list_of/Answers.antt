@@ -1,6 +1,6 @@
 use Rattle.std.proofs.Common.{List, refl, ap, subst, ◌∙◌}
 use Rattle.sl_build.proofs.BuiltLemmas.{is_list}
-use Rattle.sl_emit.specs.Views.{operations_of}
+use Rattle.sl_build_emit.specs.Views.{operations_of}
 use Rattle.sl_pcode.specs.Operations.{operations}
 use Rattle.sl_pcode.specs.WellFormed.{IsWellFormed}
 use Rattle.sl_word.specs.Sizes.{byte_counts}

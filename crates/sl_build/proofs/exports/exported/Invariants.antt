@@ -1,7 +1,7 @@
 use Rattle.std.proofs.Common.{◌≡◌, drop}
-use Rattle.sl_emit.specs.Views.{frame_of, setting_of}
-use Rattle.sl_meaning.specs.Nodes.{exported}
-use Rattle.sl_section.specs.Views.{steps_of}
+use Rattle.sl_build_emit.specs.Views.{frame_of, setting_of}
+use Rattle.sl_meaning_sections.specs.Nodes.{exported}
+use Rattle.sl_section_flat.specs.Views.{steps_of}
 use Rattle.sl_build.proofs.exports.exported.Given as goal
 
 abbrev pub invariant-steps : goal.invariant-steps

@@ -1,5 +1,5 @@
 use Rattle.std.proofs.Common.{◌<◌, ◌+◌, ◌^◌, ap, ◌∙◌, length, min, rules}
-use Rattle.sl_leaves.specs.Extents.{extent}
+use Rattle.sl_decode_leaves.specs.Extents.{extent}
 use Rattle.sl_build.proofs.FieldLemmas.{same_place}
 use Rattle.sl_build.proofs.fields.field_at.Goals as goal
 

@@ -1,7 +1,7 @@
 use Rattle.std.proofs.Common.{◌≡◌, ◌++◌, drop, map}
 use Rattle.sl_build.specs.Pieces.{filled_lists, filled_references}
 use Rattle.sl_build.specs.Views.{pieces_of, slot_reference}
-use Rattle.sl_emit.specs.Views.{lists_of, references_of}
+use Rattle.sl_build_emit.specs.Views.{lists_of, references_of}
 use Rattle.sl_show.specs.Entries.{row_of}
 use Rattle.sl_build.proofs.filling.operands_of.Given as goal
 

@@ -1,7 +1,7 @@
 use Rattle.std.proofs.Common.{rules, ◌≡◌, ap, ◌∙◌, arith}
 use Rattle.std.proofs.lemmas.Grind.{common_steps}
-use Rattle.sl_equations.proofs.EquationLemmas.{size_is}
-use Rattle.sl_equations.specs.Equations.{size_at}
+use Rattle.sl_section_equations.proofs.EquationLemmas.{size_is}
+use Rattle.sl_section_equations.specs.Equations.{size_at}
 use Rattle.sl_build.proofs.references.one_byte.Goals as goal
 
 pub returns : goal.returns

@@ -1,4 +1,4 @@
-use Rattle.sl_equations.proofs.EquationLemmas.{size_is}
+use Rattle.sl_section_equations.proofs.EquationLemmas.{size_is}
 use Rattle.sl_build.proofs.references.same_size.Goals as goal
 
 pub returns : goal.returns

@@ -1,8 +1,8 @@
 use Rattle.std.proofs.Common.{sym, ◌∙◌, arith}
 use Rattle.std.proofs.lemmas.List.{length-map}
 use Rattle.sl_build.proofs.MakingLemmas.{given_here, none_first, none_past, out_of_constructors, out_of_written, slots_next}
-use Rattle.sl_leaves.proofs.MadeLemmas.{keeps_of, made_for, none_of}
-use Rattle.sl_leaves.specs.Blocks.{AreLeavesOfHead}
+use Rattle.sl_decode_leaves.proofs.MadeLemmas.{keeps_of, made_for, none_of}
+use Rattle.sl_decode_leaves.specs.Blocks.{AreLeavesOfHead}
 use Rattle.sl_spec.specs.Unfolded.{all_placed, placed}
 use Rattle.sl_build.proofs.slots.all_slots.Goals as goal
 

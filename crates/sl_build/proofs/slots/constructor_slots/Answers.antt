@@ -1,6 +1,6 @@
 use Rattle.std.proofs.Common.{List, map, ap, ◌∙◌}
-use Rattle.sl_decoding.specs.Meanings.{leaves_by}
-use Rattle.sl_instruction.specs.Operands.{given_reference}
+use Rattle.sl_decode_meaning.specs.Meanings.{leaves_by}
+use Rattle.sl_meaning_instruction.specs.Operands.{given_reference}
 use Rattle.sl_spec.specs.Tables.{Ctor, Operand}
 use Rattle.sl_spec.specs.Unfolded.{placed}
 use Rattle.sl_build.proofs.slots.constructor_slots.Goals as goal

@@ -1,11 +1,11 @@
 use Rattle.std.proofs.Common.{List, map, ap, ◌∙◌, arith, Option}
 use Rattle.std.proofs.lemmas.List.{take_all}
 use Rattle.sl_build.specs.Views.{slot_reference}
-use Rattle.sl_instruction.specs.Operands.{given_reference}
-use Rattle.sl_meaning.specs.References.{Reference}
-use Rattle.sl_leaves.specs.Extents.{leaves_at}
+use Rattle.sl_meaning_instruction.specs.Operands.{given_reference}
+use Rattle.sl_meaning_sections.specs.References.{Reference}
+use Rattle.sl_decode_leaves.specs.Extents.{leaves_at}
 use Rattle.sl_spec.specs.Tables.{Operand}
-use Rattle.sl_tables.proofs.RowLemmas.{made_more}
+use Rattle.sl_spec_tables.proofs.RowLemmas.{made_more}
 use Rattle.sl_build.proofs.slots.slots_by.Goals as goal
 
 pub operands-preserved : goal.operands-preserved

@@ -1,8 +1,8 @@
 use Rattle.std.proofs.Common.{◌≡◌, ℕ, List, map, take}
 use Rattle.sl_build.specs.Views.{slot_reference}
-use Rattle.sl_decoding.specs.Trees.{Node}
-use Rattle.sl_instruction.specs.Operands.{given_reference}
-use Rattle.sl_leaves.specs.Extents.{leaves_at}
+use Rattle.sl_decode_meaning.specs.Trees.{Node}
+use Rattle.sl_meaning_instruction.specs.Operands.{given_reference}
+use Rattle.sl_decode_leaves.specs.Extents.{leaves_at}
 use Rattle.sl_spec.specs.declared.tables.Tables.{Tables}
 use Rattle.sl_build.proofs.slots.slots_by.Given as goal
 

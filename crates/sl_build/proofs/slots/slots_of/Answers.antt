@@ -1,6 +1,6 @@
 use Rattle.std.proofs.Common.{List, map, ap, ◌∙◌}
-use Rattle.sl_decoding.specs.Places.{Leaf}
-use Rattle.sl_instruction.specs.Operands.{given_reference}
+use Rattle.sl_decode_meaning.specs.Places.{Leaf}
+use Rattle.sl_meaning_instruction.specs.Operands.{given_reference}
 use Rattle.sl_build.proofs.slots.slots_of.Goals as goal
 
 pub returns-clause-slots : goal.returns-clause-slots

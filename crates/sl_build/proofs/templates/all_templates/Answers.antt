@@ -2,11 +2,11 @@ use Rattle.std.proofs.Common.{◌∙◌, ap, arith, sym}
 use Rattle.std.proofs.lemmas.List.{length-map}
 use Rattle.sl_build.proofs.TemplateLemmas.{all_templates_by, next_template, pushed, template_here}
 use Rattle.sl_build.specs.Views.{templates_of}
-use Rattle.sl_flat_sections.specs.Views.{flat_of, flats_of}
-use Rattle.sl_section.specs.Views.{steps_of}
-use Rattle.sl_section.specs.declared.section.Section.{Section}
-use Rattle.sl_sizing.specs.Sizings.{lists_of}
-use Rattle.sl_template.specs.Views.{parts_of}
+use Rattle.sl_section_all.specs.Views.{flat_of, flats_of}
+use Rattle.sl_section_flat.specs.Views.{steps_of}
+use Rattle.sl_section_flat.specs.declared.section.Section.{Section}
+use Rattle.sl_section_sizes.specs.Sizings.{lists_of}
+use Rattle.sl_build_template.specs.Views.{parts_of}
 use Rattle.sl_word.specs.Sizes.{byte_counts}
 use Rattle.sl_build.proofs.templates.all_templates.Goals as goal
 

@@ -1,7 +1,7 @@
 use Rattle.sl_build.proofs.TemplateLemmas.{AreFirstOf}
 use Rattle.sl_build.specs.Views.{templates_of}
-use Rattle.sl_flat_sections.specs.Views.{flats_of}
-use Rattle.sl_sizing.specs.Sizings.{lists_of}
+use Rattle.sl_section_all.specs.Views.{flats_of}
+use Rattle.sl_section_sizes.specs.Sizings.{lists_of}
 use Rattle.sl_word.specs.Sizes.{byte_counts}
 use Rattle.sl_build.proofs.templates.all_templates.Given as goal
 

@@ -2,10 +2,10 @@ use Rattle.std.proofs.Common.{◌≡◌, ◌+◌, [], List, ap, ◌∙◌}
 use Rattle.std.specs.Prelude.{slice_get, unwrap_or}
 use Rattle.sl_build.proofs.SiteLemmas.{export_same, frame_same, placed_same, setting_same}
 use Rattle.sl_build.specs.Views.{section_in, setting_in, template_in}
-use Rattle.sl_emit.specs.Views.{lists_of, number_of, operations_of, reference_of, references_of}
-use Rattle.sl_meaning.specs.Nodes.{exported, frame_of}
-use Rattle.sl_sizing.specs.Sizings as sizings
-use Rattle.sl_template.specs.Placed.{placed}
+use Rattle.sl_build_emit.specs.Views.{lists_of, number_of, operations_of, reference_of, references_of}
+use Rattle.sl_meaning_sections.specs.Nodes.{exported, frame_of}
+use Rattle.sl_section_sizes.specs.Sizings as sizings
+use Rattle.sl_build_template.specs.Placed.{placed}
 use Rattle.sl_word.specs.declared.word.Size.{Size}
 use Rattle.sl_build.proofs.trees.tree_by.Goals as goal
 

@@ -2,7 +2,7 @@ use Rattle.std.proofs.Common.{◌≡◌, ◌++◌, ◌∷◌, [], Bool, map, ap,
 use Rattle.std.proofs.lemmas.List.{take_all}
 use Rattle.sl_ast.specs.Trees.{Section}
 use Rattle.sl_build.proofs.MarkLemmas.{marked_more, marks_all}
-use Rattle.sl_instruction.specs.Instructions.{is_unimpl}
+use Rattle.sl_meaning_instruction.specs.Instructions.{is_unimpl}
 use Rattle.sl_spec.specs.Unfolded.{placed}
 use Rattle.sl_spec.specs.declared.unfolded.Unfolded.{Unfolded}
 use Rattle.sl_build.proofs.unimplemented.marks.Goals as goal

@@ -1,5 +1,5 @@
 use Rattle.std.proofs.Common.{◌≡◌, map, take}
-use Rattle.sl_instruction.specs.Instructions.{is_unimpl}
+use Rattle.sl_meaning_instruction.specs.Instructions.{is_unimpl}
 use Rattle.sl_spec.specs.Unfolded.{placed}
 use Rattle.sl_build.proofs.unimplemented.marks.Given as goal
 

@@ -1,5 +1,5 @@
 use Rattle.std.proofs.Common.{ℕ, List}
-use Rattle.sl_settle.specs.declared.CubeSet.{CubeSet}
+use Rattle.sl_cube_sets.specs.declared.CubeSet.{CubeSet}
 use Rattle.sl_conflict.specs.Kept.{AreTablesOf}
 use Rattle.sl_conflict.specs.Rows.{rows}
 use Rattle.sl_conflict.proofs.JudgeLemmas.{AreJudged}

@@ -1,8 +1,8 @@
 use Rattle.std.proofs.Common.{◌≡◌, drop}
-use Rattle.sl_decoding.specs.Actions.{Own}
-use Rattle.sl_decoding.specs.Outcomes.{in_turn}
-use Rattle.sl_leaves.specs.Looks.{look_step}
-use Rattle.sl_plan.specs.Values.{site_of}
+use Rattle.sl_decode_meaning.specs.Actions.{Own}
+use Rattle.sl_decode_meaning.specs.Outcomes.{in_turn}
+use Rattle.sl_decode_leaves.specs.Looks.{look_step}
+use Rattle.sl_decode_plan.specs.Values.{site_of}
 use Rattle.sl_decode.proofs.late.look_all.Given as goal
 
 abbrev pub invariant-looks : goal.invariant-looks

@@ -2,11 +2,11 @@ use Rattle.std.proofs.Common.{Vec, ap, refl, ◌∙◌}
 use Rattle.std.specs.declared.alloc.Global.{Global}
 use Rattle.sl_decode.specs.Finishing.{told_of}
 use Rattle.sl_decode.proofs.RowLemmas.{row_done, row_fails}
-use Rattle.sl_decoding.specs.Actions.{own}
-use Rattle.sl_decoding.specs.Outcomes.{in_turn}
-use Rattle.sl_plan.specs.Steps.{late_step}
-use Rattle.sl_plan.specs.Values.{site_of}
-use Rattle.sl_plan.specs.declared.late.Late.{Late}
+use Rattle.sl_decode_meaning.specs.Actions.{own}
+use Rattle.sl_decode_meaning.specs.Outcomes.{in_turn}
+use Rattle.sl_decode_plan.specs.Steps.{late_step}
+use Rattle.sl_decode_plan.specs.Values.{site_of}
+use Rattle.sl_decode_plan.specs.declared.late.Late.{Late}
 use Rattle.sl_decode.proofs.late.tell_all.Goals as goal
 
 pub returns-in-Err : goal.returns-in-Err

@@ -1,9 +1,9 @@
 use Rattle.std.proofs.Common.{◌≡◌, drop}
-use Rattle.sl_decoding.specs.Actions.{own}
-use Rattle.sl_decoding.specs.Outcomes.{in_turn}
-use Rattle.sl_plan.specs.Rows.{all_steps}
-use Rattle.sl_plan.specs.Steps.{late_step}
-use Rattle.sl_plan.specs.Values.{site_of}
+use Rattle.sl_decode_meaning.specs.Actions.{own}
+use Rattle.sl_decode_meaning.specs.Outcomes.{in_turn}
+use Rattle.sl_decode_plan.specs.Rows.{all_steps}
+use Rattle.sl_decode_plan.specs.Steps.{late_step}
+use Rattle.sl_decode_plan.specs.Values.{site_of}
 use Rattle.sl_decode.proofs.late.tell_all.Given as goal
 
 abbrev pub invariant-rows : goal.invariant-rows

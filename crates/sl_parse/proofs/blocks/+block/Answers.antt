@@ -3,9 +3,9 @@ use Rattle.std.proofs.lemmas.Grind.{common_steps}
 use Rattle.sl_ast.specs.Validity.{heaviest}
 use Rattle.sl_ast.specs.Views.{head_of}
 use Rattle.sl_ast.specs.declared.symbols.Mark.TheVariants as m
-use Rattle.sl_grammar.specs.Items.{inside_from, constructor_here, block_at}
-use Rattle.sl_grammar.specs.Reader.{first, is_mark}
-use Rattle.sl_phrases.proofs.Rounds.{one_more, deeper}
+use Rattle.sl_parse_grammar.specs.Items.{inside_from, constructor_here, block_at}
+use Rattle.sl_parse_grammar.specs.Reader.{first, is_mark}
+use Rattle.sl_parse_phrases.proofs.Rounds.{one_more, deeper}
 use Rattle.sl_parse.specs.Blocks.{chain_of, inside_of_vec}
 use Rattle.sl_parse.proofs.Chains.{before, before_none, before_more, before_pushed, before_stops, block_stops, finishes, goes_on, stops}
 use Rattle.sl_parse.proofs.ListSteps.{refused_stops, stops_along}

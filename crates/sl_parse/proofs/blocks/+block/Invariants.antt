@@ -1,6 +1,6 @@
 use Rattle.std.proofs.Common.{◌≡◌, ◌+◌, ◌-◌, ◌*◌, map}
 use Rattle.sl_ast.specs.Validity.{heaviest}
-use Rattle.sl_grammar.specs.Items.{inside, inside_from, constructor_here, block_at}
+use Rattle.sl_parse_grammar.specs.Items.{inside, inside_from, constructor_here, block_at}
 use Rattle.sl_parse.specs.Blocks.{chain_of}
 use Rattle.sl_parse.proofs.Chains.{before}
 use Rattle.sl_parse.proofs.Places.{InsideSoFar}

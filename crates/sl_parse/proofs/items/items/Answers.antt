@@ -3,10 +3,10 @@ use Rattle.std.proofs.lemmas.Grind.{common_steps}
 use Rattle.sl_ast.specs.Validity.{heaviest, deepest}
 use Rattle.sl_ast.specs.Views.{item_of, kind_of}
 use Rattle.sl_ast.specs.declared.items.Item.{Item}
-use Rattle.sl_grammar.specs.Items.{is_there, item}
-use Rattle.sl_grammar.specs.Lists.{many_from}
-use Rattle.sl_grammar.specs.Reader.{first}
-use Rattle.sl_phrases.proofs.Rounds.{one_more}
+use Rattle.sl_parse_grammar.specs.Items.{is_there, item}
+use Rattle.sl_parse_grammar.specs.Lists.{many_from}
+use Rattle.sl_parse_grammar.specs.Reader.{first}
+use Rattle.sl_parse_phrases.proofs.Rounds.{one_more}
 use Rattle.sl_parse.specs.Parsing.{items_seen}
 use Rattle.sl_parse.proofs.ListSteps.{fault_stops, many_goes, many_over, many_stops, stops_along}
 use Rattle.sl_parse.proofs.Places.{items_more, items_none, map_item_more}

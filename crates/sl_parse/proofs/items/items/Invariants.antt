@@ -1,7 +1,7 @@
 use Rattle.std.proofs.Common.{◌≡◌, ◌-◌}
 use Rattle.sl_ast.specs.Validity.{heaviest, deepest}
-use Rattle.sl_grammar.specs.Items.{is_there, item}
-use Rattle.sl_grammar.specs.Lists.{many, many_from}
+use Rattle.sl_parse_grammar.specs.Items.{is_there, item}
+use Rattle.sl_parse_grammar.specs.Lists.{many, many_from}
 use Rattle.sl_parse.specs.Parsing.{items_seen}
 use Rattle.sl_parse.proofs.Places.{ItemsSoFar}
 use Rattle.sl_parse.proofs.items.items.Given as goal

@@ -1,9 +1,9 @@
 use Rattle.std.proofs.Common.{◌≡◌, suc, ◌+◌, ◌-◌, true, [], length, ap, rules, arith}
 use Rattle.std.proofs.lemmas.Grind.{common_steps}
-use Rattle.sl_grammar.specs.Lists.{many_from}
-use Rattle.sl_grammar.specs.Reader.{first}
-use Rattle.sl_phrases.specs.Reads.{seen_by}
-use Rattle.sl_phrases.proofs.Rounds.{one_more}
+use Rattle.sl_parse_grammar.specs.Lists.{many_from}
+use Rattle.sl_parse_grammar.specs.Reader.{first}
+use Rattle.sl_parse_phrases.specs.Reads.{seen_by}
+use Rattle.sl_parse_phrases.proofs.Rounds.{one_more}
 use Rattle.sl_parse.proofs.ListSteps.{many_goes, many_stops, stops_along}
 use Rattle.sl_parse.proofs.lists.many.Goals as goal
 

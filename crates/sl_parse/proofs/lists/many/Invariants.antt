@@ -1,6 +1,6 @@
 use Rattle.std.proofs.Common.{◌≡◌, ◌+◌, ◌-◌}
-use Rattle.sl_grammar.specs.Lists.{many, many_from}
-use Rattle.sl_phrases.specs.Reads.{seen_by}
+use Rattle.sl_parse_grammar.specs.Lists.{many, many_from}
+use Rattle.sl_parse_phrases.specs.Reads.{seen_by}
 use Rattle.sl_parse.proofs.lists.many.Given as goal
 
 abbrev pub invariant-rounds : goal.invariant-rounds

@@ -1,10 +1,10 @@
 use Rattle.std.proofs.Common.{◌≡◌, suc, ◌+◌, ◌-◌, true, [], length, ap, rules, arith}
 use Rattle.std.proofs.lemmas.Grind.{common_steps}
 use Rattle.sl_ast.specs.declared.symbols.Mark.TheVariants as m
-use Rattle.sl_grammar.specs.Lists.{separated_from}
-use Rattle.sl_grammar.specs.Reader.{first, is_mark}
-use Rattle.sl_phrases.specs.Reads.{seen_by}
-use Rattle.sl_phrases.proofs.Rounds.{one_more}
+use Rattle.sl_parse_grammar.specs.Lists.{separated_from}
+use Rattle.sl_parse_grammar.specs.Reader.{first, is_mark}
+use Rattle.sl_parse_phrases.specs.Reads.{seen_by}
+use Rattle.sl_parse_phrases.proofs.Rounds.{one_more}
 use Rattle.sl_parse.proofs.ListSteps.{separated_goes, separated_stops, stops_along}
 use Rattle.sl_parse.proofs.lists.separated.Goals as goal
 

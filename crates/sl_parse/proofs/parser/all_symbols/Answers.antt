@@ -1,9 +1,9 @@
 use Rattle.std.proofs.Common.{List, sym, subst, rules, arith}
 use Rattle.std.proofs.lemmas.Grind.{common_steps}
 use Rattle.std.proofs.lemmas.List.Elements.{All-push}
-use Rattle.sl_phrases.specs.Reads.{AllHaveTheirWords}
-use Rattle.sl_symbols.specs.Views.{HasItsWord}
-use Rattle.sl_symbols.specs.declared.Symbol.{Symbol}
+use Rattle.sl_parse_phrases.specs.Reads.{AllHaveTheirWords}
+use Rattle.sl_parse_terminals.specs.Views.{HasItsWord}
+use Rattle.sl_parse_terminals.specs.declared.Symbol.{Symbol}
 use Rattle.sl_parse.proofs.parser.all_symbols.Goals as goal
 
 pub tokens-preserved : goal.tokens-preserved

@@ -1,11 +1,11 @@
 use Rattle.std.proofs.Common.{◌≡◌, ap, sym, ◌∙◌, subst}
 use Rattle.sl_ast.specs.Validity.{heaviest, deepest}
-use Rattle.sl_grammar.specs.Items.{is_there, item}
-use Rattle.sl_grammar.specs.Lists.{many}
-use Rattle.sl_grammar.specs.Reader.{Input, at, left}
+use Rattle.sl_parse_grammar.specs.Items.{is_there, item}
+use Rattle.sl_parse_grammar.specs.Lists.{many}
+use Rattle.sl_parse_grammar.specs.Reader.{Input, at, left}
 use Rattle.sl_lex.specs.Views.{views}
-use Rattle.sl_phrases.specs.Reads.{Stops, syms_of}
-use Rattle.sl_symbols.specs.Symbols.{symbols_of}
+use Rattle.sl_parse_phrases.specs.Reads.{Stops, syms_of}
+use Rattle.sl_parse_terminals.specs.Symbols.{symbols_of}
 use Rattle.sl_parse.specs.Parsing.{IsFaultOf, error_of}
 use Rattle.sl_parse.specs.declared.parser.ParseError.{ParseError}
 use Rattle.sl_parse.proofs.Answered.{fault_is, tree_is}

@@ -1,7 +1,7 @@
 use Rattle.std.proofs.Common.{◌+◌, ◌-◌, [], reverse, List, Ok, Err, sym, ap, refl, ◌∙◌, ◌≡◌, ℕ, arith}
 use Rattle.std.proofs.lemmas.Result.{err_from_is_err_and}
 use Rattle.sl_outside.specs.Folder.{Folder}
-use Rattle.sl_directive.specs.Lines.{lines}
+use Rattle.sl_preproc_directives.specs.Lines.{lines}
 use Rattle.sl_preproc.specs.Stacks.{stack_of}
 use Rattle.sl_preproc.specs.Works.{work_of}
 use Rattle.sl_preproc.specs.Expansion.{Work, Includer, included, expand_file, on_line, fetched}

@@ -1,11 +1,11 @@
 use Rattle.std.proofs.Common.{◌≤◌, ◌+◌, ◌*◌, length}
 use Rattle.sl_outside.specs.Folder.{size_limit}
-use Rattle.sl_directive.specs.Lines.{lines}
+use Rattle.sl_preproc_directives.specs.Lines.{lines}
 use Rattle.sl_preproc.specs.Stacks.{stack_of}
 use Rattle.sl_preproc.specs.Works.{work_of}
 use Rattle.sl_preproc.specs.Expansion.{included, expand_file}
 use Rattle.sl_preproc.specs.ByLines.{expand_lines}
-use Rattle.sl_preproc.specs.Sound.{IsWhole}
+use Rattle.sl_preproc.specs.Whole.{IsWhole}
 use Rattle.sl_preproc.specs.Reads.{Reached}
 use Rattle.sl_preproc.proofs.inclusion.+files.Given as goal
 

@@ -3,7 +3,7 @@ use Rattle.std.specs.Prelude.{slice_get}
 use Rattle.sl_preproc.specs.Readings.{Reading, Refusal, refused}
 use Rattle.sl_preproc.specs.Expansion.{Work}
 use Rattle.sl_preproc.specs.Refusals.{RefusesAs}
-use Rattle.sl_directive.specs.declared.fault.Cause.TheVariants.{Unbalanced}
+use Rattle.sl_preproc_directives.specs.declared.fault.Cause.TheVariants.{Unbalanced}
 use Rattle.sl_preproc.specs.declared.groups.Group.{Group}
 use Rattle.sl_preproc.proofs.ExpansionLemmas.{first_open}
 use Rattle.sl_preproc.proofs.ReadLemmas.{refuses_along}

@@ -4,7 +4,7 @@ use Rattle.sl_preproc.specs.Works.{work_of}
 use Rattle.sl_preproc.specs.Expanded.{seen}
 use Rattle.sl_preproc.proofs.AskLemmas.{uses_weaker}
 use Rattle.sl_preproc.proofs.MainLemmas.{main_fails, main_lines, lines_fail, main_text, asked_memory, asked_main, asked_lines}
-use Rattle.sl_preproc.specs.Sound.{IsWhole}
+use Rattle.sl_preproc.specs.Whole.{IsWhole}
 use Rattle.sl_preproc.proofs.SoundLemmas.{nothing_whole, is_sound}
 use Rattle.sl_preproc.proofs.inclusion.expand.Goals as goal
 

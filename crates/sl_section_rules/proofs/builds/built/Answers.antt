@@ -1,7 +1,7 @@
 use Rattle.std.proofs.Common.{[], map}
 use Rattle.sl_ast.specs.Views.{bytes, statement_of, statements_of}
-use Rattle.sl_rules.proofs.Gathers.{all_gathered, gathers}
-use Rattle.sl_rules.proofs.Seen.{below_map, past_map, seen_map}
+use Rattle.sl_spec_rules.proofs.Gathers.{all_gathered, gathers}
+use Rattle.sl_spec_rules.proofs.Seen.{below_map, past_map, seen_map}
 use Rattle.sl_section_rules.specs.SectionRules.{built}
 use Rattle.sl_section_rules.proofs.builds.built.Goals as goal
 

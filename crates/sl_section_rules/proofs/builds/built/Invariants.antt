@@ -1,6 +1,6 @@
 use Rattle.std.proofs.Common.{[], map}
 use Rattle.sl_ast.specs.Views.{bytes, statements_of}
-use Rattle.sl_rules.proofs.Gathers.{IsGathered}
+use Rattle.sl_spec_rules.proofs.Gathers.{IsGathered}
 use Rattle.sl_section_rules.specs.SectionRules.{built}
 use Rattle.sl_section_rules.proofs.builds.built.Given as goal
 

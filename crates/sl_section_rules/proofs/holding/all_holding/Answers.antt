@@ -1,6 +1,6 @@
 use Rattle.std.proofs.Common.{ap, ◌∙◌}
 use Rattle.sl_ast.specs.Views.{statement_of, statements_of}
-use Rattle.sl_rules.proofs.Seen.{below_map, past_map, seen_map}
+use Rattle.sl_spec_rules.proofs.Seen.{below_map, past_map, seen_map}
 use Rattle.sl_section_rules.proofs.HoldingLemmas.{holding_ends, holding_goes}
 use Rattle.sl_section_rules.specs.Holding.{both}
 use Rattle.sl_section_rules.specs.declared.holding.Holds.{Holds}

@@ -1,8 +1,8 @@
 use Rattle.std.proofs.Common.{List, ℕ, Option, false, ap, map, ◌∙◌}
 use Rattle.sl_ast.specs.Views.{bytes, statements_of}
 use Rattle.sl_ast.specs.declared.statements.Stmt.{Stmt}
-use Rattle.sl_rules.specs.Demands.{first_broken}
-use Rattle.sl_rules.specs.Names.{Name}
+use Rattle.sl_spec_rules.specs.Demands.{first_broken}
+use Rattle.sl_spec_rules.specs.Names.{Name}
 use Rattle.sl_section_rules.proofs.Told.{told_as}
 use Rattle.sl_section_rules.specs.Scopes.{macro_scope}
 use Rattle.sl_section_rules.specs.SectionRules.{body_demands}

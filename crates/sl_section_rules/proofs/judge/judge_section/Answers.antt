@@ -2,7 +2,7 @@ use Rattle.std.proofs.Common.{List, ap, sym, ◌∙◌}
 use Rattle.sl_ast.specs.Trees.{statements}
 use Rattle.sl_ast.specs.Views.{section_of, statements_of}
 use Rattle.sl_ast.specs.declared.statements.Stmt.{Stmt}
-use Rattle.sl_rules.specs.Demands.{first_broken}
+use Rattle.sl_spec_rules.specs.Demands.{first_broken}
 use Rattle.sl_section_rules.proofs.Told.{told_as}
 use Rattle.sl_section_rules.specs.SectionRules.{section_demands}
 use Rattle.sl_section_rules.proofs.judge.judge_section.Goals as goal

@@ -1,6 +1,6 @@
 use Rattle.std.proofs.Common.{[], ap}
 use Rattle.sl_ast.specs.Views.{statements_of}
-use Rattle.sl_rules.specs.Demands.{first_broken}
+use Rattle.sl_spec_rules.specs.Demands.{first_broken}
 use Rattle.sl_section_rules.proofs.Told.{told_as}
 use Rattle.sl_section_rules.specs.SectionRules.{body_demands}
 use Rattle.sl_section_rules.specs.declared.scopes.Scope.{Scope}

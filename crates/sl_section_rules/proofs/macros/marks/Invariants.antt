@@ -1,6 +1,6 @@
 use Rattle.std.proofs.Common.{◌≡◌, ◌++◌, map, drop}
 use Rattle.sl_ast.specs.Views.{bytes}
-use Rattle.sl_rules.specs.Names.{is_among}
+use Rattle.sl_spec_rules.specs.Names.{is_among}
 use Rattle.sl_section_rules.proofs.macros.marks.Given as goal
 
 -- what is there with what is left is all

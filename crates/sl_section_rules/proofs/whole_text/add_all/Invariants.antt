@@ -1,6 +1,6 @@
 use Rattle.std.proofs.Common.{◌≡◌, drop, fold, map}
 use Rattle.sl_ast.specs.Views.{bytes}
-use Rattle.sl_resolve.specs.Steps.{with_name}
+use Rattle.sl_section_resolve.specs.Steps.{with_name}
 use Rattle.sl_section_rules.proofs.whole_text.add_all.Given as goal
 
 -- what is there with the names that are left is all

@@ -2,8 +2,8 @@ use Rattle.std.proofs.Common.{◌<◌, ℕ, length, map, ap, ◌∙◌, arith}
 use Rattle.std.proofs.lemmas.List.{take_all}
 use Rattle.sl_word.specs.Sizes.{byte_counts}
 use Rattle.sl_spec.specs.Tables.{Space}
-use Rattle.sl_tables.proofs.PositionLemmas.{at_slice}
-use Rattle.sl_tables.proofs.RowLemmas.{made_more}
+use Rattle.sl_spec_tables.proofs.PositionLemmas.{at_slice}
+use Rattle.sl_spec_tables.proofs.RowLemmas.{made_more}
 use Rattle.sl_word.specs.declared.word.AddressSize.{AddressSize}
 use Rattle.sl_section_sizes.proofs.addresses.address_sizes.Goals as goal
 

@@ -1,6 +1,6 @@
 use Rattle.std.proofs.Common.{◌≡◌, ◌++◌, ◌∷◌, [], ℕ, Option, get_or, ap, ◌∙◌, arith}
 use Rattle.std.proofs.lemmas.List.{take_all}
-use Rattle.sl_levels.proofs.Seen.{mapped_more}
+use Rattle.sl_base_graphs.proofs.Seen.{mapped_more}
 use Rattle.sl_section_sizes.specs.Ordering.{table_meant}
 use Rattle.sl_section_sizes.specs.Rows.{tables_meant}
 use Rattle.sl_spec.specs.Tables.{Operand}

@@ -1,6 +1,6 @@
 use Rattle.std.proofs.Common.{ℕ, List, nat_lt}
-use Rattle.sl_exports.specs.Exports.{if_so}
-use Rattle.sl_rules.proofs.Gathers.{all_gathered, gathers}
+use Rattle.sl_section_exports.specs.Exports.{if_so}
+use Rattle.sl_spec_rules.proofs.Gathers.{all_gathered, gathers}
 use Rattle.sl_section_sizes.proofs.order.add_below.Goals as goal
 
 abbrev chosen : ℕ → ℕ → List ℕ

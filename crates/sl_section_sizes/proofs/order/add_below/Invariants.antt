@@ -1,6 +1,6 @@
 use Rattle.std.proofs.Common.{nat_lt}
-use Rattle.sl_exports.specs.Exports.{if_so}
-use Rattle.sl_rules.proofs.Gathers.{IsGathered}
+use Rattle.sl_section_exports.specs.Exports.{if_so}
+use Rattle.sl_spec_rules.proofs.Gathers.{IsGathered}
 use Rattle.sl_section_sizes.proofs.order.add_below.Given as goal
 
 abbrev pub invariant-ids : goal.invariant-ids

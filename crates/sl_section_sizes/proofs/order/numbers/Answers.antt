@@ -1,9 +1,9 @@
 use Rattle.std.proofs.Common.{ℕ, [], List, get_or}
 use Rattle.std.specs.Prelude.{slice_get}
-use Rattle.sl_rules.proofs.Gathers.{all_gathered, gathers}
+use Rattle.sl_spec_rules.proofs.Gathers.{all_gathered, gathers}
 use Rattle.sl_section_sizes.specs.Ordering.{below, numbers_of}
 use Rattle.sl_spec.specs.declared.tables.Tables.{Tables}
-use Rattle.sl_tables.proofs.PositionLemmas.{read_alike}
+use Rattle.sl_spec_tables.proofs.PositionLemmas.{read_alike}
 use Rattle.sl_section_sizes.proofs.order.numbers.Goals as goal
 
 abbrev of_table : Tables → ℕ → ℕ → List ℕ

@@ -1,6 +1,6 @@
 use Rattle.std.proofs.Common.{[]}
 use Rattle.std.specs.Prelude.{slice_get}
-use Rattle.sl_rules.proofs.Gathers.{IsGathered}
+use Rattle.sl_spec_rules.proofs.Gathers.{IsGathered}
 use Rattle.sl_section_sizes.specs.Ordering.{below, numbers_of}
 use Rattle.sl_section_sizes.proofs.order.numbers.Given as goal
 

@@ -5,7 +5,7 @@ use Rattle.std.proofs.lemmas.List.{length-map, map_push}
 use Rattle.sl_section_sizes.specs.Ordering.{put_all}
 use Rattle.sl_section_sizes.specs.Putting.{put_one}
 use Rattle.sl_section_sizes.proofs.PutLemmas.{put_last}
-use Rattle.sl_sizing.specs.Sizings.{lists_of}
+use Rattle.sl_section_sizes.specs.Sizings.{lists_of}
 use Rattle.sl_word.specs.declared.word.Size.{Size}
 use Rattle.sl_section_sizes.proofs.putting.in_text_order.Goals as goal
 

@@ -1,6 +1,6 @@
 use Rattle.std.proofs.Common.{◌≡◌}
 use Rattle.sl_section_sizes.specs.Ordering.{in_text_order, put_all}
-use Rattle.sl_sizing.specs.Sizings.{lists_of}
+use Rattle.sl_section_sizes.specs.Sizings.{lists_of}
 use Rattle.sl_section_sizes.proofs.putting.in_text_order.Given as goal
 
 abbrev pub invariant-rounds : goal.invariant-rounds

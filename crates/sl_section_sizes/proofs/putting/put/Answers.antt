@@ -1,7 +1,7 @@
 use Rattle.std.proofs.Common.{ap, sym, ◌∙◌}
 use Rattle.sl_section_sizes.specs.Putting.{put_one}
 use Rattle.sl_section_sizes.proofs.PutLemmas.{lists_set}
-use Rattle.sl_sizing.specs.Sizings.{lists_of}
+use Rattle.sl_section_sizes.specs.Sizings.{lists_of}
 use Rattle.sl_section_sizes.proofs.putting.put.Goals as goal
 
 pub returns-then-number-len : goal.returns-then-number-len

@@ -1,7 +1,7 @@
 use Rattle.std.proofs.Common.{◌<◌, ◌++◌, length, option_map, option_to_list, ap, sym, ◌∙◌, append-nil, refl, arith}
 use Rattle.std.proofs.lemmas.List.{length-map, map_push}
 use Rattle.std.proofs.lemmas.Option.{slice_get-map, slice_get_past, slice_get_read}
-use Rattle.sl_sizing.specs.Constructors.{constructor_of, constructors_of}
+use Rattle.sl_section_sizes.specs.ConstructorViews.{constructor_of, constructors_of}
 use Rattle.sl_section_sizes.proofs.rows.add_at.Goals as goal
 
 pub returns-then-number-all : goal.returns-then-number-all

@@ -1,8 +1,9 @@
 use Rattle.std.proofs.Common.{ℕ, [], List, get_or, option_to_list}
 use Rattle.std.specs.Prelude.{slice_get}
-use Rattle.sl_rules.proofs.Gathers.{all_gathered, gathers}
-use Rattle.sl_sizing.specs.Constructors.{Constructor, constructors_of}
-use Rattle.sl_tables.proofs.PositionLemmas.{read_alike}
+use Rattle.sl_spec_rules.proofs.Gathers.{all_gathered, gathers}
+use Rattle.sl_section_sizes.specs.Constructors.{Constructor}
+use Rattle.sl_section_sizes.specs.ConstructorViews.{constructors_of}
+use Rattle.sl_spec_tables.proofs.PositionLemmas.{read_alike}
 use Rattle.sl_section_sizes.proofs.rows.in_order.Goals as goal
 
 abbrev at : List Constructor → ℕ → List Constructor

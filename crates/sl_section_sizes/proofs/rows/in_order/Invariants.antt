@@ -1,7 +1,7 @@
 use Rattle.std.proofs.Common.{[], option_to_list}
 use Rattle.std.specs.Prelude.{slice_get}
-use Rattle.sl_rules.proofs.Gathers.{IsGathered}
-use Rattle.sl_sizing.specs.Constructors.{constructors_of}
+use Rattle.sl_spec_rules.proofs.Gathers.{IsGathered}
+use Rattle.sl_section_sizes.specs.ConstructorViews.{constructors_of}
 use Rattle.sl_section_sizes.proofs.rows.in_order.Given as goal
 
 abbrev pub invariant-numbers : goal.invariant-numbers

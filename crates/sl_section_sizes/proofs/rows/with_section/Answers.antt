@@ -1,5 +1,5 @@
 use Rattle.std.proofs.Common.{◌≡◌, ap, ◌∙◌}
-use Rattle.sl_flat_sections.specs.Views.{flat_of}
+use Rattle.sl_section_all.specs.Views.{flat_of}
 use Rattle.sl_section_sizes.specs.Rows.{tables_meant}
 use Rattle.sl_spec.specs.Tables.{Ctor}
 use Rattle.sl_section_sizes.proofs.rows.with_section.Goals as goal

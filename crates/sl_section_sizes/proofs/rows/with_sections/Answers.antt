@@ -2,15 +2,16 @@ use Rattle.std.specs.declared.alloc.Global.{Global}
 use Rattle.std.proofs.Common.{◌≡◌, ◌<◌, ◌++◌, ◌∷◌, [], ℕ, List, Option, Vec, length, get_or, map, take, ap, ◌∙◌, sym, arith}
 use Rattle.std.specs.List.{zip}
 use Rattle.std.proofs.lemmas.List.{length-map, map_push}
-use Rattle.sl_flat_sections.specs.FlatSections.{Flat}
-use Rattle.sl_flat_sections.specs.Views.{flat_of, flats_of}
-use Rattle.sl_levels.proofs.Seen.{read_or}
-use Rattle.sl_rules.proofs.Seen.{below_map, seen_map}
+use Rattle.sl_section_all.specs.FlatSections.{Flat}
+use Rattle.sl_section_all.specs.Views.{flat_of, flats_of}
+use Rattle.sl_base_graphs.proofs.Seen.{read_or}
+use Rattle.sl_spec_rules.proofs.Seen.{below_map, seen_map}
 use Rattle.sl_section_sizes.specs.Ordering.{with_section}
 use Rattle.sl_section_sizes.specs.Rows.{lists_meant, tables_meant}
-use Rattle.sl_sizing.specs.Constructors.{Constructor, constructor_of, constructors_of}
+use Rattle.sl_section_sizes.specs.Constructors.{Constructor}
+use Rattle.sl_section_sizes.specs.ConstructorViews.{constructor_of, constructors_of}
 use Rattle.sl_spec.specs.Tables.{Ctor}
-use Rattle.sl_tables.proofs.RowLemmas.{zip_all, zip_more}
+use Rattle.sl_spec_tables.proofs.RowLemmas.{zip_all, zip_more}
 use Rattle.sl_section_sizes.proofs.rows.with_sections.Goals as goal
 
 abbrev made : Ctor × Flat → Constructor

@@ -1,8 +1,8 @@
 use Rattle.std.proofs.Common.{◌≡◌, map, take}
 use Rattle.std.specs.List.{zip}
-use Rattle.sl_flat_sections.specs.Views.{flats_of}
+use Rattle.sl_section_all.specs.Views.{flats_of}
 use Rattle.sl_section_sizes.specs.Ordering.{with_section}
-use Rattle.sl_sizing.specs.Constructors.{constructors_of}
+use Rattle.sl_section_sizes.specs.ConstructorViews.{constructors_of}
 use Rattle.sl_section_sizes.proofs.rows.with_sections.Given as goal
 
 abbrev pub invariant-ctors : goal.invariant-ctors

@@ -1,9 +1,10 @@
 use Rattle.std.proofs.Common.{◌≡◌, ℕ, List, None, IfErr, IfOk, length, map, replicate, subst, ap, ◌∙◌}
-use Rattle.sl_equations.specs.Known.{address_in, exports_of}
+use Rattle.sl_section_equations.specs.Known.{exports_of}
+use Rattle.sl_section_equations.specs.SizesIn.{address_in}
 use Rattle.sl_word.specs.Sizes.{byte_counts}
 use Rattle.sl_section_sizes.specs.Ordering.{default_size}
-use Rattle.sl_sizing.specs.Constructors.{constructors_of}
-use Rattle.sl_sizing.specs.Sizings.{AreSized, IsError, lists_of}
+use Rattle.sl_section_sizes.specs.ConstructorViews.{constructors_of}
+use Rattle.sl_section_sizes.specs.Sizings.{AreSized, IsError, lists_of}
 use Rattle.sl_section_sizes.proofs.sizes.sized.Goals as goal
 
 pub returns-clause-sizes : goal.returns-clause-sizes

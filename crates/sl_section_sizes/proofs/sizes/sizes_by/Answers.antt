@@ -1,12 +1,13 @@
 use Rattle.std.proofs.Common.{◌≡◌, ℕ, List, length, sym, subst, ap, ◌∙◌}
 use Rattle.std.proofs.lemmas.List.{length-map}
-use Rattle.sl_equations.specs.Known.{exports_of}
+use Rattle.sl_section_equations.specs.Known.{exports_of}
 use Rattle.sl_section_sizes.specs.Ordering.{address_of, in_order, in_text_order, numbers}
 use Rattle.sl_section_sizes.specs.SectionSizes.{numbers_by, shaped, unknown}
 use Rattle.sl_section_sizes.specs.Telling.{Tells}
 use Rattle.sl_section_sizes.proofs.ToldLemmas.{told_error}
-use Rattle.sl_sizing.specs.Constructors.{Constructor, constructor_of, constructors_of}
-use Rattle.sl_sizing.specs.Sizings.{AreSized, IsError, lists_of}
+use Rattle.sl_section_sizes.specs.Constructors.{Constructor}
+use Rattle.sl_section_sizes.specs.ConstructorViews.{constructor_of, constructors_of}
+use Rattle.sl_section_sizes.specs.Sizings.{AreSized, IsError, lists_of}
 use Rattle.sl_section_sizes.proofs.sizes.sizes_by.Goals as goal
 
 pub returns-in-Ok-clause-sizes : goal.returns-in-Ok-clause-sizes

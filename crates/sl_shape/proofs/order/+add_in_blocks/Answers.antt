@@ -2,8 +2,8 @@ use Rattle.std.proofs.Common.{◌≡◌, ℕ, List, ◌++◌, option_map, arith,
 use Rattle.std.proofs.lemmas.Result.{IfOk-weaker}
 use Rattle.std.specs.Prelude.{OnOk}
 use Rattle.sl_ast.specs.Views.{constructor_of, head_of, pattern_of}
-use Rattle.sl_patterns.proofs.HeadLemmas.{kept_rest, made_rest, rest_shorter}
-use Rattle.sl_patterns.proofs.ViewLemmas.{in_one_more}
+use Rattle.sl_shape_patterns.proofs.HeadLemmas.{kept_rest, made_rest, rest_shorter}
+use Rattle.sl_shape_patterns.proofs.ViewLemmas.{in_one_more}
 use Rattle.sl_shape.specs.HeadsMade.{AreHeadTables}
 use Rattle.sl_shape.specs.Tables.{tables_named}
 use Rattle.sl_shape.proofs.HeadLemmas.{first_made, first_then, then_rest}

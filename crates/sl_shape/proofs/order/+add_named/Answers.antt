@@ -1,7 +1,7 @@
 use Rattle.std.proofs.Common.{◌≡◌, ℕ, List, ◌++◌, sym, ap, ◌∙◌, subst}
 use Rattle.std.specs.Prelude.{OnOk}
 use Rattle.sl_ast.specs.Views.{expression_of, pattern_of}
-use Rattle.sl_patterns.proofs.ViewLemmas.{seen_name, seen_constraint, seen_paren, seen_ellipsis, seen_joined}
+use Rattle.sl_shape_patterns.proofs.ViewLemmas.{seen_name, seen_constraint, seen_paren, seen_ellipsis, seen_joined}
 use Rattle.sl_shape.specs.Tables.{one_or_none, tables_named}
 use Rattle.sl_shape.proofs.NamedLemmas.{adds_both, adds_none, names_bare, names_constraint, names_ellipsis, names_group, names_joined}
 use Rattle.sl_shape.proofs.order.+add_named.Goals as goal

@@ -1,5 +1,5 @@
 use Rattle.std.proofs.Common.{[], ◌++◌, ap, ◌∙◌}
-use Rattle.sl_rules.proofs.Gathers.{all_gathered, gathers}
+use Rattle.sl_spec_rules.proofs.Gathers.{all_gathered, gathers}
 use Rattle.sl_shape.specs.Tables.{named_by, pattern_at}
 use Rattle.sl_spec.specs.Unfolded.{all_placed}
 use Rattle.sl_shape.proofs.order.named_in.Goals as goal

@@ -1,5 +1,5 @@
 use Rattle.std.proofs.Common.{[]}
-use Rattle.sl_rules.proofs.Gathers.{IsGathered}
+use Rattle.sl_spec_rules.proofs.Gathers.{IsGathered}
 use Rattle.sl_shape.specs.HeadsMade.{AreHeadTables, AreMadeOf}
 use Rattle.sl_shape.specs.Tables.{named_by, pattern_at}
 use Rattle.sl_spec.specs.Unfolded.{all_placed}

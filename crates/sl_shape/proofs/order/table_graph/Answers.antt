@@ -1,7 +1,7 @@
 use Rattle.std.proofs.Common.{ℕ, List, ◌++◌, ◌∷◌, [], ap, ◌∙◌}
 use Rattle.std.proofs.lemmas.List.{map_push}
-use Rattle.sl_levels.specs.Views.{graph_of}
-use Rattle.sl_rules.specs.Gathered.{gathered}
+use Rattle.sl_base_graphs.specs.Views.{graph_of}
+use Rattle.sl_spec_rules.specs.Gathered.{gathered}
 use Rattle.sl_shape.specs.Tables.{named_by, pattern_at}
 use Rattle.sl_shape.proofs.NamedLemmas.{graph_more}
 use Rattle.sl_spec.specs.Tables.{Table}

@@ -1,6 +1,6 @@
 use Rattle.std.proofs.Common.{◌≡◌, map, take}
-use Rattle.sl_levels.specs.Views.{graph_of}
-use Rattle.sl_rules.specs.Gathered.{gathered}
+use Rattle.sl_base_graphs.specs.Views.{graph_of}
+use Rattle.sl_spec_rules.specs.Gathered.{gathered}
 use Rattle.sl_shape.specs.HeadsMade.{AreHeadTables, AreMadeOf}
 use Rattle.sl_shape.specs.Tables.{named_by, pattern_at}
 use Rattle.sl_spec.specs.Unfolded.{all_placed}

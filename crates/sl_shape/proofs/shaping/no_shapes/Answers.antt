@@ -1,8 +1,8 @@
 use Rattle.std.proofs.Common.{◌+◌, List, length, sym, ap, ◌∙◌, subst}
 use Rattle.std.proofs.lemmas.List.{length_push}
 use Rattle.std.specs.List.{AllByRecursion}
-use Rattle.sl_shapes.specs.Lists.{IsThere}
-use Rattle.sl_shapes.specs.declared.shapes.Shape as code
+use Rattle.sl_shape_tokens.specs.Lists.{IsThere}
+use Rattle.sl_shape_tokens.specs.declared.shapes.Shape as code
 use Rattle.sl_spec.proofs.KeyedLemmas.{all_push}
 use Rattle.sl_shape.proofs.shaping.no_shapes.Goals as goal
 

@@ -1,6 +1,6 @@
 use Rattle.std.proofs.Common.{◌≡◌, ℕ, List, length}
 use Rattle.std.specs.List.{AllByRecursion}
-use Rattle.sl_shapes.specs.Lists.{IsThere}
+use Rattle.sl_shape_tokens.specs.Lists.{IsThere}
 use Rattle.sl_shape.proofs.shaping.no_shapes.Given as goal
 
 abbrev pub invariant-shapes : goal.invariant-shapes

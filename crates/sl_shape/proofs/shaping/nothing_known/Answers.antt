@@ -1,8 +1,8 @@
 use Rattle.std.proofs.Common.{arith, List, [], refl, sym, ◌∙◌, subst}
 use Rattle.std.specs.List.{AllByRecursion}
 use Rattle.sl_shape.specs.declared.below.TokenLists.{TokenLists}
-use Rattle.sl_shapes.specs.Lists.{IsThere}
-use Rattle.sl_shapes.specs.declared.shapes.Shape as code
+use Rattle.sl_shape_tokens.specs.Lists.{IsThere}
+use Rattle.sl_shape_tokens.specs.declared.shapes.Shape as code
 use Rattle.sl_shape.proofs.shaping.nothing_known.Goals as goal
 
 pub returns-clause-right : goal.returns-clause-right

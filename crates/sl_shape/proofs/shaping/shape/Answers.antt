@@ -1,6 +1,6 @@
 use Rattle.std.proofs.Common.{ap, ◌∙◌}
 use Rattle.std.proofs.lemmas.Result.{err_from_is_err_and}
-use Rattle.sl_levels.specs.Views.{graph_of}
+use Rattle.sl_base_graphs.specs.Views.{graph_of}
 use Rattle.sl_shape.proofs.OrderedLemmas.{first_whole, whole}
 use Rattle.sl_spec.specs.Unfolded.{all_placed}
 use Rattle.sl_shape.proofs.shaping.shape.Goals as goal

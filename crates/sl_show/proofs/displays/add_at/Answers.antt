@@ -1,7 +1,7 @@
 use Rattle.std.proofs.Common.{map, sym, ◌∙◌}
 use Rattle.sl_ast.specs.Views.{piece_of}
-use Rattle.sl_leaves.specs.Extents.{leaves_at}
-use Rattle.sl_rules.proofs.Seen.{below_map, read_map}
+use Rattle.sl_decode_leaves.specs.Extents.{leaves_at}
+use Rattle.sl_spec_rules.proofs.Seen.{below_map, read_map}
 use Rattle.sl_show.specs.Templates.{made}
 use Rattle.sl_show.specs.Texts.{word_text}
 use Rattle.sl_show.proofs.DisplayLemmas.{added, passed}

@@ -1,8 +1,8 @@
 use Rattle.std.proofs.Common.{drop, map, sym, ◌∙◌}
 use Rattle.sl_ast.specs.Views.{piece_of}
-use Rattle.sl_rules.proofs.Seen.{below_map, read_map}
-use Rattle.sl_constructors.specs.Displays.{behind, is_literal}
-use Rattle.sl_constructors.proofs.DisplayLemmas.{behind_goes, behind_stops}
+use Rattle.sl_spec_rules.proofs.Seen.{below_map, read_map}
+use Rattle.sl_spec_constructors.specs.Displays.{behind, is_literal}
+use Rattle.sl_spec_constructors.proofs.DisplayLemmas.{behind_goes, behind_stops}
 use Rattle.sl_show.specs.Templates.{made}
 use Rattle.sl_show.proofs.DisplayLemmas.{goes_on, stops}
 use Rattle.sl_show.proofs.displays.add_mnemonic.Goals as goal

@@ -1,7 +1,7 @@
 use Rattle.std.proofs.Common.{◌≡◌, ◌++◌, drop, map}
 use Rattle.std.specs.List.{flat_map}
 use Rattle.sl_ast.specs.Views.{piece_of}
-use Rattle.sl_constructors.specs.Displays.{behind, is_literal}
+use Rattle.sl_spec_constructors.specs.Displays.{behind, is_literal}
 use Rattle.sl_show.specs.Pieces.{front, literal_text}
 use Rattle.sl_show.specs.Templates.{made}
 use Rattle.sl_show.specs.Texts.{Spot}

@@ -1,6 +1,6 @@
 use Rattle.std.proofs.Common.{◌≡◌, ◌++◌, drop, map}
 use Rattle.sl_ast.specs.Views.{piece_of}
-use Rattle.sl_leaves.specs.Extents.{leaves_at}
+use Rattle.sl_decode_leaves.specs.Extents.{leaves_at}
 use Rattle.sl_show.specs.Pieces.{pieces_text}
 use Rattle.sl_show.specs.Templates.{made}
 use Rattle.sl_show.specs.Texts.{Spot, word_text}

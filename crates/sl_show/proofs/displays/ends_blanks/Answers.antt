@@ -1,6 +1,6 @@
 use Rattle.std.proofs.Common.{map, sym, ap, ◌∙◌}
 use Rattle.sl_ast.specs.Views.{piece_of}
-use Rattle.sl_rules.proofs.Seen.{below_map, seen_map}
+use Rattle.sl_spec_rules.proofs.Seen.{below_map, seen_map}
 use Rattle.sl_show.specs.Pieces.{ends_blanks}
 use Rattle.sl_show.proofs.DisplayLemmas.{at}
 use Rattle.sl_show.proofs.displays.ends_blanks.Goals as goal

@@ -1,6 +1,6 @@
 use Rattle.std.proofs.Common.{map, refl, sym, ◌∙◌, true, false}
 use Rattle.sl_ast.specs.Views.{piece_of}
-use Rattle.sl_rules.proofs.Seen.{below_map, read_map}
+use Rattle.sl_spec_rules.proofs.Seen.{below_map, read_map}
 use Rattle.sl_show.proofs.DisplayLemmas.{is_passed_at}
 use Rattle.sl_show.proofs.displays.is_passed.Goals as goal
 

@@ -1,6 +1,6 @@
 use Rattle.std.proofs.Common.{◌+◌, ap, ◌∙◌, sym, min, max}
-use Rattle.sl_leaves.specs.Extents.{extent}
-use Rattle.sl_leaves.specs.declared.extents.Extent.{Extent}
+use Rattle.sl_decode_leaves.specs.Extents.{extent}
+use Rattle.sl_decode_leaves.specs.declared.extents.Extent.{Extent}
 use Rattle.sl_show.specs.Texts.{lengths_of}
 use Rattle.sl_show.proofs.PartLemmas.{capped_max, capped_sum}
 use Rattle.sl_show.proofs.entries.+reckoned.Goals as goal

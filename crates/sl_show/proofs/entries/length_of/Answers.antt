@@ -1,5 +1,5 @@
 use Rattle.std.proofs.Common.{◌≡◌, ◌<◌, ◌∙◌, ap, length, get_or, rules}
-use Rattle.sl_decoding.specs.declared.entries.Entry.{Entry}
+use Rattle.sl_decode_meaning.specs.declared.entries.Entry.{Entry}
 use Rattle.sl_show.proofs.EntryLemmas.{its_length, no_length}
 use Rattle.sl_show.proofs.entries.length_of.Goals as goal
 

@@ -1,5 +1,5 @@
 use Rattle.std.proofs.Common.{◌≡◌, ◌≤◌, ℤ, List, length}
-use Rattle.sl_decoding.specs.Trees.{Node, Trees}
+use Rattle.sl_decode_meaning.specs.Trees.{Node, Trees}
 use Rattle.sl_show.specs.Entries.{from_tree, rows, rows_of}
 use Rattle.sl_show.proofs.entries.skip.Given as goal
 

@@ -1,7 +1,7 @@
 use Rattle.std.proofs.Common.{sym, ◌∙◌}
-use Rattle.sl_leaves.proofs.MadeLemmas.{keeps_of, made_for, none_of}
-use Rattle.sl_leaves.specs.Blocks.{AreLeavesOfHead}
-use Rattle.sl_rules.proofs.Seen.{past_map}
+use Rattle.sl_decode_leaves.proofs.MadeLemmas.{keeps_of, made_for, none_of}
+use Rattle.sl_decode_leaves.specs.Blocks.{AreLeavesOfHead}
+use Rattle.sl_spec_rules.proofs.Seen.{past_map}
 use Rattle.sl_show.proofs.MakingLemmas.{node_at, none_first, none_past, out_of_constructors, out_of_written, template_next}
 use Rattle.sl_spec.specs.Unfolded.{all_placed, placed}
 use Rattle.sl_show.proofs.making.make_templates.Goals as goal

@@ -1,5 +1,5 @@
-use Rattle.sl_leaves.proofs.MadeLemmas.{AreMadeOf}
-use Rattle.sl_leaves.specs.Blocks.{AreLeavesOfHead}
+use Rattle.sl_decode_leaves.proofs.MadeLemmas.{AreMadeOf}
+use Rattle.sl_decode_leaves.specs.Blocks.{AreLeavesOfHead}
 use Rattle.sl_spec.specs.Unfolded.{all_placed}
 use Rattle.sl_show.proofs.MakingLemmas.{AreFirst}
 use Rattle.sl_show.proofs.making.make_templates.Given as goal

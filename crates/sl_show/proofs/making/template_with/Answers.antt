@@ -2,9 +2,9 @@ use Rattle.std.proofs.Common.{List, ap, map, sym, ◌∙◌}
 use Rattle.sl_ast.specs.Trees.{Piece}
 use Rattle.sl_ast.specs.Views.{constructor_of, piece_of}
 use Rattle.sl_ast.specs.declared.constructors.Shown.{Shown}
-use Rattle.sl_constructors.proofs.BlockLemmas.{display_in_blocks}
-use Rattle.sl_decoding.specs.Meanings.{leaves_by}
-use Rattle.sl_decoding.specs.Places.{Leaf}
+use Rattle.sl_spec_constructors.proofs.BlockLemmas.{display_in_blocks}
+use Rattle.sl_decode_meaning.specs.Meanings.{leaves_by}
+use Rattle.sl_decode_meaning.specs.Places.{Leaf}
 use Rattle.sl_show.specs.Pieces.{display_text}
 use Rattle.sl_show.specs.Texts.{word_text}
 use Rattle.sl_spec.specs.Unfolded.{heads_of, placed}

@@ -1,5 +1,5 @@
 use Rattle.std.proofs.Common.{◌≡◌, ◌*◌, ◌+◌, ◌≤◌, ◌++◌, length, take}
-use Rattle.sl_decoding.specs.Trees.{Node, Trees}
+use Rattle.sl_decode_meaning.specs.Trees.{Node, Trees}
 use Rattle.sl_show.specs.Entries.{row_of, rows, rows_of}
 use Rattle.sl_show.specs.Spans.{AreTexts, AreWithin}
 use Rattle.sl_show.specs.Templates.{operand_texts, parts_text, spot_among}

@@ -1,5 +1,5 @@
 use Rattle.std.proofs.Common.{◌<◌, ◌+◌, ◌^◌, ap, ◌∙◌, ◌++◌, length, min, rules}
-use Rattle.sl_leaves.specs.Extents.{extent}
+use Rattle.sl_decode_leaves.specs.Extents.{extent}
 use Rattle.sl_show.specs.Texts.{lengths_of}
 use Rattle.sl_show.proofs.PartLemmas.{same_place}
 use Rattle.sl_show.proofs.texts.push_field_at.Goals as goal

@@ -3,7 +3,8 @@ use Rattle.std.proofs.lemmas.List.{length-map}
 use Rattle.sl_ast.specs.Unfolding.{unfolded_from}
 use Rattle.sl_ast.specs.Views.{item_of}
 use Rattle.sl_spec.specs.Numbers.{AreNumberedBelow}
-use Rattle.sl_spec.specs.Unfolded.{constructors_in, placed}
+use Rattle.sl_spec.specs.Unfolded.{placed}
+use Rattle.sl_spec.specs.ConstructorItems.{constructors_in}
 use Rattle.sl_spec.specs.declared.unfolded.Unfolded.{Unfolded}
 use Rattle.sl_spec.proofs.NumberLemmas.{none_numbered, numbers_all}
 use Rattle.sl_spec.proofs.SeenLemmas.{seen_map}

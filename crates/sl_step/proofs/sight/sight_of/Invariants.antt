@@ -1,5 +1,5 @@
 use Rattle.std.proofs.Common.{◌≡◌, drop, max}
-use Rattle.sl_sight.specs.Sight.{sight_in}
+use Rattle.sl_faithful_reach.specs.Sight.{sight_in}
 use Rattle.sl_step.proofs.sight.sight_of.Given as goal
 
 abbrev pub invariant-nodes : goal.invariant-nodes

@@ -1,8 +1,8 @@
 use Rattle.std.proofs.Common.{◌-◌, length, Ok, Err, refl, sym, arith}
 use Rattle.std.specs.Cmp.Lexicographic.{same_text}
-use Rattle.sl_packed.specs.Packed.{mark}
-use Rattle.sl_packed.proofs.PackedLaws.{exact_written}
-use Rattle.sl_packing.proofs.MarkLaws.{few_left, marked, right_cut, right_damaged}
+use Rattle.sl_store_format.specs.Packed.{mark}
+use Rattle.sl_store_format.proofs.PackedLaws.{exact_written}
+use Rattle.sl_store_bytes.proofs.MarkLaws.{few_left, marked, right_cut, right_damaged}
 use Rattle.sl_store.specs.declared.opening.UnpackError.TheVariants as uv
 use Rattle.sl_store.proofs.StoreLaws.{opened_file, opens_by}
 use Rattle.sl_store.proofs.opening.unpack.Goals as goal

@@ -2,11 +2,12 @@ use Rattle.std.proofs.Common.{ℕ, List, Option, Some, Ok, Err, refl, subst, sym
 use Rattle.std.proofs.lemmas.Result.{err_from_is_err_and}
 use Rattle.sl_outside.specs.Folder.{Folder}
 use Rattle.sl_preproc.specs.Asks.{AsksFor as AsksForText}
-use Rattle.sl_request.specs.Views.{target}
+use Rattle.sl_tool_request.specs.Views.{target}
 use Rattle.sl_tool.specs.Answers.{AnswersFrom, Follows, Shows, asked_after, counts_of, figures_of, shows_of}
 use Rattle.sl_outside.specs.Uses.{UsesFiles}
 use Rattle.sl_tool.specs.Ends.{RunsNothing}
-use Rattle.sl_tool.specs.Outcomes.{FailsToRead, Grew, IsEarly}
+use Rattle.sl_tool.specs.Outcomes.{FailsToRead, IsEarly}
+use Rattle.sl_tool.specs.Growth.{Grew}
 use Rattle.sl_tool.specs.Request.{spec_of}
 use Rattle.sl_tool.specs.Requests.{request, show_of}
 use Rattle.sl_tool.specs.SourceView.{source_view}

@@ -1,6 +1,6 @@
 use Rattle.std.proofs.Common.{◌≡◌, ℕ, List, length, refl, subst, ◌∙◌}
 use Rattle.std.proofs.lemmas.Result.{err_from_is_err_and}
-use Rattle.sl_list.specs.Listings.{AppendsFront}
+use Rattle.sl_list_instructions.specs.Fronts.{AppendsFront}
 use Rattle.sl_tool.specs.Answers.{counts_of}
 use Rattle.sl_tool.specs.Outcomes.{RanNone}
 use Rattle.sl_tool.specs.StageViews.{compiled_view}

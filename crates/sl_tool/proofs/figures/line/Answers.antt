@@ -1,10 +1,10 @@
 use Rattle.std.proofs.Common.{ℕ, List, ◌++◌, ap, subst, ◌∙◌}
 use Rattle.sl_ast.specs.Views.{items_of}
-use Rattle.sl_lister.specs.Listing.{image_from}
-use Rattle.sl_generator.specs.Line.{figures_line}
-use Rattle.sl_generator.specs.declared.line.Figures.{Figures}
-use Rattle.sl_runner.specs.Executing.{Executes}
-use Rattle.sl_sizing.specs.Sizings.{lists_of}
+use Rattle.sl_list_instructions.specs.Listing.{image_from}
+use Rattle.sl_tool_generator.specs.Line.{figures_line}
+use Rattle.sl_tool_generator.specs.declared.line.Figures.{Figures}
+use Rattle.sl_step_run.specs.Executing.{Executes}
+use Rattle.sl_section_sizes.specs.Sizings.{lists_of}
 use Rattle.sl_tool.specs.Figures.{IsListed}
 use Rattle.sl_tool.specs.StageViews.{compiled_view}
 use Rattle.sl_tool.proofs.FigureLemmas.{figures_due, registers_lie}

@@ -1,7 +1,7 @@
 use Rattle.std.proofs.Common.{List, ℕ, Some, ap, ◌∙◌, if◌then◌else◌, codes}
 use Rattle.std.proofs.Math.Path.{fun_ext}
 use Rattle.std.specs.Str.{bytes_eq}
-use Rattle.sl_generator.specs.Specification.{specification}
+use Rattle.sl_tool_generator.specs.Specification.{specification}
 use Rattle.sl_outside.specs.Folder.{Folder}
 use Rattle.sl_outside.specs.Memory.{folder_of}
 use Rattle.sl_tool.proofs.generated.folder.Goals as goal

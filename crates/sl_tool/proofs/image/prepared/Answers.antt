@@ -1,6 +1,6 @@
 use Rattle.std.proofs.Common.{◌^◌, ℕ, List, Vec, Global}
 use Rattle.std.proofs.lemmas.Result.{err_from_is_err_and}
-use Rattle.sl_request.specs.Views.{target}
+use Rattle.sl_tool_request.specs.Views.{target}
 use Rattle.sl_tool.specs.Stage.Then.{stops, goes}
 use Rattle.sl_tool.specs.Stages.{Decodes, Fits, Prepares}
 use Rattle.sl_tool.proofs.ImageLemmas.{gives_err}

@@ -1,8 +1,8 @@
 use Rattle.std.proofs.Common.{refl}
 use Rattle.std.proofs.lemmas.Result.{err_from_is_err_and}
-use Rattle.sl_request.specs.Views.{target}
+use Rattle.sl_tool_request.specs.Views.{target}
 use Rattle.sl_tool.specs.Answers.{Shows, shows_of}
-use Rattle.sl_tool.specs.Outcomes.{Grew}
+use Rattle.sl_tool.specs.Growth.{Grew}
 use Rattle.sl_tool.specs.Requests.{show_of}
 use Rattle.sl_tool.specs.Stage.{Then}
 use Rattle.sl_tool.specs.Stage.Then.{stops, goes}

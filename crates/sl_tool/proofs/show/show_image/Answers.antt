@@ -1,7 +1,8 @@
 use Rattle.std.proofs.Common.{subst, sym}
 use Rattle.sl_tool.specs.Answers.{shows_of}
 use Rattle.sl_tool.specs.Ends.{IsStill}
-use Rattle.sl_tool.specs.Outcomes.{Grew, Streams}
+use Rattle.sl_tool.specs.Outcomes.{Streams}
+use Rattle.sl_tool.specs.Growth.{Grew}
 use Rattle.sl_tool.specs.Request.{Listing, Operations}
 use Rattle.sl_tool.specs.Requests.{show_of}
 use Rattle.sl_tool.specs.StageViews.{loaded_view}

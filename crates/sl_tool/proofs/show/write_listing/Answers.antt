@@ -1,7 +1,7 @@
 use Rattle.std.proofs.Common.{ℕ, List, Result, sym, subst}
-use Rattle.sl_compile.specs.Outcomes.{all_constructors}
-use Rattle.sl_lister.specs.Listing.{image_from}
-use Rattle.sl_lister.specs.Writing.{Writes}
+use Rattle.sl_bind_compile.specs.Outcomes.{all_constructors}
+use Rattle.sl_list_instructions.specs.Listing.{image_from}
+use Rattle.sl_list_instructions.specs.Writing.{Writes}
 use Rattle.sl_tool.specs.Answers.{shows_of}
 use Rattle.sl_tool.specs.Outcomes.{FailsToWrite, RanNone, Streams}
 use Rattle.sl_tool.specs.Request.{Listing}

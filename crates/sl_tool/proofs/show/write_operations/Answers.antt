@@ -1,8 +1,8 @@
 use Rattle.std.proofs.Common.{ℕ, List, Result, sym, subst}
-use Rattle.sl_lister.specs.Listing.{image_from}
+use Rattle.sl_list_instructions.specs.Listing.{image_from}
 use Rattle.sl_outside.specs.Uses.{UsesSink}
-use Rattle.sl_pcode_lister.specs.Writing.{Writes}
-use Rattle.sl_sizing.specs.Sizings.{lists_of}
+use Rattle.sl_list_pcode.specs.Writing.{Writes}
+use Rattle.sl_section_sizes.specs.Sizings.{lists_of}
 use Rattle.sl_tool.specs.Answers.{shows_of}
 use Rattle.sl_tool.specs.Outcomes.{FailsToWrite, RanNone, Streams}
 use Rattle.sl_tool.specs.Request.{Operations}

@@ -1,12 +1,12 @@
 use Rattle.std.proofs.Common.{ℕ, List, refl, subst}
 use Rattle.std.proofs.lemmas.Result.{err_from_is_err_and}
-use Rattle.sl_list.specs.Listings.{AppendsFront}
-use Rattle.sl_lister.specs.Listing.{image_from}
-use Rattle.sl_runner.specs.Executing.{RunsAs}
-use Rattle.sl_sizing.specs.Sizings.{lists_of}
+use Rattle.sl_list_instructions.specs.Fronts.{AppendsFront}
+use Rattle.sl_list_instructions.specs.Listing.{image_from}
+use Rattle.sl_step_run.specs.Executing.{RunsAs}
+use Rattle.sl_section_sizes.specs.Sizings.{lists_of}
 use Rattle.sl_tool.specs.Answers.{shows_of}
 use Rattle.sl_tool.specs.Endings.{ending_of}
-use Rattle.sl_tool.specs.Outcomes.{Grew}
+use Rattle.sl_tool.specs.Growth.{Grew}
 use Rattle.sl_tool.specs.Request.{Run}
 use Rattle.sl_tool.specs.StageViews.{loaded_view}
 use Rattle.sl_tool.specs.Values.{shown}

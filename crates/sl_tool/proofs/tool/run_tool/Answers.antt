@@ -5,7 +5,8 @@ use Rattle.std.specs.Option.{option_map}
 use Rattle.sl_tool.specs.Answers.{Answers, AsksFor, UsesFilesFor}
 use Rattle.sl_tool.specs.Ends.{Ends, Means, ReadsFiles, RunsFor, RunsNothing}
 use Rattle.sl_tool.specs.Ends.Means.{usage, answer}
-use Rattle.sl_tool.specs.Outcomes.{Grew, IsReadFault, StopsEarly}
+use Rattle.sl_tool.specs.Outcomes.{IsReadFault, StopsEarly}
+use Rattle.sl_tool.specs.Growth.{Grew}
 use Rattle.sl_tool.specs.Problems.{refusal_text}
 use Rattle.sl_tool.specs.Request.{Request, request_of}
 use Rattle.sl_tool.specs.Requests.{request}

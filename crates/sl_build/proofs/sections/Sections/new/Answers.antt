@@ -3,12 +3,13 @@ use Rattle.sl_ast.specs.Unfolding.{unfolded}
 use Rattle.sl_ast.specs.Views.{item_of, items_of}
 use Rattle.sl_ast.specs.declared.items.Item.{Item}
 use Rattle.sl_build.specs.Stands.{StandsFor}
-use Rattle.sl_flat_sections.specs.FlatSections.{flat_sections}
-use Rattle.sl_flat_sections.specs.Scopes.{scopes_of}
-use Rattle.sl_flat_sections.specs.Views.{scopes_view}
-use Rattle.sl_instruction.specs.Instructions.{Specification}
-use Rattle.sl_sizing.specs.Sizings.{lists_of}
-use Rattle.sl_spec.specs.Unfolded.{all_placed, constructors_in}
+use Rattle.sl_section_all.specs.FlatSections.{flat_sections}
+use Rattle.sl_section_all.specs.Scopes.{scopes_of}
+use Rattle.sl_section_all.specs.Views.{scopes_view}
+use Rattle.sl_meaning_instruction.specs.Instructions.{Specification}
+use Rattle.sl_section_sizes.specs.Sizings.{lists_of}
+use Rattle.sl_spec.specs.Unfolded.{all_placed}
+use Rattle.sl_spec.specs.ConstructorItems.{constructors_in}
 use Rattle.sl_build.proofs.sections.Sections.new.Goals as goal
 
 pub sections_of-requires : goal.sections_of-requires

@@ -4,9 +4,9 @@ use Rattle.sl_decode.specs.Outcomes.{Fails}
 use Rattle.sl_decode.specs.Sprouts.{laid, row, row_of}
 use Rattle.sl_decode.proofs.ChoiceLemmas.{both_found, none_chosen, none_planned}
 use Rattle.sl_decode.proofs.SproutLemmas.{fails_so, finished, finished_so, grow_as, grow_fails, grow_none, opened_as, opened_fails, sprout}
-use Rattle.sl_decoding.specs.Decoding.{grow, point_at}
-use Rattle.sl_decoding.specs.declared.faults.Fault.TheVariants.{NoConstructor}
-use Rattle.sl_plan.specs.Plans.{done}
+use Rattle.sl_decode_meaning.specs.Decoding.{grow, point_at}
+use Rattle.sl_decode_meaning.specs.declared.faults.Fault.TheVariants.{NoConstructor}
+use Rattle.sl_decode_plan.specs.Plans.{done}
 use Rattle.sl_decode.proofs.decode.Decode.+tree.Goals as goal
 
 pub grow-returns-then-left-eq0-clause-gives : goal.grow-returns-then-left-eq0-clause-gives

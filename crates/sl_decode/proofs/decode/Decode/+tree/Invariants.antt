@@ -1,8 +1,8 @@
 use Rattle.std.proofs.Common.{◌≡◌, ◌*◌, ◌+◌, ◌≤◌, drop, take, [], map, length}
 use Rattle.sl_decode.specs.Inputs.{input_of}
 use Rattle.sl_decode.specs.Sprouts.{laid_grove, row_of}
-use Rattle.sl_decoding.specs.Decoding.{grow, operands}
-use Rattle.sl_plan.specs.Plans.{done_slot}
+use Rattle.sl_decode_meaning.specs.Decoding.{grow, operands}
+use Rattle.sl_decode_plan.specs.Plans.{done_slot}
 use Rattle.sl_decode.proofs.decode.Decode.+tree.Given as goal
 
 abbrev pub decreases-grow : goal.decreases-grow

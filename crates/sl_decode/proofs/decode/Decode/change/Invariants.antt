@@ -1,9 +1,9 @@
 use Rattle.std.proofs.Common.{◌≡◌, drop, []}
 use Rattle.sl_decode.specs.Inputs.{input_of}
-use Rattle.sl_decoding.specs.Actions.{changed}
-use Rattle.sl_decoding.specs.Decoding.{site_at}
-use Rattle.sl_decoding.specs.Outcomes.{in_turn}
-use Rattle.sl_plan.specs.Steps.{early_step}
+use Rattle.sl_decode_meaning.specs.Actions.{changed}
+use Rattle.sl_decode_meaning.specs.Decoding.{site_at}
+use Rattle.sl_decode_meaning.specs.Outcomes.{in_turn}
+use Rattle.sl_decode_plan.specs.Steps.{early_step}
 use Rattle.sl_decode.proofs.decode.Decode.change.Given as goal
 
 abbrev pub invariant-steps : goal.invariant-steps

@@ -3,12 +3,12 @@ use Rattle.std.specs.declared.alloc.Global.{Global}
 use Rattle.sl_decode.specs.Inputs.{input_of}
 use Rattle.sl_decode.specs.Outcomes.{Fails}
 use Rattle.sl_decode.proofs.RowLemmas.{row_done, row_fails, sites_same}
-use Rattle.sl_decoding.specs.Actions.{Changed, changed}
-use Rattle.sl_decoding.specs.Decoding.{site_at}
-use Rattle.sl_decoding.specs.Outcomes.{in_turn}
-use Rattle.sl_decoding.specs.declared.faults.Fault.{Fault}
-use Rattle.sl_plan.specs.Steps.{early_step}
-use Rattle.sl_plan.specs.declared.early.Early.{Early}
+use Rattle.sl_decode_meaning.specs.Actions.{Changed, changed}
+use Rattle.sl_decode_meaning.specs.Decoding.{site_at}
+use Rattle.sl_decode_meaning.specs.Outcomes.{in_turn}
+use Rattle.sl_decode_meaning.specs.declared.faults.Fault.{Fault}
+use Rattle.sl_decode_plan.specs.Steps.{early_step}
+use Rattle.sl_decode_plan.specs.declared.early.Early.{Early}
 use Rattle.sl_decode.proofs.decode.Decode.change_by.Goals as goal
 
 pub returns-in-Err : goal.returns-in-Err

@@ -5,8 +5,8 @@ use Rattle.sl_decode.specs.Outcomes.{Fails}
 use Rattle.sl_decode.specs.Sprouts.{flat, laid, row}
 use Rattle.sl_decode.specs.Walks.{walked}
 use Rattle.sl_decode.proofs.ReadLemmas.{placed_at, placed_fails, read_as}
-use Rattle.sl_decoding.specs.Actions.{address_in}
-use Rattle.sl_decoding.specs.Decoding.{grow}
+use Rattle.sl_decode_meaning.specs.Actions.{address_in}
+use Rattle.sl_decode_meaning.specs.Decoding.{grow}
 use Rattle.sl_decode.proofs.decode.Decode.instruction.Goals as goal
 
 pub returns-in-Ok-finish : goal.returns-in-Ok-finish

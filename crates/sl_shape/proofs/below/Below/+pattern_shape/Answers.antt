@@ -2,7 +2,7 @@ use Rattle.std.proofs.Common.{◌≡◌, refl, sym, ap, ◌∙◌, subst}
 use Rattle.std.proofs.lemmas.Result.{err_from_is_err_and}
 use Rattle.sl_ast.specs.Trees.{Pattern}
 use Rattle.sl_ast.specs.Views.{pattern_of, expression_of}
-use Rattle.sl_patterns.proofs.ViewLemmas.{seen_name, seen_constraint, seen_paren, seen_ellipsis, seen_joined}
+use Rattle.sl_shape_patterns.proofs.ViewLemmas.{seen_name, seen_constraint, seen_paren, seen_ellipsis, seen_joined}
 use Rattle.sl_shape.specs.Below.{IsShaped}
 use Rattle.sl_shape.specs.Faults.{ShapeTells}
 use Rattle.sl_shape.specs.Stops.{Stops}

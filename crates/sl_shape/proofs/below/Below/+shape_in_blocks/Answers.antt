@@ -3,8 +3,8 @@ use Rattle.std.proofs.lemmas.Result.{err_from_is_err_and}
 use Rattle.sl_ast.specs.Trees.{Pattern, group}
 use Rattle.sl_ast.specs.Views.{constructor_of, head_of, pattern_of}
 use Rattle.sl_ast.specs.declared.patterns.PatternOp.TheVariants.{And}
-use Rattle.sl_patterns.proofs.HeadLemmas.{made_rest, rest_shorter}
-use Rattle.sl_patterns.proofs.ViewLemmas.{in_none, in_one_more}
+use Rattle.sl_shape_patterns.proofs.HeadLemmas.{made_rest, rest_shorter}
+use Rattle.sl_shape_patterns.proofs.ViewLemmas.{in_none, in_one_more}
 use Rattle.sl_shape.specs.Below.{shapes_in}
 use Rattle.sl_shape.specs.Faults.{ShapeTells}
 use Rattle.sl_shape.specs.HeadsMade.{IsHeadShape}

@@ -6,7 +6,7 @@ use Rattle.sl_shape.specs.Tables.{pattern_at}
 use Rattle.sl_shape.proofs.AddLoopLemmas.{added_more, all_added, first_found}
 use Rattle.sl_shape.proofs.BelowLemmas.{keeps_same}
 use Rattle.sl_shape.proofs.HeadLemmas.{all_at}
-use Rattle.sl_shapes.specs.declared.shapes.Shape as code
+use Rattle.sl_shape_tokens.specs.declared.shapes.Shape as code
 use Rattle.sl_spec.specs.Unfolded.{all_placed}
 use Rattle.sl_shape.proofs.below.Below.add_constructors.Goals as goal
 

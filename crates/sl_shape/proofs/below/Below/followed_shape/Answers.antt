@@ -1,8 +1,8 @@
 use Rattle.std.proofs.Common.{List, ℕ, ap, ◌∙◌, subst}
 use Rattle.sl_ast.specs.Views.{pattern_of}
 use Rattle.sl_shape.specs.declared.below.TokenLists.{TokenLists}
-use Rattle.sl_shapes.specs.Lists.{Keeps, seen}
-use Rattle.sl_shapes.specs.Shapes.{followed}
+use Rattle.sl_shape_tokens.specs.Lists.{Keeps, seen}
+use Rattle.sl_shape_tokens.specs.Shapes.{followed}
 use Rattle.sl_shape.proofs.BelowLemmas.{followed_goes}
 use Rattle.sl_shape.proofs.below.Below.followed_shape.Goals as goal
 

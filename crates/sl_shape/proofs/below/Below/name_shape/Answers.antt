@@ -1,11 +1,11 @@
 use Rattle.std.proofs.Common.{◌≡◌, Bool, true, false, cond, Option, sym, ap, ◌∙◌, subst}
 use Rattle.std.specs.Prelude.{IfOk}
 use Rattle.std.specs.Str.{bytes_eq}
-use Rattle.sl_constructors.specs.Operands.{is_epsilon}
+use Rattle.sl_spec_constructors.specs.Operands.{is_epsilon}
 use Rattle.sl_shape.specs.Below.{Gets, Shows}
 use Rattle.sl_shape.specs.PatternShapes.{Shapes, shape_by}
 use Rattle.sl_shape.proofs.BelowLemmas.{gets_same}
-use Rattle.sl_shapes.specs.Shapes.{of_nothing}
+use Rattle.sl_shape_tokens.specs.Shapes.{of_nothing}
 use Rattle.sl_spec.specs.Named.{index_named, named}
 use Rattle.sl_spec.specs.Tables.{Field}
 use Rattle.sl_shape.proofs.below.Below.name_shape.Goals as goal

@@ -2,12 +2,12 @@ use Rattle.std.proofs.Common.{ap, sym, ◌∙◌, subst}
 use Rattle.std.specs.Prelude.{option_copied}
 use Rattle.sl_ast.specs.Trees.{Pattern}
 use Rattle.sl_ast.specs.Views.{head_of, pattern_of}
-use Rattle.sl_patterns.proofs.HeadLemmas.{its_own, put_here}
+use Rattle.sl_shape_patterns.proofs.HeadLemmas.{its_own, put_here}
 use Rattle.sl_shape.specs.Below.{IsShaped, shapes_in}
 use Rattle.sl_shape.specs.HeadsMade.{IsHeadShape}
 use Rattle.sl_shape.specs.PatternShapes.{Shapes}
 use Rattle.sl_shape.proofs.HeadLemmas.{lists_kept, shaped_now, shapes_more}
-use Rattle.sl_shapes.specs.declared.shapes.Shape as code
+use Rattle.sl_shape_tokens.specs.declared.shapes.Shape as code
 use Rattle.sl_spec.proofs.MadeLemmas.{found_right, put_right}
 use Rattle.sl_shape.proofs.below.Below.shape_of_block.Goals as goal
 

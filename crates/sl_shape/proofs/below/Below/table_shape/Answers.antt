@@ -2,8 +2,8 @@ use Rattle.std.proofs.Common.{get_or, arith, sym, ap, ◌∙◌}
 use Rattle.sl_shape.specs.PatternShapes.{table_shape}
 use Rattle.sl_shape.proofs.BelowLemmas.{gets_same}
 use Rattle.sl_shape.proofs.ExtentLemmas.{past_all}
-use Rattle.sl_shapes.specs.Lists.{seen}
-use Rattle.sl_shapes.specs.Shapes.{of_nothing}
+use Rattle.sl_shape_tokens.specs.Lists.{seen}
+use Rattle.sl_shape_tokens.specs.Shapes.{of_nothing}
 use Rattle.sl_shape.proofs.below.Below.table_shape.Goals as goal
 
 pub returns-in_default : goal.returns-in_default

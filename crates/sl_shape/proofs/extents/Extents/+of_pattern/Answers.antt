@@ -1,7 +1,7 @@
 use Rattle.std.proofs.Common.{rules, ◌≡◌, sym, subst}
 use Rattle.sl_ast.specs.Trees.{Pattern}
 use Rattle.sl_ast.specs.Views.{pattern_of, expression_of}
-use Rattle.sl_patterns.proofs.ViewLemmas.{seen_name, seen_constraint, seen_paren, seen_ellipsis, seen_joined}
+use Rattle.sl_shape_patterns.proofs.ViewLemmas.{seen_name, seen_constraint, seen_paren, seen_ellipsis, seen_joined}
 use Rattle.sl_shape.specs.Extents.{extent_of, kept}
 use Rattle.sl_shape.specs.Views.{shapes_of}
 use Rattle.sl_shape.proofs.ExtentLemmas.{level_name, level_constraint, level_group, level_ellipsis, level_joined}

@@ -3,7 +3,7 @@ use Rattle.std.specs.Str.{bytes_eq}
 use Rattle.sl_shape.specs.Extents.{extent, kept}
 use Rattle.sl_shape.specs.PatternShapes.{shape_by}
 use Rattle.sl_shape.specs.Views.{shapes_of}
-use Rattle.sl_shapes.specs.Shapes.{of_nothing}
+use Rattle.sl_shape_tokens.specs.Shapes.{of_nothing}
 use Rattle.sl_spec.specs.Named.{index_named, named}
 use Rattle.sl_shape.proofs.extents.Extents.of_name.Goals as goal
 

@@ -2,8 +2,8 @@ use Rattle.std.proofs.Common.{arith, ◌≡◌, ℕ, Option, sym, ap, ◌∙◌,
 use Rattle.sl_shape.specs.Extents.{extent, kept}
 use Rattle.sl_shape.specs.PatternShapes.{table_shape}
 use Rattle.sl_shape.specs.Views.{shapes_of}
-use Rattle.sl_shapes.specs.Lists.{seen}
-use Rattle.sl_shapes.specs.Shapes.{of_nothing}
+use Rattle.sl_shape_tokens.specs.Lists.{seen}
+use Rattle.sl_shape_tokens.specs.Shapes.{of_nothing}
 use Rattle.sl_shape.proofs.ExtentLemmas.{past_all}
 use Rattle.sl_shape.proofs.extents.Extents.of_table.Goals as goal
 

@@ -3,10 +3,10 @@ use Rattle.std.proofs.lemmas.List.{length-map, length-set}
 use Rattle.std.proofs.lemmas.Result.{err_from_is_err_and}
 use Rattle.std.specs.List.{AllByRecursion}
 use Rattle.std.specs.Prelude.{option_copied}
-use Rattle.sl_patterns.specs.Hulls.{IsHullOrNone, TableHas}
+use Rattle.sl_shape_patterns.specs.Hulls.{IsHullOrNone, TableHas}
 use Rattle.sl_cube.specs.declared.Cube.{Cube}
-use Rattle.sl_levels.specs.Views.{graph_of}
-use Rattle.sl_settle.specs.declared.CubeSet.{CubeSet}
+use Rattle.sl_base_graphs.specs.Views.{graph_of}
+use Rattle.sl_cube_sets.specs.declared.CubeSet.{CubeSet}
 use Rattle.sl_shape.specs.HeadsMade.{AreMarked, IsMarked}
 use Rattle.sl_shape.specs.Next.{shapes_known}
 use Rattle.sl_shape.specs.Tables.{constructors_of, numbers, pattern_at}
@@ -17,10 +17,10 @@ use Rattle.sl_shape.proofs.HeadLemmas.{right_more}
 use Rattle.sl_shape.proofs.NamedLemmas.{read_some}
 use Rattle.sl_shape.proofs.OrderLemmas.{named_each}
 use Rattle.sl_shape.proofs.ShapeTableLemmas.{all_set, error_below, next_goes, none_next, same_but, shown_below}
-use Rattle.sl_shapes.proofs.ListLemmas.{keeps_more}
-use Rattle.sl_shapes.specs.Lists.{IsThere, seen}
-use Rattle.sl_shapes.specs.Shapes.{of_table}
-use Rattle.sl_shapes.specs.declared.shapes.Shape as code
+use Rattle.sl_shape_tokens.proofs.ListLemmas.{keeps_more}
+use Rattle.sl_shape_tokens.specs.Lists.{IsThere, seen}
+use Rattle.sl_shape_tokens.specs.Shapes.{of_table}
+use Rattle.sl_shape_tokens.specs.declared.shapes.Shape as code
 use Rattle.sl_spec.specs.Unfolded.{all_placed, placed}
 use Rattle.sl_shape.proofs.shaping.Known.shape_table.Goals as goal
 

@@ -1,6 +1,6 @@
 use Rattle.std.proofs.Common.{ap, ◌∙◌}
 use Rattle.std.specs.Str.{bytes_eq}
-use Rattle.sl_index.specs.Names.{is_in}
+use Rattle.sl_base_names.specs.Names.{is_in}
 use Rattle.sl_spec.specs.Named.{has_name}
 use Rattle.sl_spec.proofs.ThingLemmas.{any_named}
 use Rattle.sl_spec.proofs.named.Named.add.Goals as goal

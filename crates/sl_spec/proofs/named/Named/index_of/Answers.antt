@@ -1,6 +1,6 @@
 use Rattle.std.proofs.Common.{ap, ◌∙◌}
 use Rattle.std.specs.Str.{bytes_eq}
-use Rattle.sl_index.specs.Names.{index_in}
+use Rattle.sl_base_names.specs.Names.{index_in}
 use Rattle.sl_spec.specs.Named.{index_named}
 use Rattle.sl_spec.proofs.ThingLemmas.{index_is}
 use Rattle.sl_spec.proofs.named.Named.index_of.Goals as goal

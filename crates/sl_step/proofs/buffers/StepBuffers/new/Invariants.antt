@@ -1,7 +1,7 @@
 use Rattle.std.specs.List.{All}
 use Rattle.std.specs.Prelude.{IfSome}
-use Rattle.sl_decoding.specs.Laws.{Choice}
-use Rattle.sl_instruction.specs.Instructions.{Specification}
+use Rattle.sl_decode_meaning.specs.Choices.{Choice}
+use Rattle.sl_meaning_instruction.specs.Instructions.{Specification}
 use Rattle.sl_step.specs.Kept.{IsKept}
 use Rattle.sl_step.proofs.buffers.StepBuffers.new.Given as goal
 

@@ -1,5 +1,5 @@
 use Rattle.std.proofs.Common.{◌∙◌, subst}
-use Rattle.sl_bound_translations.proofs.Translations.{bound_are_translated}
+use Rattle.sl_faithful_accepted.proofs.Translations.{bound_are_translated}
 use Rattle.sl_build.specs.declared.built.Built.{Built}
 use Rattle.sl_step.proofs.ReadLemmas.{BuiltTo, read_list, read_unimplemented}
 use Rattle.sl_step.specs.Stands.{specification_in}

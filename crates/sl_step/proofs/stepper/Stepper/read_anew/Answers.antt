@@ -1,7 +1,7 @@
 use Rattle.std.proofs.Common.{◌≡◌, ap, length, min, ◌∙◌, arith}
 use Rattle.sl_ast.specs.Views.{items_of}
 use Rattle.sl_pcode.specs.Operations.{operations}
-use Rattle.sl_sight.specs.Sight.{sight_in}
+use Rattle.sl_faithful_reach.specs.Sight.{sight_in}
 use Rattle.sl_step.proofs.SightLemmas.{meant_by, read_from}
 use Rattle.sl_step.specs.Stands.{choice_in, specification_in}
 use Rattle.sl_step.proofs.stepper.Stepper.read_anew.Goals as goal

@@ -1,11 +1,11 @@
 use Rattle.std.proofs.Common.{ℕ, ◌%◌, ◌≤◌, Err, refl, subst, arith}
 use Rattle.sl_ast.specs.Views.{items_of}
-use Rattle.sl_lister.proofs.AcceptedLemmas.{aligned}
+use Rattle.sl_list_instructions.proofs.AcceptedLemmas.{aligned}
 use Rattle.sl_step.proofs.StepLemmas.{off_steps, seen_holds}
 use Rattle.sl_step.specs.Outcomes.{Steps}
 use Rattle.sl_step.specs.Stands.{choice_in, specification_in}
 use Rattle.sl_step.specs.declared.error.StepError.TheVariants.{Misaligned}
-use Rattle.sl_steps.specs.Steps as steps
+use Rattle.sl_step_meaning.specs.Steps as steps
 use Rattle.sl_step.proofs.stepper.Stepper.step.Goals as goal
 
 pub nonzero_rem-machine : goal.nonzero_rem-machine

@@ -1,8 +1,8 @@
 use Rattle.std.proofs.Common.{◌≡◌, ℕ, List, ◌++◌, Some, Err, refl, sym, ap, subst, ◌∙◌}
 use Rattle.std.specs.Prelude.{map, position, slice_index, take}
-use Rattle.sl_contexts.specs.Runs.{Stands}
-use Rattle.sl_contexts.specs.declared.commits.Commit.{Commit}
-use Rattle.sl_decoding.specs.Actions.{address_bytes}
+use Rattle.sl_decode_contexts.specs.Runs.{Stands}
+use Rattle.sl_decode_contexts.specs.declared.commits.Commit.{Commit}
+use Rattle.sl_decode_meaning.specs.Actions.{address_bytes}
 use Rattle.sl_pcode.specs.Operations.{operations}
 use Rattle.sl_pcode.specs.WellFormed.{IsWellFormed}
 use Rattle.sl_spec.specs.Tables.{Space}
@@ -14,7 +14,7 @@ use Rattle.sl_step.specs.Stands.{choice_in, specification_in}
 use Rattle.sl_step.specs.declared.error.StepError.TheVariants.{NoMemory}
 use Rattle.sl_step.specs.declared.instruction.Instruction.{Instruction}
 use Rattle.sl_step.specs.declared.machine.Machine.{Machine}
-use Rattle.sl_steps.specs.Steps as steps
+use Rattle.sl_step_meaning.specs.Steps as steps
 use Rattle.sl_word.specs.Bytes.{address_size, address_sizes}
 use Rattle.sl_step.proofs.stepper.Stepper.step_aligned.Goals as goal
 

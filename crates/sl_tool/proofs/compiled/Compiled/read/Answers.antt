@@ -1,8 +1,8 @@
 use Rattle.std.proofs.Common.{Ok, ap, subst, sym}
 use Rattle.sl_ast.specs.Views.{items_of}
 use Rattle.sl_ast.specs.declared.items.Spec.{Spec}
-use Rattle.sl_bound_translations.specs.Laws.{IsShort}
-use Rattle.sl_compile.specs.Outcomes.{Compiles}
+use Rattle.sl_faithful_accepted.specs.Laws.{IsShort}
+use Rattle.sl_bind_compile.specs.Outcomes.{Compiles}
 use Rattle.sl_tool.specs.StageViews.{compiled_view}
 use Rattle.sl_tool.specs.TokensView.{tokens_view}
 use Rattle.sl_tool.specs.Values.{tree}

@@ -1,9 +1,9 @@
 use Rattle.std.proofs.Common.{◌≡◌, ◌^◌, ℕ, List, length, Vec, Global, Ok, Err, subst, ◌∙◌, arith}
 use Rattle.std.proofs.lemmas.Result.{err_from_is_err_and}
-use Rattle.sl_decoding.specs.Actions.{address_bytes}
-use Rattle.sl_lister.specs.Listing.{image_from}
-use Rattle.sl_request.specs.Views.{target}
-use Rattle.sl_runner.specs.Running.{HasRoom}
+use Rattle.sl_decode_meaning.specs.Actions.{address_bytes}
+use Rattle.sl_list_instructions.specs.Listing.{image_from}
+use Rattle.sl_tool_request.specs.Views.{target}
+use Rattle.sl_step_run.specs.Running.{HasRoom}
 use Rattle.sl_tool.specs.Outcomes.{Gives}
 use Rattle.sl_tool.specs.Stage.Then.{stops, goes}
 use Rattle.sl_tool.specs.Stages.{Fetches, Prepares, Readies, Starts}

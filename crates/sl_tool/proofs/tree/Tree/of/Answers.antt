@@ -4,7 +4,7 @@ use Rattle.sl_ast.specs.Views.{items_of}
 use Rattle.sl_lex.specs.Views.{views}
 use Rattle.sl_lex.specs.declared.Tok.{Tok}
 use Rattle.sl_preproc.specs.Expanded.{seen}
-use Rattle.sl_symbols.specs.Symbols.{symbols_of}
+use Rattle.sl_parse_terminals.specs.Symbols.{symbols_of}
 use Rattle.sl_tool.proofs.TokenLemmas.{text_is_short}
 use Rattle.sl_tool.proofs.tree.Tree.of.Goals as goal
 

@@ -1,5 +1,0 @@
-use Rattle.sl_actions.proofs.BlockLemmas.{AreFirst}
-use Rattle.sl_actions.proofs.blocks.JudgedBlocks.enter.Given as goal
-
-abbrev pub invariant-inside : goal.invariant-inside
-invariant-inside l = AreFirst l.all l.t l.blocks l.fn.self l.self l.index

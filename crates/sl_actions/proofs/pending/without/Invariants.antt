@@ -1,8 +1,0 @@
-use Rattle.std.specs.Prelude.{◌||◌, Bool, true}
-use Rattle.std.specs.List.{list_all}
-use Rattle.sl_rules.specs.Names.{Name, is_among}
-use Rattle.sl_actions.proofs.PendingLemmas.{IsTested}
-use Rattle.sl_actions.proofs.pending.without.Given as goal
-
-abbrev pub invariant-names : goal.invariant-names
-invariant-names l = (f : Name → Bool) → IsTested (λ n. is_among l.those n || f n) true l.names (list_all f l.left) l.index

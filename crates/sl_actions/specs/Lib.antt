@@ -1,9 +1,0 @@
-pub mod ActionNames
-pub mod ActionRules
-pub mod Blocks
-pub mod Levels
-pub mod PatternNames
-pub mod Pending
-pub mod SeenActions
-pub mod Standing
-pub mod Stands

@@ -1,0 +1,14 @@
+pub mod Closure
+pub mod ListLemmas
+pub mod Entering
+pub mod Joining
+pub mod Closing
+pub mod Stepping
+pub mod Seen
+pub mod Ending
+pub mod Outcome
+pub mod LevelLemmas
+pub mod HeightLemmas
+pub mod HeightLevelLemmas
+pub mod OneHeight
+pub mod SomeHeights

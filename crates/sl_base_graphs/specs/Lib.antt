@@ -1,0 +1,9 @@
+pub mod Levels
+pub mod LevelEquations
+pub mod Orders
+pub mod Reaching
+pub mod Searches
+pub mod States
+pub mod Views
+pub mod Heights
+pub mod HeightLevels

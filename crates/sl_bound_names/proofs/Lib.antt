@@ -1,2 +1,0 @@
-pub mod FlatLemmas
-pub mod NameLemmas

@@ -1,4 +1,0 @@
-//! The laws that what an accepted text defines lies where it can, and that a space is default.
-#![tactic(auto)]
-
-pub mod laws;

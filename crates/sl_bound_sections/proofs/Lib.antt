@@ -1,9 +1,0 @@
-pub mod AttachLemmas
-pub mod BoundLemmas
-pub mod BuildLemmas
-pub mod ChangeLemmas
-pub mod ExportLemmas
-pub mod JudgedLemmas
-pub mod KindLemmas
-pub mod ListLemmas
-pub mod QuietLemmas

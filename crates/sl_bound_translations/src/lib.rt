@@ -1,4 +1,0 @@
-//! The law that lists of operations are faithful to the instructions of an accepted text.
-#![tactic(auto)]
-
-pub mod laws;

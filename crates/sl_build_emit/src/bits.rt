@@ -1,0 +1,200 @@
+//! Values that are put into memory, and into bits.
+
+ghost use Rattle.std.specs.Prelude.{◌≡◌, ◌++◌, ◌∷◌, [], OnOk};
+ghost use Rattle.sl_faithful_code.specs.Operations as o;
+ghost use Rattle.sl_faithful_code.specs.Statements as step;
+ghost use Rattle.sl_build_emit.specs.Views.{put_into, reference_of, references_of, with_bits};
+ghost use Rattle.sl_meaning_sections.specs.References as reference;
+ghost use Rattle.sl_meaning_sections.specs.Values as meaning;
+ghost use Rattle.sl_build_template.specs.Placed as p;
+ghost use Rattle.sl_word.specs.declared.operation.Op2.TheVariants.{IntLeft, IntRight};
+
+use crate::operations::Operations;
+use crate::reading::read_operand;
+use crate::reference::Reference;
+use crate::site::Site;
+use crate::varnodes::{at_temp, local};
+use sl_build_template::{above, all_but, amount, in_space, sized};
+use sl_pcode::Varnode;
+use sl_section_flat::Span;
+use sl_word::{Op1, Op2, Size, SpaceId};
+use std::alloc::AllocError;
+
+/// Memory at a pointer, which is read at `width`.
+#[derive(Clone, Copy)]
+pub(crate) struct Memory<'a> {
+    pub(crate) space: SpaceId,
+    pub(crate) pointer: &'a Reference,
+    pub(crate) width: Size,
+}
+
+/// A value is put into memory.
+pub(crate) fn memory_put(
+    site: &Site<'_>,
+    out: &mut Operations,
+    t: u32,
+    at: Memory<'_>,
+    v: Varnode,
+) -> Result<(), AllocError>
+    ensures { OnOk result (out.new ≡ out.old ++ put_into site.now.top t at.entry v) }
+{
+    let pointer = read_operand(site, out, t, at.pointer, at.width)?;
+    out.store(at.space, pointer, v)
+}
+
+/// Bits of a value of `size` bytes, `old`, which get another value, `new`.
+#[derive(Clone, Copy)]
+struct Bits {
+    size: Size,
+    old: Varnode,
+    new: Varnode,
+    span: Span,
+}
+
+/// A value is moved up, and down again.
+fn moved(
+    out: &mut Operations,
+    to: Varnode,
+    from: Varnode,
+    up: Varnode,
+    down: Varnode,
+) -> Result<(), AllocError>
+    ensures { OnOk result (out.new ≡ out.old
+        ++ (o.binary IntLeft to from up ∷ o.binary IntRight to to down ∷ [])) }
+{
+    out.binary(Op2::IntLeft, to, from, up)?;
+    out.binary(Op2::IntRight, to, to, down)
+}
+
+/// The value with the new bits in their place. The temporary values 2 and 3 hold the new bits and
+/// the old ones.
+fn bits_put(
+    site: &Site<'_>,
+    out: &mut Operations,
+    bits: Bits,
+    to: Varnode,
+) -> Result<(), AllocError>
+    ensures { OnOk result (out.new ≡ out.old ++ with_bits site.now.top bits to) }
+{
+    let count = u64::from(bits.span.count);
+    let new = at_temp(site, 2, bits.size);
+    let field = at_temp(site, 3, bits.size);
+    let high = amount(above(bits.size, bits.span.low, count));
+    let rest = amount(all_but(bits.size, count));
+    out.unary(Op1::IntZext, new, bits.new)?;
+    moved(out, new, new, rest, high)?;
+    moved(out, field, bits.old, high, rest)?;
+    out.binary(Op2::IntLeft, field, field, amount(bits.span.low))?;
+    out.binary(Op2::IntSub, field, bits.old, field)?;
+    out.binary(Op2::IntAdd, to, field, new)
+}
+
+/// Bits are put into a local of a node.
+fn local_bits(
+    site: &Site<'_>,
+    out: &mut Operations,
+    node: u32,
+    x: u32,
+    bits: Bits,
+) -> Result<(), AllocError>
+    ensures { OnOk result (out.new ≡ out.old
+        ++ with_bits site.now.top bits (o.temporary (o.range_of node x) bits.size)) }
+{
+    let to = local(node, x, bits.size);
+    bits_put(site, out, bits, to)
+}
+
+/// Bits are put into memory.
+fn memory_bits(
+    site: &Site<'_>,
+    out: &mut Operations,
+    at: Memory<'_>,
+    bits: Bits,
+) -> Result<(), AllocError>
+    ensures { OnOk result (out.new ≡ out.old
+        ++ (with_bits site.now.top bits (o.at_temp site.now.top 2 bits.size)
+        ++ put_into site.now.top 4 at.entry (o.at_temp site.now.top 2 bits.size))) }
+{
+    let to = at_temp(site, 2, bits.size);
+    bits_put(site, out, bits, to)?;
+    memory_put(site, out, 4, at, to)
+}
+
+/// Bits are put where a reference stands.
+fn reference_bits(
+    site: &Site<'_>,
+    out: &mut Operations,
+    r: &Reference,
+    bits: Bits,
+) -> Result<(), AllocError>
+    ensures { OnOk result (out.new ≡ out.old ++ step.reference_bits site.now.top
+        (reference_of r.now) bits.size bits.old bits.new bits.span.low bits.span.count) }
+{
+    match r {
+        Reference::Storage(r) => {
+            let to = in_space(r.space, r.offset, bits.size);
+            bits_put(site, out, bits, to)
+        }
+        Reference::Local(node, x, _) => local_bits(site, out, *node, *x, bits),
+        Reference::Plain(_) => Ok(()),
+        Reference::Memory(space, _, pointer, width) => {
+            let at = Memory {
+                space: *space,
+                pointer,
+                width: *width,
+            };
+            memory_bits(site, out, at, bits)
+        }
+    }
+}
+
+fn reference_size(r: &Reference) -> Size
+    ensures { result ≡ reference.reference_size (reference_of r.now) }
+{
+    match r {
+        Reference::Storage(r) => r.size,
+        Reference::Local(_, _, size) => *size,
+        Reference::Plain(_) => sized(8),
+        Reference::Memory(_, size, _, _) => *size,
+    }
+}
+
+/// A value is put into bits of what a reference stands for.
+fn reference_put_bits(
+    site: &Site<'_>,
+    out: &mut Operations,
+    r: &Reference,
+    v: Varnode,
+    span: Span,
+) -> Result<(), AllocError>
+    ensures { OnOk result (out.new ≡ out.old
+        ++ p.bits_code site.now.top (reference_of r.now) v span.low span.count) }
+{
+    let size = reference_size(r);
+    let old = read_operand(site, out, 1, r, size)?;
+    let bits = Bits {
+        size,
+        old,
+        new: v,
+        span,
+    };
+    reference_bits(site, out, r, bits)
+}
+
+/// A value is put into bits of what an operand stands for.
+#[tactic(auto, using(crate::proofs::Operands::absent, crate::proofs::Operands::and_nothing))]
+pub(crate) fn operand_bits(
+    site: &Site<'_>,
+    out: &mut Operations,
+    i: u32,
+    v: Varnode,
+    span: Span,
+) -> Result<(), AllocError>
+    ensures { OnOk result (out.new ≡ out.old ++ p.bits_code site.now.top
+        (meaning.reference_at (references_of site.now.refs.now) i) v span.low span.count) }
+{
+    match site.refs.get(i as usize) {
+        Some(r) => reference_put_bits(site, out, r, v, span),
+        None => Ok(()),
+    }
+}

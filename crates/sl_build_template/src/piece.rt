@@ -1,0 +1,52 @@
+//! What templates consist of.
+
+use crate::slot::{Given, Slot};
+use sl_pcode::Code;
+use sl_section_flat::{Label, Span};
+use sl_word::{Op1, Op2, Size, SpaceId, UserId};
+
+/// One operation, or what hangs on what an operand stands for.
+#[derive(Drop)]
+pub enum Piece {
+    /// What is given is put into the temporary value of this number, where it is no varnode.
+    Read(Given, u32, Size),
+    /// What is given is put into a varnode; temporary values from this number on are free.
+    Into(Given, u32, Slot),
+    Unary(Op1, Slot, Slot),
+    Binary(Op2, Slot, Slot, Slot),
+    Load(Slot, SpaceId, Slot),
+    /// The space, the pointer and the value.
+    Store(SpaceId, Slot, Slot),
+    /// A user operation with its arguments.
+    User(UserId, Vec<Slot>),
+    /// A jump, a call or a return.
+    Exit(Code, Slot),
+    /// A jump to the first where the second isn't 0.
+    ExitIf(Slot, Slot),
+    /// A value is put where the operand of this number stands.
+    Put(u32, Slot),
+    /// What was put into the first temporary value is put where the operand stands, if that is
+    /// memory.
+    Stored(u32, Size),
+    /// A value is put into bits of what the operand of this number stands for.
+    PutBits(u32, Slot, Span),
+}
+
+/// What stands behind the pieces of a statement.
+#[derive(Clone, Copy)]
+pub enum Tail<'a> {
+    Nothing,
+    /// The list of the operand of this number.
+    Build(u32),
+    Label(Label<'a>),
+    Branch(Label<'a>),
+    /// A jump where the value isn't 0.
+    BranchIf(Label<'a>, Slot),
+}
+
+/// The template of a statement.
+#[derive(Drop)]
+pub struct Part<'a> {
+    pub pieces: Vec<Piece>,
+    pub tail: Tail<'a>,
+}

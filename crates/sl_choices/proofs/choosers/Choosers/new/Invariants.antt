@@ -1,5 +1,0 @@
-use Rattle.sl_choices.specs.Choosers.{AreFirst}
-use Rattle.sl_choices.proofs.choosers.Choosers.new.Given as goal
-
-abbrev pub invariant-tables : goal.invariant-tables
-invariant-tables l = AreFirst l.tables l.choosers.items l.index

@@ -1,5 +1,0 @@
-use Rattle.sl_choices.proofs.ChoiceLemmas as lemmas
-use Rattle.sl_choices.proofs.laws.some_choice.Goals as goal
-
-pub returns : goal.returns
-returns c = lemmas.some_choice

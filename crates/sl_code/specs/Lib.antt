@@ -1,7 +1,0 @@
-pub mod Fits
-pub mod Fitting
-pub mod Nodes
-pub mod Operations
-pub mod Runs
-pub mod Statements
-pub mod Terms

@@ -1,6 +1,0 @@
-pub mod Ambiguity
-pub mod Outcomes
-pub mod Refusals
-pub mod Places
-pub mod Compiled
-pub mod Laws

@@ -1,5 +1,0 @@
-use Rattle.sl_contexts.proofs.LawLemmas.{some_context}
-use Rattle.sl_contexts.proofs.laws.some_context.Goals as goal
-
-pub returns : goal.returns
-returns c = some_context

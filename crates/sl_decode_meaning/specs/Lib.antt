@@ -1,0 +1,14 @@
+pub mod Actions
+pub mod Decoding
+pub mod Flat
+pub mod TreeCounts
+pub mod Kinds
+pub mod Laws
+pub mod Choices
+pub mod Lookups
+pub mod Meanings
+pub mod Outcomes
+pub mod Places
+pub mod Rules
+pub mod Trees
+pub mod Values

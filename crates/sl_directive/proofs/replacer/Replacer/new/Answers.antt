@@ -1,7 +1,0 @@
-use Rattle.sl_directive.specs.Held.{values_of}
-use Rattle.sl_directive.specs.HeldWholes.{wholes_of}
-use Rattle.sl_directive.proofs.WholeLemmas.{forgotten}
-use Rattle.sl_directive.proofs.replacer.Replacer.new.Goals as goal
-
-pub invariant_of-result : goal.invariant_of-result
-invariant_of-result c = record { known_is = forgotten (values_of c.new.result) (wholes_of c.new-2.result) c.new-2.ensures }

@@ -1,7 +1,0 @@
-use Rattle.sl_directive.specs.Held.{values_of}
-use Rattle.sl_directive.specs.HeldWholes.{wholes_of}
-use Rattle.sl_directive.proofs.WholeLemmas.{forgotten}
-use Rattle.sl_directive.proofs.replacer.Replacer.undefine.Goals as goal
-
-pub invariant_of-self : goal.invariant_of-self
-invariant_of-self c = record { known_is = forgotten (values_of c.undefine.new.self) (wholes_of c.forget.new.self) c.forget.ensures }

@@ -1,9 +1,0 @@
--- Directives as the program keeps them.
-use Rattle.sl_directive.specs.Directives as spec
-use Rattle.sl_directive.specs.declared.directive.Directive.{Directive}
-use Rattle.sl_directive.specs.declared.directive.Directive.TheVariants.{Include, Define, Undef}
-
-abbrev pub directive : Directive → spec.Directive
-directive (Include name) = spec.Directive.Includes name.now
-directive (Define name value) = spec.Directive.Defines name.now value.now
-directive (Undef name) = spec.Directive.Undefines name.now

@@ -1,4 +1,0 @@
-pub mod Equations
-pub mod Fits
-pub mod Known
-pub mod Uses

@@ -1,5 +1,0 @@
-use Rattle.sl_tables.proofs.PositionLemmas.{IsNotBefore}
-use Rattle.sl_exports.proofs.standing.default_space.Given as goal
-
-abbrev pub invariant-spaces : goal.invariant-spaces
-invariant-spaces l = IsNotBefore (λ s. s.default) l.t.spaces l.index

@@ -1,0 +1,15 @@
+pub mod AttachLemmas
+pub mod LookLemmas
+pub mod NumberLemmas
+pub mod OperandLemmas
+pub mod ReadLemmas
+pub mod TakenLemmas
+pub mod TreeLemmas
+pub mod Translated
+pub mod Choices
+pub mod Flats
+pub mod HaveLemmas
+pub mod Operands
+pub mod Parts
+pub mod Translations
+pub mod Uses

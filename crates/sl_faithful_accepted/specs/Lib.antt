@@ -1,0 +1,4 @@
+pub mod OperandLaws
+pub mod Reading
+pub mod TextLaws
+pub mod Laws

@@ -1,0 +1,12 @@
+pub mod EntryLemmas
+pub mod GrowLemmas
+pub mod LeafLemmas
+pub mod MeaningLemmas
+pub mod OutcomeLemmas
+pub mod ReadLemmas
+pub mod SiteLemmas
+pub mod TokenLemmas
+pub mod WindowLemmas
+pub mod MeasureLemmas
+pub mod OperandLemmas
+pub mod TreeLemmas

@@ -1,0 +1,3 @@
+pub mod DecodeLaws
+pub mod Sight
+pub mod InstructionLaws

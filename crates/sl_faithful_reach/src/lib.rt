@@ -1,0 +1,9 @@
+//! The laws that the bytes of an instruction, and some behind it, decide its decode and what its
+//! tree stands for.
+#![tactic(auto)]
+
+pub mod decode_laws;
+pub mod instruction_laws;
+mod tokens;
+
+pub use tokens::tokens_are_short;

@@ -1,0 +1,14 @@
+pub mod Used
+pub mod Whole
+pub mod Sound
+pub mod FlatLemmas
+pub mod NameLemmas
+pub mod AttachLemmas
+pub mod BoundLemmas
+pub mod BuildLemmas
+pub mod ChangeLemmas
+pub mod ExportLemmas
+pub mod JudgedLemmas
+pub mod KindLemmas
+pub mod ListLemmas
+pub mod QuietLemmas

@@ -1,0 +1,5 @@
+pub mod UseLaws
+pub mod SizeLaws
+pub mod SoundLaws
+pub mod NameLaws
+pub mod BuildLaws

@@ -1,4 +1,0 @@
-pub mod Kept
-pub mod Exported
-mod Rows
-pub mod Trees

@@ -1,2 +1,0 @@
-pub mod StepNames
-pub mod TermNames

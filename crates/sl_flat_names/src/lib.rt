@@ -1,4 +1,0 @@
-//! Laws: what is named in flat sections.
-#![tactic(auto)]
-
-pub mod laws;

@@ -1,9 +1,0 @@
-//! Laws of the definitions.
-
-ghost use Rattle.sl_flat_sections.specs.Laws.{NoTableReachesItself};
-
-/// Where rules 32 to 37 hold, no table reaches itself by what the operands of its constructors
-/// mean, which is what `shaping_order` asks for.
-pub fn no_table_reaches_itself()
-    ensures { NoTableReachesItself }
-{}

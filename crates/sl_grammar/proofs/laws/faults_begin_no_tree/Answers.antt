@@ -1,5 +1,0 @@
-use Rattle.sl_grammar.proofs.Faults.{none_begins}
-use Rattle.sl_grammar.proofs.laws.faults_begin_no_tree.Goals as goal
-
-pub returns : goal.returns
-returns c = none_begins

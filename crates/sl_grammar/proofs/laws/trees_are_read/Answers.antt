@@ -1,5 +1,0 @@
-use Rattle.sl_grammar.proofs.Faults as law
-use Rattle.sl_grammar.proofs.laws.trees_are_read.Goals as goal
-
-pub returns : goal.returns
-returns c = law.complete

@@ -1,4 +1,0 @@
-pub mod HeightLemmas
-pub mod LevelLemmas
-pub mod OneHeight
-pub mod SomeHeights

@@ -1,7 +1,0 @@
-use Rattle.std.proofs.Common.{ap, is_some, ◌∙◌}
-use Rattle.std.specs.Str.{bytes_eq}
-use Rattle.sl_index.proofs.IndexLemmas.{position_any}
-use Rattle.sl_index.proofs.names.NameIndex.has.Goals as goal
-
-pub returns : goal.returns
-returns c = c.is_some.ensures ∙ ap is_some c.find.ensures ∙ position_any (λ n. bytes_eq c.args.name.now n) c.args.self.now

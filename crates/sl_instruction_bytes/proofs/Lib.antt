@@ -1,3 +1,0 @@
-pub mod MeasureLemmas
-pub mod OperandLemmas
-pub mod TreeLemmas

@@ -1,9 +1,0 @@
-//! Laws of the rules of sections.
-
-ghost use Rattle.sl_keeping.specs.Laws.{SectionsKeepRules};
-
-/// A section keeps the rules where its names are those of its operands and of the text, and the
-/// tests of rules 38 and 39 hold of it.
-pub fn sections_keep_rules()
-    ensures { SectionsKeepRules }
-{}

@@ -1,5 +1,0 @@
-use Rattle.sl_laws.proofs.Blocks as law
-use Rattle.sl_laws.proofs.laws.actions_stand_in_order.Goals as goal
-
-pub returns : goal.returns
-returns c = law.actions_are

@@ -1,5 +1,0 @@
-use Rattle.sl_laws.proofs.Blocks as law
-use Rattle.sl_laws.proofs.laws.blocks_are_taken_away.Goals as goal
-
-pub returns : goal.returns
-returns c = law.taken_away

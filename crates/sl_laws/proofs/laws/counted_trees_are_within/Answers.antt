@@ -1,5 +1,0 @@
-use Rattle.sl_laws.proofs.Within as law
-use Rattle.sl_laws.proofs.laws.counted_trees_are_within.Goals as goal
-
-pub returns : goal.returns
-returns c = law.within_by_count

@@ -1,5 +1,0 @@
-use Rattle.sl_laws.proofs.Blocks as law
-use Rattle.sl_laws.proofs.laws.innermost_table_is_given.Goals as goal
-
-pub returns : goal.returns
-returns c = law.table_is

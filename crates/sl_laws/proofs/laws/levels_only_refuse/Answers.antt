@@ -1,5 +1,0 @@
-use Rattle.sl_laws.proofs.Replacement as law
-use Rattle.sl_laws.proofs.laws.levels_only_refuse.Goals as goal
-
-pub returns : goal.returns
-returns c = law.levels_refuse

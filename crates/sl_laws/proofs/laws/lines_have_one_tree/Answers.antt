@@ -1,5 +1,0 @@
-use Rattle.sl_laws.proofs.Lines as law
-use Rattle.sl_laws.proofs.laws.lines_have_one_tree.Goals as goal
-
-pub returns : goal.returns
-returns c = law.one_tree

@@ -1,5 +1,0 @@
-use Rattle.sl_laws.proofs.Origins as law
-use Rattle.sl_laws.proofs.laws.lines_have_origins.Goals as goal
-
-pub returns : goal.returns
-returns c = law.lines_have

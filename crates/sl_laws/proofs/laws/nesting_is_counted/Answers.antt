@@ -1,5 +1,0 @@
-use Rattle.sl_laws.proofs.Past as law
-use Rattle.sl_laws.proofs.laws.nesting_is_counted.Goals as goal
-
-pub returns : goal.returns
-returns c = law.nesting_is_counted

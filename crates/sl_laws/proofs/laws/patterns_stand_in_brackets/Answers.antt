@@ -1,5 +1,0 @@
-use Rattle.sl_laws.proofs.Blocks as law
-use Rattle.sl_laws.proofs.laws.patterns_stand_in_brackets.Goals as goal
-
-pub returns : goal.returns
-returns c = law.patterns_are

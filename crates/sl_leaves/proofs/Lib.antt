@@ -1,9 +1,0 @@
-pub mod BlockLemmas
-pub mod FirstLemmas
-pub mod LeafLemmas
-pub mod MadeLemmas
-pub mod PatternLemmas
-pub mod RunLemmas
-pub mod SameLemmas
-pub mod TiedLemmas
-pub mod WholeLemmas

@@ -1,6 +1,0 @@
-pub mod Blocks
-pub mod Extents
-pub mod Joined
-pub mod Looks
-pub mod Steps
-pub mod Wholes

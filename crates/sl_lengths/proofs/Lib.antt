@@ -1,6 +1,0 @@
-pub mod BoundLemmas
-pub mod GrowLemmas
-pub mod LengthLemmas
-pub mod NameLemmas
-pub mod PatternLemmas
-pub mod RuleLemmas

@@ -1,5 +1,0 @@
-use Rattle.sl_levels.proofs.LevelLemmas.{meet_equations}
-use Rattle.sl_levels.proofs.laws.values_meet_equations.Goals as goal
-
-pub returns : goal.returns
-returns g c = meet_equations

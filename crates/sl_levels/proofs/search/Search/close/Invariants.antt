@@ -1,6 +1,0 @@
-use Rattle.std.proofs.Common.{◌≡◌}
-use Rattle.sl_levels.specs.States.{closed_to}
-use Rattle.sl_levels.proofs.search.Search.close.Given as goal
-
-abbrev pub invariant-group : goal.invariant-group
-invariant-group l = l.self ≡ closed_to l.initial.self l.position

@@ -1,0 +1,9 @@
+pub mod KeptLemmas
+pub mod LawLemmas
+pub mod ListLemmas
+pub mod ShowLemmas
+pub mod WritingLemmas
+pub mod ZeroLemmas
+pub mod AcceptedLemmas
+pub mod AlignmentLemmas
+pub mod ImageLawLemmas

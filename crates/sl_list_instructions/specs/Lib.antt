@@ -1,0 +1,12 @@
+pub mod Instructions
+pub mod Kept
+pub mod Laws
+pub mod Lines
+pub mod Listings
+pub mod Fronts
+pub mod Told
+pub mod UnderWay
+pub mod Disassemblies
+pub mod ImageLaws
+pub mod Listing
+pub mod Writing

@@ -1,3 +1,0 @@
-pub mod AcceptedLemmas
-pub mod AlignmentLemmas
-pub mod LawLemmas

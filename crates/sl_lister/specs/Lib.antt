@@ -1,4 +1,0 @@
-pub mod Disassemblies
-pub mod Laws
-pub mod Listing
-pub mod Writing

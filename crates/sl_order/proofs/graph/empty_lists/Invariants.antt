@@ -1,6 +1,0 @@
-use Rattle.std.proofs.Common.{[]}
-use Rattle.sl_order.specs.Steps.{IsGraphOf}
-use Rattle.sl_order.proofs.graph.empty_lists.Given as goal
-
-abbrev pub invariant-lists : goal.invariant-lists
-invariant-lists l = IsGraphOf l._index [] l.lists.items

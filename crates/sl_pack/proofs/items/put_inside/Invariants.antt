@@ -1,5 +1,0 @@
-use Rattle.sl_pack.proofs.Inners.{AreWritten}
-use Rattle.sl_pack.proofs.items.put_inside.Given as goal
-
-abbrev pub invariant-rounds : goal.invariant-rounds
-invariant-rounds l = AreWritten l.initial.out.items l.initial.places l.inside l.out.items l.places l.index

@@ -1,5 +1,0 @@
-use Rattle.sl_packed.proofs.PackedLaws.{exact_written}
-use Rattle.sl_packed.proofs.laws.files_are_exact.Goals as goal
-
-pub returns : goal.returns
-returns c = exact_written

@@ -1,6 +1,0 @@
-use Rattle.std.proofs.Common.{length}
-use Rattle.sl_packed.proofs.ValidLaws.{items_valid}
-use Rattle.sl_packed.proofs.laws.items_have_no_fault.Goals as goal
-
-pub returns : goal.returns
-returns c = λ w good. items_valid (length w.files) w.items good.items

@@ -1,7 +1,0 @@
-use Rattle.sl_packing.proofs.Chains.{are_apart}
-use Rattle.sl_packing.proofs.PartLaws.{exact_list}
-use Rattle.sl_packing.proofs.LexemeLaws.{exact_name}
-use Rattle.sl_packing.proofs.laws.lists_are_apart.Goals as goal
-
-pub returns : goal.returns
-returns c = are_apart (exact_list exact_name)

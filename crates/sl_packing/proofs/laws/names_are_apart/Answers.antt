@@ -1,6 +1,0 @@
-use Rattle.sl_packing.proofs.Chains.{are_apart}
-use Rattle.sl_packing.proofs.LexemeLaws.{exact_name}
-use Rattle.sl_packing.proofs.laws.names_are_apart.Goals as goal
-
-pub returns : goal.returns
-returns c = are_apart exact_name

@@ -1,7 +1,0 @@
-use Rattle.std.proofs.Common.{arith}
-use Rattle.sl_packing.specs.Numbers.{greatest}
-use Rattle.sl_packing.proofs.NumberLaws.{exact_numbers}
-use Rattle.sl_packing.proofs.laws.numbers_are_exact.Goals as goal
-
-pub returns : goal.returns
-returns c = exact_numbers 0 greatest (omega arith) (omega arith) (omega arith)

@@ -1,0 +1,5 @@
+use Rattle.sl_parse_grammar.proofs.Faults as law
+use Rattle.sl_parse_grammar.proofs.laws.only_spellings_are_read.Goals as goal
+
+pub returns : goal.returns
+returns c = law.sound

@@ -1,0 +1,12 @@
+pub mod Reader
+pub mod Lists
+pub mod Climb
+pub mod Expressions
+pub mod Patterns
+pub mod Parallel
+pub mod Statements
+pub mod Definitions
+pub mod Items
+pub mod Faults
+pub mod Reasons
+pub mod Laws

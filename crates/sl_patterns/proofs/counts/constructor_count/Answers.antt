@@ -1,4 +1,0 @@
-use Rattle.sl_patterns.proofs.counts.constructor_count.Goals as goal
-
-pub returns-clause-kept : goal.returns-clause-kept
-returns-clause-kept c = rw c.as_slice.ensures.value at c.in_ok-count.ensures.kept

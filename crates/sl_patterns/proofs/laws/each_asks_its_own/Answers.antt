@@ -1,5 +1,0 @@
-use Rattle.sl_patterns.proofs.LawLemmas.{read_alike}
-use Rattle.sl_patterns.proofs.laws.each_asks_its_own.Goals as goal
-
-pub returns : goal.returns
-returns c = read_alike

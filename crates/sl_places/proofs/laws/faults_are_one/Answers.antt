@@ -1,5 +1,0 @@
-use Rattle.sl_places.proofs.Places as law
-use Rattle.sl_places.proofs.laws.faults_are_one.Goals as goal
-
-pub returns : goal.returns
-returns c = law.faults_are_one

@@ -1,6 +1,0 @@
-use Rattle.sl_plan.specs.Uses.{ReadAsBefore, ReadsAsBefore}
-use Rattle.sl_leaves.proofs.TiedLemmas.{IsLeft}
-use Rattle.sl_plan.proofs.uses.read_as_before.Given as goal
-
-abbrev pub invariant-used : goal.invariant-used
-invariant-used l = IsLeft (ReadsAsBefore l.t l.operands l.leaves) l.used (ReadAsBefore l.t l.operands l.leaves l.used) l.index

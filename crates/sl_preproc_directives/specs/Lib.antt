@@ -1,0 +1,15 @@
+pub mod Bytes
+pub mod Parts
+pub mod Lines
+pub mod Definitions
+pub mod Conditions
+pub mod Levels
+pub mod Held
+pub mod Outcomes
+pub mod Given
+pub mod Directives
+pub mod Viewed
+pub mod Wholes
+pub mod HeldWholes
+pub mod Replacement
+pub mod Pages

@@ -1,8 +1,0 @@
--- view: names with what they stand for.
-use Rattle.sl_spec.specs.Tables.{Name}
-use Rattle.sl_section.specs.Sections.{Symbol}
-
--- a name with what it stands for
-pub record Entry : Type 0 where
-  pub name : Name
-  pub symbol : Symbol

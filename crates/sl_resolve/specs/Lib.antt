@@ -1,8 +1,0 @@
-pub mod Entries
-pub mod Macros
-pub mod Operators
-pub mod Scopes
-pub mod Seen
-pub mod Steps
-pub mod Terms
-pub mod Work

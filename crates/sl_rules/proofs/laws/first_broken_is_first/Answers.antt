@@ -1,5 +1,0 @@
-use Rattle.sl_rules.proofs.RunLaws.{first_broken-names}
-use Rattle.sl_rules.proofs.laws.first_broken_is_first.Goals as goal
-
-pub returns : goal.returns
-returns c = first_broken-names

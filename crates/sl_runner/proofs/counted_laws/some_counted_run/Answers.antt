@@ -1,5 +1,0 @@
-use Rattle.sl_runner.proofs.CountedLemmas as lemmas
-use Rattle.sl_runner.proofs.counted_laws.some_counted_run.Goals as goal
-
-pub returns : goal.returns
-returns c = lemmas.some_counted_outcome

@@ -1,5 +1,0 @@
-use Rattle.sl_runner.proofs.LawLemmas as lemmas
-use Rattle.sl_runner.proofs.laws.some_run_text.Goals as goal
-
-pub returns : goal.returns
-returns c = lemmas.some_run_text

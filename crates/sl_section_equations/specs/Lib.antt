@@ -1,0 +1,5 @@
+pub mod Equations
+pub mod Fits
+pub mod Known
+pub mod SizesIn
+pub mod Uses

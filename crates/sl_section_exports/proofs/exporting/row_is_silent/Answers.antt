@@ -1,0 +1,11 @@
+use Rattle.std.proofs.Common.{ap, sym, ◌∙◌}
+use Rattle.sl_ast.specs.Views.{constructor_of}
+use Rattle.sl_spec.specs.Unfolded.{heads_of}
+use Rattle.sl_spec_tables.proofs.HeadLemmas.{under_section}
+use Rattle.sl_section_exports.specs.Exports as spec
+use Rattle.sl_section_exports.proofs.exporting.row_is_silent.Goals as goal
+
+pub returns : goal.returns
+returns c =
+    let own = c.args.row.now.own.now in
+    c.is_silent.ensures ∙ ap spec.is_silent (sym (under_section (heads_of own.heads.items) (constructor_of own.own.now)))

@@ -1,0 +1,4 @@
+pub mod Numbered
+pub mod Sections
+pub mod Views
+pub mod Chains

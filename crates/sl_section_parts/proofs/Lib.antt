@@ -1,3 +1,0 @@
-pub mod MacroWeights
-pub mod StepParts
-pub mod TermParts

@@ -1,4 +1,0 @@
-//! Laws: how many parts flat sections have.
-#![tactic(auto)]
-
-pub mod laws;

@@ -1,0 +1,3 @@
+pub mod BelowSteps
+pub mod WorkLemmas
+pub mod MacroLemmas

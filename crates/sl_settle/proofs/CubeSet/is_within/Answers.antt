@@ -1,4 +1,0 @@
-use Rattle.sl_settle.proofs.CubeSet.is_within.Goals as goal
-
-pub returns : goal.returns
-returns c = rw (c.deref.ensures.value, c.deref-2.ensures.value) at c.is_within.ensures

@@ -1,6 +1,0 @@
-use Rattle.sl_settle.specs.Sets.{IsLeastOf}
-use Rattle.sl_settle.proofs.FirstLemmas.{InFirst, HasOutside}
-use Rattle.sl_settle.proofs.points.least_in_none.Given as goal
-
-abbrev pub invariant-loop-cube : goal.invariant-loop-cube
-invariant-loop-cube l = IsLeastOf (InFirst (HasOutside l.others) l.cubes l.cube-index) l.best

@@ -1,6 +1,0 @@
-use Rattle.sl_settle.specs.Sets.{IsLeastOf}
-use Rattle.sl_settle.proofs.FirstLemmas.{InFirst, HasPoint}
-use Rattle.sl_settle.proofs.points.least_of.Given as goal
-
-abbrev pub invariant-loop-cube : goal.invariant-loop-cube
-invariant-loop-cube l = IsLeastOf (InFirst HasPoint l.cubes l.cube-index) l.best

@@ -1,5 +1,0 @@
-use Rattle.sl_settle.proofs.LeftLemmas.{TalliedFirst}
-use Rattle.sl_settle.proofs.search.halved_by_cubes.Given as goal
-
-abbrev pub invariant-loop-candidate : goal.invariant-loop-candidate
-invariant-loop-candidate l = TalliedFirst l.region l.left l.candidate-index l.tally.shortest

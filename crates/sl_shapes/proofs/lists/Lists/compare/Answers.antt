@@ -1,9 +1,0 @@
-use Rattle.std.proofs.Common.{Some, ◌∙◌}
-use Rattle.sl_shapes.specs.Comparing.{compared}
-use Rattle.sl_shapes.specs.Lists.{list_at}
-use Rattle.sl_shapes.proofs.WalkLemmas.{second_shorter}
-use Rattle.sl_shapes.proofs.lists.Lists.compare.Goals as goal
-
-pub returns-in-None-right : goal.returns-in-None-right
-returns-in-None-right c =
-    second_shorter (list_at c.args.self.now (Some c.in-Some.one)) c.in-Some.ensures.full ∙ (λ k. compared (c.in-Some.ensures.same k) (c.in-None-right.ensures.same k))

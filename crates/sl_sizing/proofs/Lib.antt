@@ -1,3 +1,0 @@
-pub mod ExportLemmas
-pub mod LastLemmas
-pub mod RunLemmas

@@ -1,3 +1,0 @@
-pub mod Constructors
-pub mod Laws
-pub mod Sizings

@@ -1,4 +1,0 @@
-//! Laws: the sections of a specification keep what instructions count on.
-#![tactic(auto)]
-
-pub mod laws;

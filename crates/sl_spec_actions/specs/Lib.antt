@@ -1,0 +1,11 @@
+pub mod Parts
+pub mod ActionNames
+pub mod ActionRules
+pub mod Blocks
+pub mod Levels
+pub mod PatternNames
+pub mod Pending
+pub mod SeenActions
+pub mod Standing
+pub mod JoinedStanding
+pub mod Stands

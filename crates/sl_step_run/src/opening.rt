@@ -1,0 +1,49 @@
+//! Machines before their first step.
+
+ghost use Rattle.std.specs.Prelude.{◌≡◌, ℕ, ◌+◌, ◌^◌, ◌<◌, ◌≤◌, IfOk, length};
+ghost use Rattle.sl_faithful_code.specs.Faithful.{AreBytes};
+ghost use Rattle.sl_decode_meaning.specs.Actions.{address_bytes};
+ghost use Rattle.sl_list_instructions.specs.Listing.{image_from};
+ghost use Rattle.sl_step_run.specs.Running.{opening};
+ghost use Rattle.sl_step_run.specs.Told.{HasSpacesOf};
+ghost use Rattle.sl_word.specs.Bytes.{byte_at};
+
+use sl_section_sizes::address_sizes;
+use sl_spec::{Space, Tables};
+use sl_step::default_space;
+use sl_word::{AddressSize, State};
+use std::alloc::{AllocError, Global};
+
+/// More spaces than this have no room in memory.
+const MOST_SPACES: usize = (1 << 32) - 1;
+
+/// The size of an address of a space.
+pub(crate) fn size_of(space: &Space) -> AddressSize
+    ensures { result.bytes ≡ space.now.size }
+{
+    AddressSize { bytes: space.size }
+}
+
+/// The bytes of a machine before its first step: the image in the default space from its base on,
+/// and zeros.
+pub(crate) fn opening(
+    alloc: Global,
+    tables: &Tables,
+    image: &[u8],
+    base: u64,
+) -> Result<State, AllocError>
+    requires { base + length image.now ≤ 256 ^ address_bytes tables.now }
+    ensures spaces { IfOk result (HasSpacesOf tables.now) }
+    ensures bytes { IfOk result (λ state. AreBytes (byte_at state)) }
+    ensures memory { IfOk result (λ state. (start : ℕ)
+        → byte_at state ≡ opening tables.now (image_from image.now base start)) }
+{
+    let sizes = address_sizes(alloc, tables)?;
+    if sizes.len() > MOST_SPACES {
+        return Err(AllocError);
+    }
+    let space = default_space(tables)?;
+    let mut state = State::new(alloc, tables.endian, sizes.as_slice())?;
+    state.load_image(space, base, image)?;
+    Ok(state)
+}

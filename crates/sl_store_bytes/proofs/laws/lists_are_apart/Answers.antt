@@ -1,0 +1,7 @@
+use Rattle.sl_store_bytes.proofs.Chains.{are_apart}
+use Rattle.sl_store_bytes.proofs.PartLaws.{exact_list}
+use Rattle.sl_store_bytes.proofs.LexemeLaws.{exact_name}
+use Rattle.sl_store_bytes.proofs.laws.lists_are_apart.Goals as goal
+
+pub returns : goal.returns
+returns c = are_apart (exact_list exact_name)

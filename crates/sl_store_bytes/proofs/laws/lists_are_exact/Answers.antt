@@ -1,0 +1,6 @@
+use Rattle.sl_store_bytes.proofs.PartLaws.{exact_list}
+use Rattle.sl_store_bytes.proofs.LexemeLaws.{exact_name}
+use Rattle.sl_store_bytes.proofs.laws.lists_are_exact.Goals as goal
+
+pub returns : goal.returns
+returns c = exact_list exact_name

@@ -1,0 +1,6 @@
+use Rattle.sl_store_bytes.proofs.Chains.{are_apart}
+use Rattle.sl_store_bytes.proofs.LexemeLaws.{exact_name}
+use Rattle.sl_store_bytes.proofs.laws.names_are_apart.Goals as goal
+
+pub returns : goal.returns
+returns c = are_apart exact_name

@@ -1,0 +1,37 @@
+//! Packed specifications.
+
+ghost use Rattle.std.specs.Prelude.{IfOk};
+ghost use Rattle.sl_store_write.specs.Packs.{IsFileOf, packed_of};
+ghost use Rattle.sl_store_format.specs.Packed.{IsPacked};
+
+use crate::items::put_items;
+use crate::places::Places;
+use crate::put::Put;
+use sl_ast::items::Spec;
+use sl_preproc::Place;
+use std::alloc::{AllocError, Global};
+
+/// The bytes at the front of a packed specification.
+pub const MARK: &[u8] = b"SLEIGHP1";
+
+/// A specification with the names of its files and a place for each item, in text order, a block's before those
+/// of the items inside it.
+#[derive(Drop)]
+pub struct Packed<'a> {
+    pub files: Vec<String>,
+    pub places: Vec<Place>,
+    pub spec: Spec<'a>,
+}
+
+/// The file of a specification that may be packed: its items have no fault, names, texts and numbers are such, there
+/// are as many places as items, and each place is in one of the files.
+pub fn pack(alloc: Global, packed: &Packed<'_>) -> Result<Vec<u8>, AllocError>
+    ensures { IsPacked (packed_of packed.now) → IfOk result (λ v. IsFileOf (packed_of packed.now) v.items) }
+{
+    let mut out = Vec::new(alloc);
+    out.extend_from_slice(MARK)?;
+    packed.files.put(&mut out)?;
+    let mut places = Places::new(packed.places.as_slice());
+    put_items(&mut out, packed.spec.items.as_slice(), &mut places)?;
+    Ok(out)
+}

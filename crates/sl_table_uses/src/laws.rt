@@ -1,9 +1,0 @@
-//! Laws of the use of tables.
-
-ghost use Rattle.sl_table_uses.specs.Laws.{TablesAreUsed};
-
-/// By rules 38 and 39 tables that are used export, tables that are assigned stand for no number, and
-/// targets of jumps stand for numbers, each directly and through re-exports.
-pub fn tables_are_used()
-    ensures { TablesAreUsed }
-{}

@@ -1,5 +1,0 @@
-use Rattle.sl_equations.proofs.EquationLemmas.{size_is}
-use Rattle.sl_template.proofs.sizes.same_size.Goals as goal
-
-pub returns : goal.returns
-returns c = size_is c.args.n

@@ -1,0 +1,35 @@
+-- view: a request as the program keeps it
+use Rattle.std.specs.Prelude.{map, option_map}
+use Rattle.sl_tool_request.specs.Requests as spec
+use Rattle.sl_tool_request.specs.declared.request.FieldValue.{FieldValue}
+use Rattle.sl_tool_request.specs.declared.request.Request.{Request}
+use Rattle.sl_tool_request.specs.declared.request.Request.TheVariants.{Check, List, Pcode, Run, Gen}
+use Rattle.sl_tool_request.specs.declared.request.Target.{Target}
+use Rattle.sl_tool_request.specs.declared.request.Arguments.{Arguments}
+
+abbrev pub field : FieldValue → spec.Field
+field f = record { name = f.field.now; value = f.value }
+
+abbrev pub target : Target → spec.Target
+target t = record {
+  spec = t.spec.now;
+  image = t.image.now;
+  base = t.base;
+  is_hex = t.is_hex;
+  context = map field t.context.items;
+}
+
+abbrev pub request : Request → spec.Asked
+request (Check file) = spec.Checks file.now
+request (List t) = spec.Lists (target t)
+request (Pcode t) = spec.Prints (target t)
+request (Run t steps) = spec.Runs (target t) steps
+request (Gen size) = spec.Generates size
+
+abbrev pub arguments : Arguments → spec.Arguments
+arguments s = record {
+  words = map (λ w. w.now) s.words.items;
+  base = option_map (λ w. w.now) s.base;
+  steps = option_map (λ w. w.now) s.steps;
+  is_hex = s.is_hex;
+}

@@ -1,0 +1,167 @@
+//! From what a command is given to a request.
+
+ghost use Rattle.std.specs.Prelude.{◌≡◌, IfOk, map, option_map, string_bytes};
+ghost use Rattle.sl_tool_request.specs.Requests.{asked_by, check_asked, field_of, fields_of};
+ghost use Rattle.sl_tool_request.specs.Requests.{gen_asked};
+ghost use Rattle.sl_tool_request.specs.Requests.{list_asked, number_or, only_word, pcode_asked};
+ghost use Rattle.sl_tool_request.specs.Requests.{run_asked, size_of, target_of};
+ghost use Rattle.sl_tool_request.specs.Views.{field, request, arguments, target};
+
+use crate::numbers::{number_of, value_of};
+use crate::request::{Arguments, FieldValue, Request, Target};
+use std::alloc::{AllocError, Global};
+
+/// The largest number that `gen` takes.
+const MOST_GENERATED: u64 = 30_000;
+
+/// The number that the word spells, or `default` where there is no word.
+fn number_or(default: u64, word: Option<&str>) -> Option<u64>
+    ensures { result ≡ number_or default (option_map (λ w. w.now) word.entry) }
+{
+    match word {
+        Some(word) => number_of(word),
+        None => Some(default),
+    }
+}
+
+/// FIELD=VALUE, cut at its first `=`.
+fn field_of(word: &str) -> Option<FieldValue<'_>>
+    ensures { option_map field result ≡ field_of word.now }
+{
+    let (field, value) = word.split_once('=')?;
+    if field.is_empty() {
+        return None;
+    }
+    let value = value_of(value)?;
+    Some(FieldValue { field, value })
+}
+
+/// The fields that the words give, if each word gives one.
+fn fields_of<'a>(
+    alloc: Global,
+    words: &[&'a str],
+) -> Result<Option<Vec<FieldValue<'a>>>, AllocError>
+    ensures { IfOk result (λ r. option_map (λ v. map field v.items) r
+        ≡ fields_of (map (λ w. w.now) words.now)) }
+{
+    let mut fields = Vec::new(alloc);
+    for word in words {
+        match field_of(word) {
+            Some(field) => fields.push(field)?,
+            None => return Ok(None),
+        }
+    }
+    Ok(Some(fields))
+}
+
+/// SPEC IMAGE FIELD=VALUE .., with the options over an image.
+fn target_of<'a>(alloc: Global, given: &Arguments<'a>) -> Result<Option<Target<'a>>, AllocError>
+    ensures { IfOk result (λ r. option_map target r ≡ target_of (arguments given.now)) }
+{
+    let [spec, image, rest @ ..] = given.words.as_slice() else {
+        return Ok(None);
+    };
+    let Some(base) = number_or(0, given.base) else {
+        return Ok(None);
+    };
+    let Some(context) = fields_of(alloc, rest)? else {
+        return Ok(None);
+    };
+    Ok(Some(Target {
+        spec: *spec,
+        image: *image,
+        base,
+        is_hex: given.is_hex,
+        context,
+    }))
+}
+
+/// The only word.
+fn only_word<'a>(given: &Arguments<'a>) -> Option<&'a str>
+    ensures { option_map (λ w. w.now) result ≡ only_word (arguments given.now).words }
+{
+    match given.words.as_slice() {
+        [word] => Some(*word),
+        _ => None,
+    }
+}
+
+/// The size of the specification that `gen` makes.
+fn size_of(given: &Arguments<'_>) -> Option<u64>
+    ensures { result ≡ size_of (arguments given.now) }
+{
+    let size = number_of(only_word(given)?)?;
+    if 1 <= size && size <= MOST_GENERATED {
+        Some(size)
+    } else {
+        None
+    }
+}
+
+/// What `run` asks for.
+fn run_asked<'a>(alloc: Global, given: &Arguments<'a>) -> Result<Option<Request<'a>>, AllocError>
+    ensures { IfOk result (λ r. option_map request r ≡ run_asked (arguments given.now)) }
+{
+    let Some(target) = target_of(alloc, given)? else {
+        return Ok(None);
+    };
+    let Some(steps) = number_or(1, given.steps) else {
+        return Ok(None);
+    };
+    Ok(Some(Request::Run(target, steps)))
+}
+
+/// What `check` asks for.
+fn check_asked<'a>(given: &Arguments<'a>) -> Option<Request<'a>>
+    ensures { option_map request result ≡ check_asked (arguments given.now) }
+{
+    let spec = only_word(given)?;
+    Some(Request::Check(spec))
+}
+
+/// What `list` asks for.
+fn list_asked<'a>(alloc: Global, given: &Arguments<'a>) -> Result<Option<Request<'a>>, AllocError>
+    ensures { IfOk result (λ r. option_map request r ≡ list_asked (arguments given.now)) }
+{
+    match target_of(alloc, given)? {
+        Some(target) => Ok(Some(Request::List(target))),
+        None => Ok(None),
+    }
+}
+
+/// What `pcode` asks for.
+fn pcode_asked<'a>(alloc: Global, given: &Arguments<'a>) -> Result<Option<Request<'a>>, AllocError>
+    ensures { IfOk result (λ r. option_map request r ≡ pcode_asked (arguments given.now)) }
+{
+    match target_of(alloc, given)? {
+        Some(target) => Ok(Some(Request::Pcode(target))),
+        None => Ok(None),
+    }
+}
+
+/// What `gen` asks for.
+fn gen_asked<'a>(given: &Arguments<'a>) -> Option<Request<'a>>
+    ensures { option_map request result ≡ gen_asked (arguments given.now) }
+{
+    let size = size_of(given)?;
+    Some(Request::Gen(size))
+}
+
+/// What the command of this name asks for by what it is given; none where there is no such command,
+/// or where a word is too many, missing, or no number or field.
+pub fn asked_by<'a>(
+    alloc: Global,
+    name: &str,
+    given: &Arguments<'a>,
+) -> Result<Option<Request<'a>>, AllocError>
+    ensures { IfOk result (λ r. option_map request r ≡ asked_by name.now (arguments given.now)) }
+{
+    match name {
+        "check" => Ok(check_asked(given)),
+        "list" => list_asked(alloc, given),
+        "pcode" => pcode_asked(alloc, given),
+        "run" => run_asked(alloc, given),
+        "gen" => Ok(gen_asked(given)),
+        _ => Ok(None),
+    }
+}

@@ -1,5 +1,0 @@
-use Rattle.sl_translation.proofs.Counts.{trees_are_covered}
-use Rattle.sl_translation.proofs.laws.trees_are_covered.Goals as goal
-
-pub returns : goal.returns
-returns c = trees_are_covered

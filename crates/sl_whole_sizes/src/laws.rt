@@ -1,9 +1,0 @@
-//! Laws of the sizes of all sections.
-
-ghost use Rattle.sl_whole_sizes.specs.Laws.{SectionsFitTheWhole};
-
-/// Where the sections of a text have sizes, each has its only ones by the sizes that all tables
-/// export in the end, keeps rule 40, and exports what its table does.
-pub fn sections_fit_the_whole()
-    ensures { SectionsFitTheWhole }
-{}
