@@ -2,13 +2,13 @@
 //! its size variable.
 #![tactic(auto)]
 
+mod expressions;
 mod names;
 mod operands;
 mod operators;
 mod reach;
-mod terms;
 
+pub use expressions::{is_dropped, size_if_written, take, term, terms};
 pub use names::{NamedSymbol, Names, add_symbol, small, space_named, userop_named};
 pub use operands::named_operands;
 pub use reach::{Reach, if_below, reach_of};
-pub use terms::{is_dropped, size_if_written, take, term, terms};

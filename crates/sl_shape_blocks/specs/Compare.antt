@@ -1,5 +1,6 @@
 -- view: the codes of a field whose value stands in a relation to a number.
 use Rattle.std.specs.Prelude.{◌≡◌, ◌↔◌, ℕ, ◌+◌, ◌-◌, ◌*◌, ◌<◌, ◌≤◌, ◌^◌, ℤ, pos, ◌-ℤ◌, ◌⊎◌, Bool, true, false}
+use mathlib.Core.Bool.{not}
 use Rattle.sl_shape_blocks.specs.declared.Codes.{Codes}
 use Rattle.sl_shape_blocks.specs.declared.compare.Relation.{Relation}
 use Rattle.sl_shape_blocks.specs.declared.compare.Relation.TheVariants.{Equal, NotEqual, Less, LessEqual, Greater, GreaterEqual}

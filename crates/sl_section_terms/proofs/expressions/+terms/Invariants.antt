@@ -1,6 +1,6 @@
 use Rattle.sl_section_flat.specs.Views.{terms_of}
 use Rattle.sl_section_terms.proofs.TermLemmas.{AreCounted, AreTerms}
-use Rattle.sl_section_terms.proofs.terms.+terms.Given as goal
+use Rattle.sl_section_terms.proofs.expressions.+terms.Given as goal
 
 -- what is there and what the arguments that are left give is all
 abbrev pub invariant-terms-given : goal.invariant-terms-given

@@ -2,7 +2,7 @@ use Rattle.std.proofs.Common.{◌≡◌, ◌≢◌, List, [], ◌∷◌, length,
 use Rattle.sl_ast.specs.Views.{arguments, expressions_of}
 use Rattle.sl_ast.specs.declared.expressions.Expr.{Expr}
 use Rattle.sl_section_terms.specs.Terms.{single_integer}
-use Rattle.sl_section_terms.proofs.terms.single_integer.Goals as goal
+use Rattle.sl_section_terms.proofs.expressions.single_integer.Goals as goal
 
 -- no integer is the only one of other than one argument
 none_of : (es : List Expr) → length es ≢ 1 → None ≡ single_integer (arguments (expressions_of es))

@@ -6,7 +6,7 @@ use Rattle.sl_section_terms.specs.Scopes.{symbol_named}
 use Rattle.sl_section_terms.specs.Dropped.{dropped_view}
 use Rattle.sl_section_terms.specs.Terms.{dropped_of, single_integer, variables, variables_in}
 use Rattle.sl_section_terms.proofs.TermLemmas.{drops_one, all_terms, all_counted, seen_call}
-use Rattle.sl_section_terms.proofs.terms.+terms.Goals as goal
+use Rattle.sl_section_terms.proofs.expressions.+terms.Goals as goal
 
 pub term-returns-in-Some-dropped_of-clause-moved : goal.term-returns-in-Some-dropped_of-clause-moved
 term-returns-in-Some-dropped_of-clause-moved t c =
