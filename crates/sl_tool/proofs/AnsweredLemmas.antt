@@ -11,40 +11,18 @@ use Rattle.sl_base_surely.specs.Surely.{Surely}
 use Rattle.sl_base_surely.proofs.SurelyLemmas.{surely, surely_map}
 use Rattle.sl_tool.specs.Answers.{AsksFrom, Due, Shows, UsesFilesFor, asked_after}
 use Rattle.sl_tool.specs.Answers.AsksFrom.{sound, unsound}
-use Rattle.sl_tool.specs.Outcomes.{FailsToRead, FailsToWrite, Gives, IsEarly, IsReadFault, Obtains, RanNone, StopsEarly, Streams, Writes, WritesFront}
+use Rattle.sl_tool.specs.Streams.{RanNone, Streams, Writes, WritesFront}
 use Rattle.sl_tool.specs.Growth.{Grew}
 use Rattle.sl_tool.specs.Request.{Request, spec_of}
-use Rattle.sl_tool.specs.Stage.{Stage, Then}
-use Rattle.sl_tool.specs.Stage.Then.{stops, goes}
-use Rattle.sl_tool.specs.Stages.{Specifies}
-use Rattle.sl_tool.specs.Values.{Compiled, Shown, shown}
-use Rattle.sl_tool.specs.declared.halt.Halt.{Halt}
-use Rattle.sl_tool.specs.declared.halt.Halt.TheVariants.{Refused, ReadFault, WriteFault, NoMemory}
-use Rattle.sl_tool.specs.declared.refusal.Refusal.{Refusal}
+use Rattle.sl_tool.specs.Endings.{Shown, shown}
 use Rattle.sl_tool.specs.declared.status.Ending.{Ending}
-use Rattle.sl_tool.proofs.StageLemmas.{specifies_some}
-
-pub gives_obtains : {T B : Type 0} (S : Result B Refusal → Type 0) (view : T → B) (h : Halt) → Gives S view (Err h) → Obtains S view (Err h)
-gives_obtains S view (Refused x) g = g
-gives_obtains S view ReadFault g = absurd g
-gives_obtains S view WriteFault g = g
-gives_obtains S view NoMemory g = g
-
--- ---- two stages that neither read nor write
-
-pub gives_stops : {T U A B C : Type 0} (S : Stage Refusal A B) (R : Stage Refusal B C) (a : A) (view : T → B) (later : U → C) (h : Halt)
-    → Gives (S a) view (Err h) → Gives (Then S R a) later (Err h)
-gives_stops S R a view later (Refused x) g = stops g
-gives_stops S R a view later ReadFault g = g
-gives_stops S R a view later WriteFault g = g
-gives_stops S R a view later NoMemory g = g
-
-pub gives_goes : {U A B C : Type 0} (S : Stage Refusal A B) (R : Stage Refusal B C) (a : A) (b : B) (later : U → C) (h : Halt)
-    → S a (Ok b) → Gives (R b) later (Err h) → Gives (Then S R a) later (Err h)
-gives_goes S R a b later (Refused x) s g = goes s g
-gives_goes S R a b later ReadFault s g = g
-gives_goes S R a b later WriteFault s g = g
-gives_goes S R a b later NoMemory s g = g
+use Rattle.sl_tool_stages.specs.Outcomes.{FailsToRead, FailsToWrite, Gives, IsEarly, Obtains}
+use Rattle.sl_tool_stages.specs.Stages.{Specifies}
+use Rattle.sl_tool_stages.specs.Values.{Compiled}
+use Rattle.sl_tool_stages.specs.declared.halt.Halt.{Halt}
+use Rattle.sl_tool_stages.specs.declared.halt.Halt.TheVariants.{Refused, ReadFault, WriteFault, NoMemory}
+use Rattle.sl_tool_stages.specs.declared.refusal.Refusal.{Refusal}
+use Rattle.sl_tool_stages.proofs.StageLemmas.{specifies_some}
 
 -- ---- what was written, and how many operations ran
 
@@ -108,28 +86,10 @@ never_reads due a b G (Err ReadFault) g f = g
 never_reads due a b G (Err WriteFault) g f = f
 never_reads due a b G (Err NoMemory) g f = f
 
--- a stage that stops and reads nothing
-pub stop_unread : {T B : Type 0} (S : Result B Refusal → Type 0) (view : T → B) (h : Halt) → Gives S view (Err h) → FailsToRead {T = Ending} (Err h) → ⊥
-stop_unread S view (Refused x) g f = f
-stop_unread S view ReadFault g f = g
-stop_unread S view WriteFault g f = f
-stop_unread S view NoMemory g f = f
-
 pub show_unwritten : {P : Type 0} (due : Due) (a b : Option (List ℕ)) (G : ℕ → Type 0) (x : Result Ending Halt) → Streams due a b G x → FailsToRead x → P
 show_unwritten due a b G x g f = absurd (never_reads due a b G x g f)
 
 -- ---- names
-
--- files were read, and what follows reads nothing
-pub reads_on : {T B F : Type 0} (told : F → Option Folder) (faults : F → ℕ) (asked : F → Names) (old new : F) (names : List (List ℕ)) (S : Result B Refusal → Type 0) (view : T → B)
-    (h : Halt) → Gives S view (Err h) → UsesFiles told faults asked old new names ⊥ ⊥ → UsesFiles told faults asked old new names (StopsEarly h) (IsReadFault h)
-reads_on told faults asked old new names S view h g v = record {
-  same_folder = v.same_folder;
-  never_falls = v.never_falls;
-  failed = λ f. absurd (stop_unread S view h g f);
-  asks_front = v.asks_front;
-  asks_all = λ n. v.asks_all (λ e. e);
-}
 
 pub Asks-nil : (a : Names) → Asks a a []
 Asks-nil None = tt

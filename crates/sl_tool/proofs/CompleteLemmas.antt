@@ -6,19 +6,19 @@ use Rattle.sl_base_surely.proofs.SurelyLemmas.{surely_map}
 use Rattle.sl_tool.specs.Answers.{Answers, Shows, counts_of, figures_of, generated, shows_of}
 use Rattle.sl_tool.specs.Ends.{Means, ReadsFiles, WritesWhole}
 use Rattle.sl_tool.specs.Ends.Means.{answer}
-use Rattle.sl_tool.specs.Laws.{AcceptedAreAnswered, Accepts, Counted, EndsSo, IsAccepted, IsAnswered, IsComplete, IsTold, MayEnd, WritesAnswer}
+use Rattle.sl_tool.specs.Laws.{AcceptedAreAnswered, Accepts, Counted, EndsSo, IsAccepted, IsComplete, IsTold, MayEnd, WritesAnswer}
 use Rattle.sl_tool.specs.Growth.{Grew}
 use Rattle.sl_tool.specs.Request.{CheckSpec, Generate, Request, ShowImage, Listing, Operations, Run, spec_of}
-use Rattle.sl_tool.specs.Stage.{HasOneResult, Stage, Then}
-use Rattle.sl_tool.specs.Stage.Then.{goes, stops}
-use Rattle.sl_tool.specs.Stages.{Loads, Specifies}
-use Rattle.sl_tool.specs.Values.{Shown}
-use Rattle.sl_tool.specs.declared.refusal.Refusal.{Refusal}
+use Rattle.sl_tool.specs.Endings.{Shown}
 use Rattle.sl_tool.specs.declared.status.Status.{Status}
 use Rattle.sl_tool.specs.declared.status.Status.TheVariants.{Done, Refused, Usage, ReadFault, WriteFault, NoMemory, Stopped}
+use Rattle.sl_tool_stages.specs.Stage.{HasOneResult, Stage, Then}
+use Rattle.sl_tool_stages.specs.Stage.Then.{goes, stops}
+use Rattle.sl_tool_stages.specs.Stages.{Loads, Specifies}
+use Rattle.sl_tool_stages.specs.declared.refusal.Refusal.{Refusal}
 use Rattle.sl_tool.proofs.SomeAnswer.{answer_some}
-use Rattle.sl_tool.proofs.StageLemmas.{loads_told, specifies_one, specifies_told}
-use Rattle.sl_tool.proofs.Thens.{not_both, ok_is}
+use Rattle.sl_tool_stages.proofs.StageLemmas.{loads_told, specifies_one, specifies_told}
+use Rattle.sl_tool_stages.proofs.Thens.{not_both, ok_is}
 
 -- two stages of which the first gives a value, by which the second refuses nothing
 refuses_none : {E A B C : Type 0} (S : Stage E A B) (T : Stage E B C) (a : A) (b : B) → HasOneResult S → S a (Ok b) → ((e : E) → T b (Err e) → ⊥)

@@ -10,22 +10,21 @@ use Rattle.sl_preproc.proofs.MainLemmas.{asked_first}
 use Rattle.sl_base_surely.specs.Surely.{Surely}
 use Rattle.sl_base_surely.proofs.SurelyLemmas.{surely}
 use Rattle.sl_tool.specs.Answers.{Answers, AsksFor, UsesFilesFor, ran_of, text_of, status_of}
-use Rattle.sl_tool.specs.Endings.{ended}
+use Rattle.sl_tool.specs.Endings.{Shown, ended}
 use Rattle.sl_tool.specs.Ends.{Means, WritesWhole, WritesFirst, Ends, RunsFor}
 use Rattle.sl_tool.specs.Ends.Means.{answer}
-use Rattle.sl_tool.specs.Outcomes.{Writes, WritesFront}
+use Rattle.sl_tool.specs.Streams.{Writes, WritesFront}
 use Rattle.sl_tool.specs.Request.{CheckSpec, Generate, Request, ShowImage}
-use Rattle.sl_tool.specs.Values.{Shown}
 use Rattle.sl_tool.specs.Writing.{IsWritten}
-use Rattle.sl_tool.specs.declared.halt.Halt.{Halt}
-use Rattle.sl_tool.specs.declared.halt.Halt.TheVariants as halt
-use Rattle.sl_tool.specs.declared.refusal.Refusal.{Refusal}
 use Rattle.sl_tool.specs.declared.status.Ending.{Ending}
 use Rattle.sl_tool.specs.declared.status.Ending.TheVariants as ending
 use Rattle.sl_tool.specs.declared.status.Status.{Status}
 use Rattle.sl_tool.specs.declared.status.Status.TheVariants.{Done, Refused, Usage, ReadFault, WriteFault, NoMemory, Stopped}
+use Rattle.sl_tool_stages.specs.declared.halt.Halt.{Halt}
+use Rattle.sl_tool_stages.specs.declared.halt.Halt.TheVariants as halt
+use Rattle.sl_tool_stages.specs.declared.refusal.Refusal.{Refusal}
 use Rattle.sl_tool.proofs.AnsweredLemmas.{Asks-nil, front_due}
-use Rattle.sl_tool.proofs.Thens.{none_is, some_is}
+use Rattle.sl_tool_stages.proofs.Thens.{none_is, some_is}
 
 -- a status that says that the whole text was written
 abbrev pub IsWhole : Status → Type 0

@@ -17,7 +17,7 @@ use Rattle.sl_step_run.specs.declared.execution.Execution.{Execution}
 use Rattle.sl_spec.specs.declared.tables.Tables.{Tables}
 use Rattle.sl_tool.specs.Figures.{CountsSo, IsFigured, IsListed}
 use Rattle.sl_tool.specs.Generated.{figures_told, lines_behind, shown_from, shown_lines}
-use Rattle.sl_tool.specs.Values.{Compiled}
+use Rattle.sl_tool_stages.specs.Values.{Compiled}
 use Rattle.sl_word.specs.Bytes.{byte_at}
 use Rattle.sl_word.specs.Memories.{Memory}
 use Rattle.sl_word.specs.declared.word.Size.{Size}

@@ -1,14 +1,4 @@
-pub mod LineLemmas
-pub mod CompiledLemmas
-pub mod Thens
-pub mod ExpandLemmas
-pub mod PlaceLemmas
-pub mod TokenLemmas
-pub mod SoundTexts
-pub mod NameLemmas
-pub mod ImageLemmas
-pub mod StageLemmas
-pub mod ReadLemmas
+pub mod CountLemmas
 pub mod RunLemmas
 pub mod OneAnswer
 pub mod SomeAnswer

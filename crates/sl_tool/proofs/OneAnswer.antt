@@ -6,11 +6,12 @@ use Rattle.sl_outside.specs.Folder.{Folder}
 use Rattle.sl_tool.specs.Answers.{Due, Follows, Shows, ShowsText, counts_of, figures_of, generated, shows_of}
 use Rattle.sl_tool.specs.Laws.{AreAlike, HasOneAnswer, IsTold, PrintsNoList}
 use Rattle.sl_tool.specs.Request.{CheckSpec, Generate, Request, ShowImage, Listing, Operations, Run, spec_of}
-use Rattle.sl_tool.specs.Values.{Compiled, Shown}
-use Rattle.sl_tool.specs.declared.refusal.Refusal.{Refusal}
+use Rattle.sl_tool.specs.Endings.{Shown}
+use Rattle.sl_tool_stages.specs.Values.{Compiled}
+use Rattle.sl_tool_stages.specs.declared.refusal.Refusal.{Refusal}
 use Rattle.sl_tool.proofs.RunLemmas.{figures_are_one, run_is_one}
-use Rattle.sl_tool.proofs.StageLemmas.{loads_told, specifies_one, specifies_told}
-use Rattle.sl_tool.proofs.Thens.{then_alike}
+use Rattle.sl_tool_stages.proofs.StageLemmas.{loads_told, specifies_one, specifies_told}
+use Rattle.sl_tool_stages.proofs.Thens.{then_alike}
 
 -- what is due is one ending and one text
 abbrev IsOne : Due → Type 0

@@ -12,10 +12,10 @@ use Rattle.sl_meaning_instruction.specs.Instructions.{specification_of}
 use Rattle.sl_list_instructions.specs.Listing.{Image}
 use Rattle.sl_tool_generator.specs.Line.{figures_line}
 use Rattle.sl_step_run.specs.Running.{opened}
-use Rattle.sl_tool.specs.Endings.{ending_of}
+use Rattle.sl_tool.specs.Endings.{Shown, ending_of}
 use Rattle.sl_tool.specs.Generated.{AreFigures, figures_told, generated_image, shown_lines}
 use Rattle.sl_tool.specs.Shows.{ShowsRun}
-use Rattle.sl_tool.specs.Values.{Compiled, Loaded, Shown}
+use Rattle.sl_tool_stages.specs.Values.{Compiled, Loaded}
 use Rattle.sl_word.specs.declared.word.Size.{Size}
 
 -- the sizes of a text's sections are one

@@ -1,32 +1,30 @@
 -- What was written of an image, as it is due.
-use Rattle.std.proofs.Common.{◌≡◌, ℕ, ◌≤◌, List, [], ◌++◌, Option, Result, Ok, Err, ◌⊎◌, inl, inr, refl, sym, subst, ◌∙◌, length, min, arith}
+use Rattle.std.proofs.Common.{ℕ, ◌≤◌, List, ◌++◌, Option, Result, Ok, Err, inl, inr, refl, sym, subst, ◌∙◌, length, min, arith}
 use Rattle.std.specs.Io.KnownBytes.{Appends}
 use Rattle.std.specs.Result.{IsErrOf}
 use Rattle.std.proofs.lemmas.List.{take-append-le, take_min}
-use Rattle.sl_ast.specs.Trees.{Constructor, Item}
-use Rattle.sl_ast.specs.Unfolding.{Placed}
 use Rattle.sl_bind.specs.Binding.{Binds}
 use Rattle.sl_faithful_accepted.specs.Laws.{IsShort}
 use Rattle.sl_bind_compile.specs.Outcomes.{Compiles, all_constructors}
 use Rattle.sl_list_instructions.specs.Fronts.{AppendsFront}
 use Rattle.sl_list_instructions.specs.declared.listings.ListError.{ListError}
 use Rattle.sl_list_instructions.specs.declared.listings.ListError.TheVariants as list
-use Rattle.sl_list_instructions.specs.Listing.{Image, IsListing}
-use Rattle.sl_spec.specs.declared.tables.Tables.{Tables}
+use Rattle.sl_list_instructions.specs.Listing.{IsListing}
 use Rattle.sl_list_instructions.specs.Writing as lister
 use Rattle.sl_outside.specs.Uses.{UsesSink}
 use Rattle.sl_list_pcode.proofs.WholeLemmas.{begun_go_on}
 use Rattle.sl_list_pcode.specs.Writing as pcode
 use Rattle.sl_tool.specs.Answers.{Due, ShowsText, shows_of}
-use Rattle.sl_tool.specs.Halts.{listed}
-use Rattle.sl_tool.specs.Outcomes.{FailsToWrite, RanNone, Streams, StreamsFront}
-use Rattle.sl_tool.specs.Writing.{IsOfWriting}
+use Rattle.sl_tool.specs.Writing.{IsOfWriting, listed}
+use Rattle.sl_tool.specs.Streams.{RanNone, Streams, StreamsFront}
 use Rattle.sl_tool.specs.Request.{Listing, Operations}
 use Rattle.sl_tool.specs.Shows.{IsOperations}
-use Rattle.sl_tool.specs.Values.{Loaded, Shown, shown}
-use Rattle.sl_tool.specs.declared.halt.Halt.{Halt}
-use Rattle.sl_tool.specs.declared.halt.Halt.TheVariants.{NoMemory, ReadFault, Refused, WriteFault}
+use Rattle.sl_tool.specs.Endings.{Shown, shown}
 use Rattle.sl_tool.specs.declared.status.Ending.TheVariants.{Done}
+use Rattle.sl_tool_stages.specs.Outcomes.{FailsToWrite}
+use Rattle.sl_tool_stages.specs.Values.{Loaded}
+use Rattle.sl_tool_stages.specs.declared.halt.Halt.{Halt}
+use Rattle.sl_tool_stages.specs.declared.halt.Halt.TheVariants.{NoMemory, ReadFault, Refused, WriteFault}
 use Rattle.sl_word.specs.declared.word.Size.{Size}
 
 -- a text that is due, in which nothing runs

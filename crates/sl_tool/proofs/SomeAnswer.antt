@@ -1,5 +1,5 @@
 -- It can't be that a request has no answer.
-use Rattle.std.proofs.Common.{ℕ, Bool, List, codes, length, Option, Some, Result, Ok, refl, sym, subst}
+use Rattle.std.proofs.Common.{ℕ, Bool, List, length, Option, Some, Result, Ok, refl, sym, subst}
 use Rattle.sl_bind.specs.Binding.{constructors_of}
 use Rattle.sl_bind_compile.specs.Outcomes.{all_constructors}
 use Rattle.sl_list_instructions.proofs.AcceptedLemmas.{IsAccepted, accepted}
@@ -12,19 +12,19 @@ use Rattle.sl_step_run.proofs.CountedLemmas.{some_counted_outcome, some_counted_
 use Rattle.sl_step_run.specs.Running.{IsCountedRunText, RunOutcome, RunsCountedTo}
 use Rattle.sl_base_surely.proofs.SurelyLemmas.{surely, surely_map, surely_then}
 use Rattle.sl_tool.specs.Answers.{Answers, Shows, counts_of, figures_of, generated, shows_of}
-use Rattle.sl_tool.specs.Endings.{ending_of}
+use Rattle.sl_tool.specs.Endings.{Shown, ending_of, shown}
 use Rattle.sl_tool.specs.Generated.{generated_image}
-use Rattle.sl_tool.specs.Lines.{count_line}
+use Rattle.sl_tool.specs.Counts.{count_line}
 use Rattle.sl_tool.specs.Request.{CheckSpec, Generate, Request, Show, ShowImage, Listing, Operations, Run, spec_of}
-use Rattle.sl_base_surely.specs.Surely.{Surely}
-use Rattle.sl_tool.specs.Stage.{HasSomeResult}
-use Rattle.sl_tool.specs.Values.{Compiled, Loaded, Shown, shown}
-use Rattle.sl_tool.specs.declared.refusal.Refusal.{Refusal}
 use Rattle.sl_tool.specs.declared.status.Ending.TheVariants.{Done}
-use Rattle.sl_tool.proofs.ReadLemmas.{IsSpecified, specified}
+use Rattle.sl_tool_stages.specs.Stage.{HasSomeResult}
+use Rattle.sl_tool_stages.specs.Values.{Compiled, Loaded}
+use Rattle.sl_tool_stages.specs.declared.refusal.Refusal.{Refusal}
+use Rattle.sl_base_surely.specs.Surely.{Surely}
 use Rattle.sl_tool.proofs.RunLemmas.{line_of}
-use Rattle.sl_tool.proofs.StageLemmas.{loads_some, specifies_some}
-use Rattle.sl_tool.proofs.Thens.{then_some}
+use Rattle.sl_tool_stages.proofs.ReadLemmas.{IsSpecified, specified}
+use Rattle.sl_tool_stages.proofs.StageLemmas.{loads_some, specifies_some}
+use Rattle.sl_tool_stages.proofs.Thens.{then_some}
 
 -- ---- of a sound specification
 

@@ -1,5 +1,6 @@
 -- meaning: the answer to a request, and the files that it asks for.
-use Rattle.std.specs.Prelude.{◌≡◌, ℕ, ◌≤◌, List, [], ◌∷◌, ◌++◌, codes, length, Option, None, Some, Result, Ok, Err, if◌then◌else◌}
+use Rattle.std.specs.Prelude.{◌≡◌, ℕ, ◌≤◌, List, [], ◌∷◌, ◌++◌, codes, length}
+use Rattle.std.specs.Prelude.{Option, None, Some, Result, Ok, Err, if◌then◌else◌}
 use Rattle.std.specs.Str.{bytes_eq}
 use Rattle.sl_bind_compile.specs.Outcomes.{all_constructors}
 use Rattle.sl_tool_generator.specs.Specification.{specification}
@@ -8,20 +9,21 @@ use Rattle.sl_outside.specs.Causes.{Rose}
 use Rattle.sl_outside.specs.Folder.{Folder}
 use Rattle.sl_outside.specs.Uses.{Names, Asks, AsksFront}
 use Rattle.sl_preproc.specs.Asks.{AsksFor as AsksForText}
-use Rattle.sl_tool.specs.Endings.{ended}
+use Rattle.sl_tool.specs.Endings.{Shown, ended}
 use Rattle.sl_tool.specs.Generated.{AreFigures}
-use Rattle.sl_tool.specs.Lines.{count_line}
-use Rattle.sl_tool.specs.Problems.{refusal_text}
-use Rattle.sl_tool.specs.Request.{Request, CheckSpec, ShowImage, Generate, Show, Listing, Operations, Run, spec_of}
+use Rattle.sl_tool.specs.Counts.{count_line}
+use Rattle.sl_tool.specs.Request.{Request, CheckSpec, ShowImage, Generate, spec_of}
+use Rattle.sl_tool.specs.Request.{Show, Listing, Operations, Run}
 use Rattle.sl_tool.specs.Shows.{IsOperations, ShowsRun}
-use Rattle.sl_base_surely.specs.Surely.{Surely}
-use Rattle.sl_tool.specs.Stage.{Stage, Then}
-use Rattle.sl_tool.specs.Stages.{Loads, Specifies}
-use Rattle.sl_tool.specs.Values.{Compiled, Loaded, Shown}
-use Rattle.sl_tool.specs.declared.refusal.Refusal.{Refusal}
 use Rattle.sl_tool.specs.declared.status.Ending.TheVariants.{Done}
 use Rattle.sl_tool.specs.declared.status.Status.{Status}
 use Rattle.sl_tool.specs.declared.status.Status.TheVariants.{Refused}
+use Rattle.sl_tool_stages.specs.Problems.{refusal_text}
+use Rattle.sl_tool_stages.specs.Stage.{Stage, Then}
+use Rattle.sl_tool_stages.specs.Stages.{Loads, Specifies}
+use Rattle.sl_tool_stages.specs.Values.{Compiled, Loaded}
+use Rattle.sl_tool_stages.specs.declared.refusal.Refusal.{Refusal}
+use Rattle.sl_base_surely.specs.Surely.{Surely}
 
 -- ---- what is due
 
@@ -37,11 +39,13 @@ pub record ShowsText (Is : List ℕ → Type 0) (s : Shown) : Type 0 where
 
 -- what is due of a sound specification: how many tables and constructors there are
 abbrev pub counts_of : Compiled → Due
-counts_of c = ShowsText (λ text. text ≡ count_line (length c.tables.tables) (length c.tables.constructors))
+counts_of c = ShowsText
+    (λ text. text ≡ count_line (length c.tables.tables) (length c.tables.constructors))
 
 -- what is due of an image
 abbrev pub shows_of : Show → Loaded → Due
-shows_of Listing l = ShowsText (IsListing l.compiled.tables (all_constructors l.compiled.tree.items) l.image)
+shows_of Listing l = ShowsText
+    (IsListing l.compiled.tables (all_constructors l.compiled.tree.items) l.image)
 shows_of Operations l = ShowsText (IsOperations l)
 shows_of (Run steps) l = ShowsRun l steps
 
@@ -56,7 +60,8 @@ Shows due a (Err x) = ⊥
 
 -- ---- requests
 
--- What becomes of a sound specification, a line for each kind of request: what is shown, or a refusal.
+-- What becomes of a sound specification, a line for each kind of request: what is shown, or a
+-- refusal.
 abbrev pub Follows : Option Folder → Request → Stage Refusal Compiled Shown
 Follows told (CheckSpec spec) = Shows counts_of
 Follows told (ShowImage t what) = Then (Loads told t) (Shows (shows_of what))
@@ -101,11 +106,13 @@ asked_after (CheckSpec spec) = []
 asked_after (ShowImage t what) = t.image ∷ []
 asked_after (Generate size) = []
 
--- The names that a request asks its files for: those of the specification's text, and where that is sound what it asks for
--- then.
+-- The names that a request asks its files for: those of the specification's text, and where that is
+-- sound what it asks for then.
 pub data AsksFrom (told : Option Folder) (r : Request) : List (List ℕ) → Type 0 where
-  unsound : {names : List (List ℕ)} {x : Refusal} → AsksForText told (spec_of r) names → Specifies told (spec_of r) (Err x) → AsksFrom told r names
-  sound : (names : List (List ℕ)) {c : Compiled} → AsksForText told (spec_of r) names → Specifies told (spec_of r) (Ok c) → AsksFrom told r (names ++ asked_after r)
+  unsound : {names : List (List ℕ)} {x : Refusal} → AsksForText told (spec_of r) names
+      → Specifies told (spec_of r) (Err x) → AsksFrom told r names
+  sound : (names : List (List ℕ)) {c : Compiled} → AsksForText told (spec_of r) names
+      → Specifies told (spec_of r) (Ok c) → AsksFrom told r (names ++ asked_after r)
 
 -- The names that a request asks for. What is generated isn't asked for.
 abbrev pub AsksFor : Option Folder → Request → List (List ℕ) → Type 0
@@ -113,12 +120,14 @@ AsksFor told (CheckSpec spec) = AsksFrom told (CheckSpec spec)
 AsksFor told (ShowImage t what) = AsksFrom told (ShowImage t what)
 AsksFor told (Generate size) = λ names. names ≡ []
 
--- A call asks for the names that are due: for all of them, or, where it stops early, for the first of them. It fails only where
--- the count of faults rose. The folder stays as it is.
-pub record UsesFilesFor {F : Type 0} (told : F → Option Folder) (faults : F → ℕ) (asked : F → Names) (Asked : List (List ℕ) → Type 0) (old new : F)
-    (early fails : Type 0) : Type 0 where
+-- A call asks for the names that are due: for all of them, or, where it stops early, for the first
+-- of them. It fails only where the count of faults rose. The folder stays as it is.
+pub record UsesFilesFor {F : Type 0} (told : F → Option Folder) (faults : F → ℕ) (asked : F → Names)
+    (Asked : List (List ℕ) → Type 0) (old new : F) (early fails : Type 0) : Type 0 where
   pub same_folder : told new ≡ told old
   pub never_falls : faults old ≤ faults new
   pub failed : fails → Rose (faults old) (faults new)
-  pub asks_front : Surely ((names : List (List ℕ)) × Asked names × AsksFront (asked old) (asked new) names)
-  pub asks_all : (early → ⊥) → (names : List (List ℕ)) × Asked names × Asks (asked old) (asked new) names
+  pub asks_front : Surely
+      ((names : List (List ℕ)) × Asked names × AsksFront (asked old) (asked new) names)
+  pub asks_all : (early → ⊥)
+      → (names : List (List ℕ)) × Asked names × Asks (asked old) (asked new) names

@@ -1,9 +1,18 @@
--- meaning: the status of each ending.
-use Rattle.std.specs.Prelude.{Bool, true, false}
+-- meaning: what a command shows, and the status of each ending.
+use Rattle.std.specs.Prelude.{ℕ, List, Bool, true, false}
 use Rattle.sl_tool.specs.declared.status.Ending.{Ending}
 use Rattle.sl_tool.specs.declared.status.Ending.TheVariants as ending
 use Rattle.sl_tool.specs.declared.status.Status.{Status}
 use Rattle.sl_tool.specs.declared.status.Status.TheVariants as status
+
+-- how a command ends, what it writes, and how many operations of p-code ran whole
+pub record Shown : Type 0 where
+  pub ending : Ending
+  pub text : List ℕ
+  pub ran : ℕ
+
+abbrev pub shown : Ending → List ℕ → (ran : ℕ) → Shown
+shown ending text ran = record { ending = ending; text = text; ran = ran }
 
 abbrev pub ended : Ending → Status
 ended ending.Done = status.Done

@@ -4,25 +4,33 @@ use Rattle.std.specs.Io.KnownBytes.{Appends}
 use Rattle.sl_outside.specs.Folder.{Folder}
 use Rattle.sl_outside.specs.Uses.{Names, UsesFiles}
 use Rattle.sl_tool.specs.Answers.{Answers, AsksFor, UsesFilesFor, ran_of, status_of, text_of}
-use Rattle.sl_tool.specs.Request.{CheckSpec, Generate, Request, Show, ShowImage, Listing, Operations, Run, usage_line}
-use Rattle.sl_tool.specs.Values.{Shown}
-use Rattle.sl_tool.specs.declared.refusal.Refusal.{Refusal}
+use Rattle.sl_tool.specs.Request.{CheckSpec, Generate, Request, ShowImage, usage_line}
+use Rattle.sl_tool.specs.Request.{Show, Listing, Operations, Run}
+use Rattle.sl_tool.specs.Endings.{Shown}
 use Rattle.sl_tool.specs.declared.status.Status.{Status}
-use Rattle.sl_tool.specs.declared.status.Status.TheVariants.{Done, Refused, Usage, ReadFault, WriteFault, NoMemory, Stopped}
+use Rattle.sl_tool.specs.declared.status.Status.TheVariants.{Done, Refused, Usage, Stopped}
+use Rattle.sl_tool.specs.declared.status.Status.TheVariants.{ReadFault, WriteFault, NoMemory}
+use Rattle.sl_tool_stages.specs.declared.refusal.Refusal.{Refusal}
 
--- The status and the text that are due of a request, and how many operations run whole; or of words that are none.
+-- The status and the text that are due of a request, and how many operations run whole; or of words
+-- that are none.
 pub data Means (told : Option Folder) : Option Request → Status → List ℕ → (ran : ℕ) → Type 0 where
   usage : Means told None Usage usage_line 0
-  answer : {r : Request} {x : Result Shown Refusal} → Answers told r x → Means told (Some r) (status_of x) (text_of x) (ran_of x)
+  answer : {r : Request} {x : Result Shown Refusal} → Answers told r x
+      → Means told (Some r) (status_of x) (text_of x) (ran_of x)
 
 -- The whole text that is due with this status was written, and the count grew as it says.
-abbrev pub WritesWhole : Option Folder → Option Request → Option (List ℕ) → Option (List ℕ) → (Grown : ℕ → Type 0) → Status → Type 0
-WritesWhole told r old new Grown status = (text : List ℕ) × (ran : ℕ) × Means told r status text ran × Appends old new text × Grown ran
+abbrev pub WritesWhole : Option Folder → Option Request → Option (List ℕ) → Option (List ℕ)
+    → (Grown : ℕ → Type 0) → Status → Type 0
+WritesWhole told r old new Grown status = (text : List ℕ) × (ran : ℕ)
+    × Means told r status text ran × Appends old new text × Grown ran
 
 -- The first bytes of a text that is due were written, and the count grew as it says.
-abbrev pub WritesFirst : Option Folder → Option Request → Option (List ℕ) → Option (List ℕ) → (Grown : ℕ → Type 0) → Type 0
+abbrev pub WritesFirst : Option Folder → Option Request → Option (List ℕ) → Option (List ℕ)
+    → (Grown : ℕ → Type 0) → Type 0
 WritesFirst told r old new Grown =
-    (status : Status) × (text : List ℕ) × (ran : ℕ) × (count : ℕ) × Means told r status text ran × Appends old new (take count text) × Grown ran
+    (status : Status) × (text : List ℕ) × (ran : ℕ) × (count : ℕ)
+    × Means told r status text ran × Appends old new (take count text) × Grown ran
 
 -- It asks for files of the caller, as what is generated doesn't.
 abbrev pub ReadsFiles : Option Request → Type 0
@@ -44,9 +52,10 @@ RunsNothing (Some (CheckSpec spec)) = ⊤
 RunsNothing (Some (ShowImage t what)) = IsStill what
 RunsNothing (Some (Generate size)) = ⊥
 
--- What was written at each status, and how the count of operations grew; where memory ran out before anything was written,
--- it isn't told.
-abbrev pub Ends : Option Folder → Option Request → Option (List ℕ) → Option (List ℕ) → (Grown : ℕ → Type 0) → Status → Type 0
+-- What was written at each status, and how the count of operations grew; where memory ran out
+-- before anything was written, it isn't told.
+abbrev pub Ends : Option Folder → Option Request → Option (List ℕ) → Option (List ℕ)
+    → (Grown : ℕ → Type 0) → Status → Type 0
 Ends told r old new Grown Done = WritesWhole told r old new Grown Done
 Ends told r old new Grown Refused = WritesWhole told r old new Grown Refused
 Ends told r old new Grown Usage = WritesWhole told r old new Grown Usage
@@ -60,6 +69,10 @@ abbrev pub IsEarlyStatus : Status → Type 0
 IsEarlyStatus status = (status ≡ ReadFault) ⊎ (status ≡ NoMemory)
 
 -- What the call does to the files: without a request it asks for none.
-abbrev pub RunsFor : {F : Type 0} → (F → Option Folder) → (F → ℕ) → (F → Names) → Option Request → F → F → Status → Type 0
-RunsFor told faults asked None old new status = UsesFiles told faults asked old new [] ⊥ (status ≡ ReadFault)
-RunsFor told faults asked (Some r) old new status = UsesFilesFor told faults asked (AsksFor (told old) r) old new (IsEarlyStatus status) (status ≡ ReadFault)
+abbrev pub RunsFor : {F : Type 0} → (F → Option Folder) → (F → ℕ) → (F → Names) → Option Request
+    → F → F → Status → Type 0
+RunsFor told faults asked None old new status =
+    UsesFiles told faults asked old new [] ⊥ (status ≡ ReadFault)
+RunsFor told faults asked (Some r) old new status =
+    UsesFilesFor told faults asked (AsksFor (told old) r) old new
+    (IsEarlyStatus status) (status ≡ ReadFault)

@@ -7,8 +7,9 @@ use Rattle.sl_step_run.specs.Running.{HasRoom}
 use Rattle.sl_spec.specs.declared.tables.Tables.{Tables}
 use Rattle.sl_tool.specs.Generated.{AreFigures, shown_from, shown_lines}
 use Rattle.sl_tool.specs.Growth.{Grew}
-use Rattle.sl_tool.specs.Values.{Compiled, shown}
+use Rattle.sl_tool.specs.Endings.{shown}
 use Rattle.sl_tool.specs.declared.status.Ending.TheVariants.{Done}
+use Rattle.sl_tool_stages.specs.Values.{Compiled}
 
 -- The image fits the default space of the tables from address 0 on.
 abbrev pub ImageFits : Tables → (image : List ℕ) → Type 0

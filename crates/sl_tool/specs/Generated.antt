@@ -9,8 +9,9 @@ use Rattle.sl_step_run.specs.RunLines.{held}
 use Rattle.sl_step_run.specs.Running.{RunOutcome, RunsCountedTo}
 use Rattle.sl_spec.specs.Tables.{Register}
 use Rattle.sl_spec.specs.declared.tables.Tables.{Tables}
-use Rattle.sl_tool.specs.Values.{Compiled, Shown}
+use Rattle.sl_tool.specs.Endings.{Shown}
 use Rattle.sl_tool.specs.declared.status.Ending.TheVariants.{Done}
+use Rattle.sl_tool_stages.specs.Values.{Compiled}
 use Rattle.sl_word.specs.Memories.{Memory}
 use Rattle.sl_word.specs.declared.word.Size.{Size}
 

@@ -4,19 +4,19 @@ use Rattle.std.specs.Io.KnownBytes.{Appends}
 use Rattle.sl_outside.specs.Causes.{Rose}
 use Rattle.sl_outside.specs.Folder.{Folder}
 use Rattle.sl_tool.specs.Answers.{Answers, generated}
-use Rattle.sl_tool.specs.Endings.{ended}
+use Rattle.sl_tool.specs.Endings.{Shown, ended}
 use Rattle.sl_tool.specs.Ends.{Ends, ReadsFiles}
 use Rattle.sl_tool.specs.Growth.{Grew}
 use Rattle.sl_tool.specs.Request.{CheckSpec, Generate, Request, ShowImage, Listing, Operations, Run, spec_of}
-use Rattle.sl_base_surely.specs.Surely.{Surely}
-use Rattle.sl_tool.specs.Stage.{Then}
-use Rattle.sl_tool.specs.Stages.{Loads, Specifies}
-use Rattle.sl_tool.specs.Values.{Compiled, Loaded, Shown}
-use Rattle.sl_tool.specs.declared.refusal.Refusal.{Refusal}
 use Rattle.sl_tool.specs.declared.status.Ending.{Ending}
 use Rattle.sl_tool.specs.declared.status.Ending.TheVariants.{Done}
 use Rattle.sl_tool.specs.declared.status.Status.{Status}
 use Rattle.sl_tool.specs.declared.status.Status.TheVariants.{NoMemory, ReadFault, WriteFault}
+use Rattle.sl_tool_stages.specs.Stage.{Then}
+use Rattle.sl_tool_stages.specs.Stages.{Loads, Specifies}
+use Rattle.sl_tool_stages.specs.Values.{Compiled, Loaded}
+use Rattle.sl_tool_stages.specs.declared.refusal.Refusal.{Refusal}
+use Rattle.sl_base_surely.specs.Surely.{Surely}
 
 -- The same refusal, or the same ending and text. How many operations run in an instruction is another number for another
 -- list that does what the instruction does.

@@ -3,8 +3,8 @@ use Rattle.std.specs.Prelude.{◌≡◌, ℕ, Bool, List, Ok}
 use Rattle.sl_bind.specs.Binding.{Binds}
 use Rattle.sl_list_pcode.specs.Listing.{IsPcodeListing}
 use Rattle.sl_step_run.specs.Running.{IsCountedRunText}
-use Rattle.sl_tool.specs.Endings.{ending_of}
-use Rattle.sl_tool.specs.Values.{Loaded, Shown}
+use Rattle.sl_tool.specs.Endings.{Shown, ending_of}
+use Rattle.sl_tool_stages.specs.Values.{Loaded}
 use Rattle.sl_word.specs.declared.word.Size.{Size}
 
 -- The text lists the image with the operations of its instructions, by the sizes of the specification's sections.

@@ -4,22 +4,20 @@ ghost use Rattle.std.specs.Prelude.{◌≡◌, Some};
 ghost use Rattle.sl_outside.specs.Uses.{UsesSink};
 ghost use Rattle.sl_tool.specs.Answers.{Answers, AnswersFrom, AsksFor, AsksFrom, UsesFilesFor};
 ghost use Rattle.sl_tool.specs.Ends.{ReadsFiles, RunsNothing};
-ghost use Rattle.sl_tool.specs.Outcomes.{FailsToRead, FailsToWrite, IsEarly, Writes};
+ghost use Rattle.sl_tool.specs.Streams.{Writes};
 ghost use Rattle.sl_tool.specs.Growth.{Grew};
 ghost use Rattle.sl_tool.specs.Requests.{request as request_view};
+ghost use Rattle.sl_tool_stages.specs.Outcomes.{FailsToRead, FailsToWrite, IsEarly};
 
 use crate::check::check;
-use crate::compiled::Compiled;
 use crate::figures::figures;
 use crate::generated::generated;
-use crate::halt::Halt;
 use crate::request::Request;
 use crate::show::show;
-use crate::source::Source;
 use crate::status::Ending;
-use crate::tree::Tree;
 use sl_emu::Runner;
 use sl_outside::{Files, Sink};
+use sl_tool_stages::{Compiled, Halt, Source, Tree};
 use std::alloc::Global;
 
 /// Answers the request, and writes the answer. All files are read before the first byte is written.
@@ -31,7 +29,8 @@ pub fn answered<F: Files, K: Sink, R: Runner>(
     runner: &mut R,
 ) -> Result<Ending, Halt>
     ensures writes { Writes (Answers (F.told files.old) (request_view request.now))
-        (K.taken out.old) (K.taken out.new) (Grew (R.count runner.old) (R.count runner.new)) result }
+        (K.taken out.old) (K.taken out.new) (Grew (R.count runner.old) (R.count runner.new))
+        result }
     ensures files { UsesFilesFor F.told F.faults F.asked
         (AsksFor (F.told files.old) (request_view request.now)) files.old files.new
         (IsEarly result) (FailsToRead result) }
@@ -57,7 +56,8 @@ pub fn answered_from<F: Files, K: Sink, R: Runner>(
     runner: &mut R,
 ) -> Result<Ending, Halt>
     ensures writes { Writes (AnswersFrom (F.told files.old) (request_view request.now))
-        (K.taken out.old) (K.taken out.new) (Grew (R.count runner.old) (R.count runner.new)) result }
+        (K.taken out.old) (K.taken out.new) (Grew (R.count runner.old) (R.count runner.new))
+        result }
     ensures files { UsesFilesFor F.told F.faults F.asked
         (AsksFrom (F.told files.old) (request_view request.now)) files.old files.new
         (IsEarly result) (FailsToRead result) }

@@ -3,17 +3,16 @@
 ghost use Rattle.std.specs.Prelude.{◌≡◌, IfOk, length};
 ghost use Rattle.sl_outside.specs.Uses.{UsesSink};
 ghost use Rattle.sl_tool.specs.Answers.{counts_of};
-ghost use Rattle.sl_tool.specs.Lines.{count_line};
-ghost use Rattle.sl_tool.specs.Outcomes.{FailsToWrite, RanNone, Streams};
-ghost use Rattle.sl_tool.specs.StageViews.{compiled_view};
+ghost use Rattle.sl_tool.specs.Counts.{count_line};
+ghost use Rattle.sl_tool.specs.Streams.{RanNone, Streams};
+ghost use Rattle.sl_tool_stages.specs.Outcomes.{FailsToWrite};
+ghost use Rattle.sl_tool_stages.specs.StageViews.{compiled_view};
 
-use crate::compiled::Compiled;
-use crate::halt::Halt;
-use crate::lines::push_counted;
 use crate::status::Ending;
 use crate::writing::write_all;
 use sl_outside::Sink;
 use sl_spec::Tables;
+use sl_tool_stages::{Compiled, Halt, push_counted};
 use std::alloc::{AllocError, Global};
 
 /// Writes how many tables and constructors the specification has.

@@ -9,17 +9,14 @@ ghost use Rattle.sl_step.specs.Machines.{Fits};
 ghost use Rattle.sl_tool.specs.Answers.{figures_of};
 ghost use Rattle.sl_tool.specs.Figures.{ImageFits, IsFigured, IsListed};
 ghost use Rattle.sl_tool.specs.Generated.{figures_told, lines_behind, register_at, shown_lines};
-ghost use Rattle.sl_tool.specs.Outcomes.{FailsToWrite, Streams};
+ghost use Rattle.sl_tool.specs.Streams.{Streams};
 ghost use Rattle.sl_tool.specs.Growth.{Grew};
-ghost use Rattle.sl_tool.specs.StageViews.{compiled_view};
+ghost use Rattle.sl_tool_stages.specs.Outcomes.{FailsToWrite};
+ghost use Rattle.sl_tool_stages.specs.StageViews.{compiled_view};
 ghost use Rattle.sl_word.specs.Bytes.{byte_at};
 
-use crate::compiled::Compiled;
-use crate::halt::Halt;
-use crate::image::has_room;
 use crate::status::Ending;
 use crate::writing::write_all;
-use sl_bind_compile::Compiled as Specification;
 use sl_decode::address_size;
 use sl_emu::Runner;
 use sl_list_instructions::list_image;
@@ -27,6 +24,7 @@ use sl_outside::{MemSink, Sink};
 use sl_spec::Tables;
 use sl_step_run::{Execution, Machine, execute, held};
 use sl_tool_generator::{Figures, generated_image, push_line};
+use sl_tool_stages::{Compiled, Halt, has_room};
 use std::alloc::{AllocError, Global};
 
 /// Writes what the listing and the run of the generated image come to, by the specification.

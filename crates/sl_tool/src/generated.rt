@@ -4,17 +4,18 @@ ghost use Rattle.std.specs.Prelude.{◌≡◌, IfOk, None};
 ghost use Rattle.sl_outside.specs.Memory.{folder_of};
 ghost use Rattle.sl_outside.specs.Uses.{UsesSink};
 ghost use Rattle.sl_tool.specs.Answers.{Answers, generated};
-ghost use Rattle.sl_tool.specs.Outcomes.{FailsToRead, FailsToWrite, Writes};
+ghost use Rattle.sl_tool.specs.Streams.{Writes};
 ghost use Rattle.sl_tool.specs.Growth.{Grew};
 ghost use Rattle.sl_tool.specs.Request.{Generate};
+ghost use Rattle.sl_tool_stages.specs.Outcomes.{FailsToRead, FailsToWrite};
 
 use crate::answer::answered_from;
-use crate::halt::Halt;
 use crate::request::Request;
 use crate::status::Ending;
 use sl_emu::Runner;
 use sl_outside::{MemFiles, Sink};
 use sl_tool_generator::generated_specification;
+use sl_tool_stages::Halt;
 use std::alloc::{AllocError, Global};
 
 /// A folder with the generated specification alone.

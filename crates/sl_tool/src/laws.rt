@@ -2,9 +2,9 @@
 
 ghost use Rattle.sl_tool.specs.Laws.{AcceptedAreAnswered, HasOneAnswer, HasSomeAnswer, IsComplete};
 
-/// A request has one answer at most, where the folder is told or it is a `gen`: an ending and a text, or
-/// a refusal; but for the lists of operations that `pcode` prints, of which any may stand that does what
-/// is meant.
+/// A request has one answer at most, where the folder is told or it is a `gen`: an ending and a
+/// text, or a refusal; but for the lists of operations that `pcode` prints, of which any may stand
+/// that does what is meant.
 pub fn one_answer()
     ensures { HasOneAnswer }
 {}
@@ -14,8 +14,8 @@ pub fn some_answer()
     ensures { HasSomeAnswer }
 {}
 
-/// Where what a request names is accepted, it surely has an answer that is no refusal, and no other:
-/// it ends as done, or, where it runs an image, as done or as stopped.
+/// Where what a request names is accepted, it surely has an answer that is no refusal, and no
+/// other: it ends as done, or, where it runs an image, as done or as stopped.
 pub fn accepted_are_answered()
     ensures { AcceptedAreAnswered }
 {}

@@ -1,6 +1,6 @@
 //! What the words of the command line ask for.
 
-ghost use Rattle.std.specs.Prelude.{◌≡◌, IfOk, codes, map, option_map, string_bytes};
+ghost use Rattle.std.specs.Prelude.{◌≡◌, IfOk, map, option_map, string_bytes};
 ghost use Rattle.sl_tool_request.specs.Views.{request as asked_view};
 ghost use Rattle.sl_tool.specs.Request.{request_for, request_of, spec_of};
 ghost use Rattle.sl_tool.specs.Requests.{request};
@@ -57,7 +57,8 @@ fn request_for(asked: Asked<'_>) -> Request<'_>
 
 /// What the words, the program's name first, ask for.
 pub fn request_of<'a>(alloc: Global, words: &'a [String]) -> Result<Option<Request<'a>>, AllocError>
-    ensures { IfOk result (λ r. option_map request r ≡ request_of (map string_bytes words.entry.now)) }
+    ensures { IfOk result (λ r.
+        option_map request r ≡ request_of (map string_bytes words.entry.now)) }
 {
     match sl_tool_words::request_of(alloc, words)? {
         Some(asked) => Ok(Some(request_for(asked))),

@@ -6,20 +6,17 @@ ghost use Rattle.sl_outside.specs.Uses.{UsesFiles, UsesSink};
 ghost use Rattle.sl_tool_request.specs.Views.{target as target_view};
 ghost use Rattle.sl_tool.specs.Answers.{Shows, shows_of};
 ghost use Rattle.sl_tool.specs.Ends.{IsStill};
-ghost use Rattle.sl_tool.specs.Halts.{listed};
-ghost use Rattle.sl_tool.specs.Inputs.{IsLoaded};
-ghost use Rattle.sl_tool.specs.Outcomes.{FailsToRead, FailsToWrite, IsEarly, RanNone};
+ghost use Rattle.sl_tool.specs.Writing.{listed};
+ghost use Rattle.sl_tool.specs.Streams.{RanNone, Streams, Writes};
 ghost use Rattle.sl_tool.specs.Growth.{Grew};
-ghost use Rattle.sl_tool.specs.Outcomes.{Streams, Writes};
 ghost use Rattle.sl_tool.specs.Request.{Listing, Operations, Run};
 ghost use Rattle.sl_tool.specs.Requests.{show_of};
-ghost use Rattle.sl_tool.specs.Stage.{Then};
-ghost use Rattle.sl_tool.specs.Stages.{Loads};
-ghost use Rattle.sl_tool.specs.StageViews.{compiled_view, loaded_view};
+ghost use Rattle.sl_tool_stages.specs.Loaded.{IsLoaded};
+ghost use Rattle.sl_tool_stages.specs.Outcomes.{FailsToRead, FailsToWrite, IsEarly};
+ghost use Rattle.sl_tool_stages.specs.Stage.{Then};
+ghost use Rattle.sl_tool_stages.specs.Stages.{Loads};
+ghost use Rattle.sl_tool_stages.specs.StageViews.{compiled_view, loaded_view};
 
-use crate::compiled::Compiled;
-use crate::halt::Halt;
-use crate::loaded::Loaded;
 use crate::request::Show;
 use crate::status::{Ending, ending_of};
 use crate::writing::write_all;
@@ -29,10 +26,11 @@ use sl_list_pcode::list_pcode;
 use sl_outside::{Files, Sink};
 use sl_step_run::run_image;
 use sl_tool_request::Target;
+use sl_tool_stages::{Compiled, Halt, Loaded};
 use std::alloc::Global;
 
-/// Shows the target's image by the specification. `Loaded::read` is the last stage that has the files,
-/// and `show_image` the only one that has the sink.
+/// Shows the target's image by the specification. `Loaded::read` is the last stage that has the
+/// files, and `show_image` the only one that has the sink.
 pub fn show<F: Files, K: Sink, R: Runner>(
     alloc: Global,
     target: &Target<'_>,

@@ -4,32 +4,31 @@ ghost use Rattle.std.specs.Prelude.{◌≡◌, ◌≢◌, map, string_bytes};
 ghost use Rattle.sl_outside.specs.Uses.{UsesSink};
 ghost use Rattle.sl_tool.specs.Ends.{Ends, RunsFor, RunsNothing};
 ghost use Rattle.sl_tool.specs.Growth.{Grew};
-ghost use Rattle.sl_tool.specs.Problems.{refusal_text};
 ghost use Rattle.sl_tool.specs.Request.{request_of as request_meant};
 ghost use Rattle.sl_tool.specs.Writing.{IsWritten};
+ghost use Rattle.sl_tool_stages.specs.Problems.{refusal_text};
 
 use crate::answer::answered;
-use crate::halt::Halt;
-use crate::refusal::Refusal;
 use crate::request::request_of;
 use crate::status::{Status, ended};
 use crate::writing::write_all;
 use sl_emu::Runner;
 use sl_outside::{Files, Sink};
 use sl_tool_request::USAGE;
+use sl_tool_stages::{Halt, Refusal};
 use std::alloc::Global;
 
 /// Answers the words of a command line, the program's name first, from these files, and writes the
 /// answer to the sink.
 ///
-/// At `Done`, `Refused`, `Usage` and `Stopped` the whole text was written: the listing or the run, the
-/// lines that say why the specification or the image is refused, the usage line, or the run up to its
-/// fault. The runner's count grew by the operations of p-code that ran, which are none but at `run` and
-/// `gen`. At `ReadFault` nothing was written and nothing ran, and a fault of the files was counted in this
-/// call. At `WriteFault` the first bytes of the text were written, or none, the runner's count grew as for
-/// the whole text, and a fault of the sink was counted in this call. At `NoMemory` the same holds of the
-/// text and of the runner's count, or nothing was written. Whatever the status, the runner's count stays
-/// but at `run` and `gen`.
+/// At `Done`, `Refused`, `Usage` and `Stopped` the whole text was written: the listing or the run,
+/// the lines that say why the specification or the image is refused, the usage line, or the run up
+/// to its fault. The runner's count grew by the operations of p-code that ran, which are none but
+/// at `run` and `gen`. At `ReadFault` nothing was written and nothing ran, and a fault of the files
+/// was counted in this call. At `WriteFault` the first bytes of the text were written, or none, the
+/// runner's count grew as for the whole text, and a fault of the sink was counted in this call. At
+/// `NoMemory` the same holds of the text and of the runner's count, or nothing was written.
+/// Whatever the status, the runner's count stays but at `run` and `gen`.
 pub fn run_tool<F: Files, K: Sink, R: Runner>(
     alloc: Global,
     words: &[String],
@@ -38,8 +37,10 @@ pub fn run_tool<F: Files, K: Sink, R: Runner>(
     runner: &mut R,
 ) -> Status
     ensures ends { Ends (F.told files.old) (request_meant (map string_bytes words.now))
-        (K.taken out.old) (K.taken out.new) (Grew (R.count runner.old) (R.count runner.new)) result }
-    ensures files { RunsFor F.told F.faults F.asked (request_meant (map string_bytes words.now)) files.old files.new result }
+        (K.taken out.old) (K.taken out.new) (Grew (R.count runner.old) (R.count runner.new))
+        result }
+    ensures files { RunsFor F.told F.faults F.asked (request_meant (map string_bytes words.now))
+        files.old files.new result }
     ensures sink { UsesSink K.faults K.calls out.old out.new (result ≡ Status.WriteFault) }
     ensures unwritten { result ≡ Status.ReadFault → K.calls out.new ≡ K.calls out.old }
     ensures unrun { RunsNothing (request_meant (map string_bytes words.now))
@@ -62,7 +63,8 @@ pub fn run_tool<F: Files, K: Sink, R: Runner>(
 
 /// Writes the text of a refusal.
 fn refused<K: Sink>(alloc: Global, refusal: &Refusal, out: &mut K) -> Status
-    ensures whole { IsWritten (K.taken out.old) (K.taken out.new) (refusal_text refusal.now) Status.Refused result }
+    ensures whole { IsWritten (K.taken out.old) (K.taken out.new) (refusal_text refusal.now)
+        Status.Refused result }
     ensures sink { UsesSink K.faults K.calls out.old out.new (result ≡ Status.WriteFault) }
 {
     match refusal.text(alloc) {

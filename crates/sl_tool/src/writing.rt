@@ -4,12 +4,12 @@ ghost use Rattle.std.specs.Prelude.{OnOk, OnErr, IfErr};
 ghost use Rattle.std.specs.Io.KnownBytes.{Appends};
 ghost use Rattle.sl_list_instructions.specs.Fronts.{AppendsFront};
 ghost use Rattle.sl_outside.specs.Uses.{UsesSink};
-ghost use Rattle.sl_tool.specs.Outcomes.{FailsToWrite};
 ghost use Rattle.sl_tool.specs.Writing.{IsOfWriting};
+ghost use Rattle.sl_tool_stages.specs.Outcomes.{FailsToWrite};
 
-use crate::halt::Halt;
 use sl_list_instructions::ListError;
 use sl_outside::Sink;
+use sl_tool_stages::Halt;
 
 /// Writes the text, piece by piece. At an `Err` its first bytes were written, or none.
 pub fn write_all<K: Sink>(out: &mut K, text: &[u8]) -> Result<(), Halt>

@@ -4,19 +4,20 @@ use Rattle.sl_outside.specs.Folder.{Folder}
 use Rattle.sl_preproc.specs.Asks.{AsksFor as AsksForText}
 use Rattle.sl_tool_request.specs.Views.{target}
 use Rattle.sl_tool.specs.Answers.{AnswersFrom, Follows, Shows, asked_after, counts_of, figures_of, shows_of}
-use Rattle.sl_outside.specs.Uses.{UsesFiles}
 use Rattle.sl_tool.specs.Ends.{RunsNothing}
-use Rattle.sl_tool.specs.Outcomes.{FailsToRead, IsEarly}
 use Rattle.sl_tool.specs.Growth.{Grew}
 use Rattle.sl_tool.specs.Request.{spec_of}
 use Rattle.sl_tool.specs.Requests.{request, show_of}
-use Rattle.sl_tool.specs.SourceView.{source_view}
-use Rattle.sl_tool.specs.Stage.{Then}
-use Rattle.sl_tool.specs.Stage.Then.{stops, goes}
-use Rattle.sl_tool.specs.Stages.{Compiles, Expands, Loads, Parses, Reads, Specifies, Tokenizes}
-use Rattle.sl_tool.specs.StageViews.{compiled_view, tree_view}
 use Rattle.sl_tool.specs.declared.request.Request.{Request}
-use Rattle.sl_tool.proofs.AnsweredLemmas.{follows, gives_obtains, grew_none, idle, never_reads, show_unwritten, show_writes, stop_first, stop_second, stop_sink, stop_writes, streams_alike, writes_map}
+use Rattle.sl_tool_stages.specs.Outcomes.{FailsToRead, IsEarly}
+use Rattle.sl_tool_stages.specs.SourceView.{source_view}
+use Rattle.sl_tool_stages.specs.Stage.{Then}
+use Rattle.sl_tool_stages.specs.Stage.Then.{stops, goes}
+use Rattle.sl_tool_stages.specs.Stages.{Compiles, Expands, Loads, Parses, Reads, Specifies, Tokenizes}
+use Rattle.sl_tool_stages.specs.StageViews.{compiled_view, tree_view}
+use Rattle.sl_outside.specs.Uses.{UsesFiles}
+use Rattle.sl_tool.proofs.AnsweredLemmas.{follows, grew_none, idle, never_reads, show_unwritten, show_writes, stop_first, stop_second, stop_sink, stop_writes, streams_alike, writes_map}
+use Rattle.sl_tool_stages.proofs.HaltLemmas.{gives_obtains}
 use Rattle.sl_tool.proofs.answer.answered_from.Goals as goal
 
 -- ---- the text has no expansion

@@ -2,12 +2,12 @@ use Rattle.std.proofs.Common.{◌≡◌, ℕ, List, length, refl, subst, ◌∙�
 use Rattle.std.proofs.lemmas.Result.{err_from_is_err_and}
 use Rattle.sl_list_instructions.specs.Fronts.{AppendsFront}
 use Rattle.sl_tool.specs.Answers.{counts_of}
-use Rattle.sl_tool.specs.Outcomes.{RanNone}
-use Rattle.sl_tool.specs.StageViews.{compiled_view}
-use Rattle.sl_tool.specs.Values.{shown}
+use Rattle.sl_tool.specs.Streams.{RanNone}
+use Rattle.sl_tool.specs.Endings.{shown}
 use Rattle.sl_tool.specs.declared.status.Ending.TheVariants.{Done}
+use Rattle.sl_tool.specs.Counts.{count_line}
+use Rattle.sl_tool_stages.specs.StageViews.{compiled_view}
 use Rattle.sl_tool.proofs.ShowLemmas.{told_so, written_front}
-use Rattle.sl_tool.specs.Lines.{count_line}
 use Rattle.sl_tool.proofs.check.check.Goals as goal
 
 pub returns-in_err-write_all-clause-streams : goal.returns-in_err-write_all-clause-streams

@@ -1,7 +1,7 @@
 use Rattle.std.proofs.Common.{ap, length}
 use Rattle.std.specs.Prelude.{codes}
 use Rattle.std.specs.Fmt.{decimal}
-use Rattle.sl_tool.proofs.LineLemmas.{two_counts}
+use Rattle.sl_tool.proofs.CountLemmas.{two_counts}
 use Rattle.sl_tool.proofs.check.count_line.Goals as goal
 
 pub returns : goal.returns

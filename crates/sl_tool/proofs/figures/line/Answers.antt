@@ -6,7 +6,7 @@ use Rattle.sl_tool_generator.specs.declared.line.Figures.{Figures}
 use Rattle.sl_step_run.specs.Executing.{Executes}
 use Rattle.sl_section_sizes.specs.Sizings.{lists_of}
 use Rattle.sl_tool.specs.Figures.{IsListed}
-use Rattle.sl_tool.specs.StageViews.{compiled_view}
+use Rattle.sl_tool_stages.specs.StageViews.{compiled_view}
 use Rattle.sl_tool.proofs.FigureLemmas.{figures_due, registers_lie}
 use Rattle.sl_tool.proofs.figures.line.Goals as goal
 

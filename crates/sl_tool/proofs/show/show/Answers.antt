@@ -4,10 +4,10 @@ use Rattle.sl_tool_request.specs.Views.{target}
 use Rattle.sl_tool.specs.Answers.{Shows, shows_of}
 use Rattle.sl_tool.specs.Growth.{Grew}
 use Rattle.sl_tool.specs.Requests.{show_of}
-use Rattle.sl_tool.specs.Stage.{Then}
-use Rattle.sl_tool.specs.Stage.Then.{stops, goes}
-use Rattle.sl_tool.specs.Stages.{Loads}
-use Rattle.sl_tool.specs.StageViews.{compiled_view, loaded_view}
+use Rattle.sl_tool_stages.specs.Stage.{Then}
+use Rattle.sl_tool_stages.specs.Stage.Then.{stops, goes}
+use Rattle.sl_tool_stages.specs.Stages.{Loads}
+use Rattle.sl_tool_stages.specs.StageViews.{compiled_view, loaded_view}
 use Rattle.sl_tool.proofs.AnsweredLemmas.{grew_none, read_all, show_unwritten, show_writes, stop_sink, stop_writes, writes_map}
 use Rattle.sl_tool.proofs.show.show.Goals as goal
 

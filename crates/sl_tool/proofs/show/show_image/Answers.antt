@@ -1,12 +1,12 @@
 use Rattle.std.proofs.Common.{subst, sym}
 use Rattle.sl_tool.specs.Answers.{shows_of}
 use Rattle.sl_tool.specs.Ends.{IsStill}
-use Rattle.sl_tool.specs.Outcomes.{Streams}
+use Rattle.sl_tool.specs.Streams.{Streams}
 use Rattle.sl_tool.specs.Growth.{Grew}
 use Rattle.sl_tool.specs.Request.{Listing, Operations}
 use Rattle.sl_tool.specs.Requests.{show_of}
-use Rattle.sl_tool.specs.StageViews.{loaded_view}
 use Rattle.sl_tool.specs.declared.request.Show.{Show}
+use Rattle.sl_tool_stages.specs.StageViews.{loaded_view}
 use Rattle.sl_tool.proofs.AnsweredLemmas.{streams_alike}
 use Rattle.sl_tool.proofs.show.show_image.Goals as goal
 

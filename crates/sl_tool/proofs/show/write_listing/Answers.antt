@@ -3,12 +3,13 @@ use Rattle.sl_bind_compile.specs.Outcomes.{all_constructors}
 use Rattle.sl_list_instructions.specs.Listing.{image_from}
 use Rattle.sl_list_instructions.specs.Writing.{Writes}
 use Rattle.sl_tool.specs.Answers.{shows_of}
-use Rattle.sl_tool.specs.Outcomes.{FailsToWrite, RanNone, Streams}
+use Rattle.sl_tool.specs.Streams.{RanNone, Streams}
 use Rattle.sl_tool.specs.Request.{Listing}
-use Rattle.sl_tool.specs.StageViews.{loaded_view}
-use Rattle.sl_outside.specs.Uses.{UsesSink}
-use Rattle.sl_tool.specs.declared.halt.Halt.{Halt}
 use Rattle.sl_tool.specs.declared.status.Ending.{Ending}
+use Rattle.sl_tool_stages.specs.Outcomes.{FailsToWrite}
+use Rattle.sl_tool_stages.specs.StageViews.{loaded_view}
+use Rattle.sl_tool_stages.specs.declared.halt.Halt.{Halt}
+use Rattle.sl_outside.specs.Uses.{UsesSink}
 use Rattle.sl_tool.proofs.ShowLemmas.{listed_sink, listed_streams}
 use Rattle.sl_tool.proofs.show.write_listing.Goals as goal
 

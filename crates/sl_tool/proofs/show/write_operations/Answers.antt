@@ -4,11 +4,12 @@ use Rattle.sl_outside.specs.Uses.{UsesSink}
 use Rattle.sl_list_pcode.specs.Writing.{Writes}
 use Rattle.sl_section_sizes.specs.Sizings.{lists_of}
 use Rattle.sl_tool.specs.Answers.{shows_of}
-use Rattle.sl_tool.specs.Outcomes.{FailsToWrite, RanNone, Streams}
+use Rattle.sl_tool.specs.Streams.{RanNone, Streams}
 use Rattle.sl_tool.specs.Request.{Operations}
-use Rattle.sl_tool.specs.StageViews.{loaded_view}
-use Rattle.sl_tool.specs.declared.halt.Halt.{Halt}
 use Rattle.sl_tool.specs.declared.status.Ending.{Ending}
+use Rattle.sl_tool_stages.specs.Outcomes.{FailsToWrite}
+use Rattle.sl_tool_stages.specs.StageViews.{loaded_view}
+use Rattle.sl_tool_stages.specs.declared.halt.Halt.{Halt}
 use Rattle.sl_tool.proofs.ShowLemmas.{listed_sink, printed_streams}
 use Rattle.sl_tool.proofs.show.write_operations.Goals as goal
 

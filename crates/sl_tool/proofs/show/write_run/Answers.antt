@@ -5,11 +5,10 @@ use Rattle.sl_list_instructions.specs.Listing.{image_from}
 use Rattle.sl_step_run.specs.Executing.{RunsAs}
 use Rattle.sl_section_sizes.specs.Sizings.{lists_of}
 use Rattle.sl_tool.specs.Answers.{shows_of}
-use Rattle.sl_tool.specs.Endings.{ending_of}
+use Rattle.sl_tool.specs.Endings.{ending_of, shown}
 use Rattle.sl_tool.specs.Growth.{Grew}
 use Rattle.sl_tool.specs.Request.{Run}
-use Rattle.sl_tool.specs.StageViews.{loaded_view}
-use Rattle.sl_tool.specs.Values.{shown}
+use Rattle.sl_tool_stages.specs.StageViews.{loaded_view}
 use Rattle.sl_tool.proofs.ShowLemmas.{written_front}
 use Rattle.sl_tool.proofs.show.write_run.Goals as goal
 

@@ -5,15 +5,15 @@ use Rattle.std.specs.Option.{option_map}
 use Rattle.sl_tool.specs.Answers.{Answers, AsksFor, UsesFilesFor}
 use Rattle.sl_tool.specs.Ends.{Ends, Means, ReadsFiles, RunsFor, RunsNothing}
 use Rattle.sl_tool.specs.Ends.Means.{usage, answer}
-use Rattle.sl_tool.specs.Outcomes.{IsReadFault, StopsEarly}
 use Rattle.sl_tool.specs.Growth.{Grew}
-use Rattle.sl_tool.specs.Problems.{refusal_text}
 use Rattle.sl_tool.specs.Request.{Request, request_of}
 use Rattle.sl_tool.specs.Requests.{request}
-use Rattle.sl_tool.specs.declared.halt.Halt.{Halt}
-use Rattle.sl_tool.specs.declared.halt.Halt.TheVariants as halt
 use Rattle.sl_tool.specs.declared.status.Status.{Status}
 use Rattle.sl_tool.specs.declared.status.Status.TheVariants.{Usage, Refused, ReadFault, WriteFault, NoMemory}
+use Rattle.sl_tool_stages.specs.Outcomes.{IsReadFault, StopsEarly}
+use Rattle.sl_tool_stages.specs.Problems.{refusal_text}
+use Rattle.sl_tool_stages.specs.declared.halt.Halt.{Halt}
+use Rattle.sl_tool_stages.specs.declared.halt.Halt.TheVariants as halt
 use Rattle.sl_tool.proofs.AnsweredLemmas.{grew_none}
 use Rattle.sl_tool.proofs.EndLemmas.{ends_ended, ends_fault, ends_memory, ends_written, refused_uses, unread, unused, writes_at, written_after, written_reads}
 use Rattle.sl_tool.proofs.tool.run_tool.Goals as goal

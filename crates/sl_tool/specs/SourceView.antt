@@ -1,7 +1,0 @@
--- step: the expanded text as a value of the first stage.
-use Rattle.sl_preproc.specs.Expanded.{seen}
-use Rattle.sl_tool.specs.Values as values
-use Rattle.sl_tool.specs.declared.source.Source.{Source}
-
-abbrev pub source_view : Source → values.Source
-source_view s = values.source s.name.now (seen s.expanded)

@@ -1,8 +1,0 @@
--- step: tokens as a value of the second stage.
-use Rattle.sl_lex.specs.Views.{views}
-use Rattle.sl_tool.specs.SourceView.{source_view}
-use Rattle.sl_tool.specs.Values as values
-use Rattle.sl_tool.specs.declared.tokens.Tokens.{Tokens}
-
-abbrev pub tokens_view : Tokens → values.Tokens
-tokens_view k = values.tokens (source_view k.source.now) (views k.tokens.items)

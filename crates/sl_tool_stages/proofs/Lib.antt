@@ -1,0 +1,12 @@
+pub mod LineLemmas
+pub mod CompiledLemmas
+pub mod Thens
+pub mod ExpandLemmas
+pub mod PlaceLemmas
+pub mod TokenLemmas
+pub mod SoundTexts
+pub mod NameLemmas
+pub mod ImageLemmas
+pub mod StageLemmas
+pub mod HaltLemmas
+pub mod ReadLemmas

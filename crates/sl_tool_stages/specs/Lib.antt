@@ -1,0 +1,12 @@
+pub mod Stage
+pub mod Lines
+pub mod Problems
+pub mod Values
+pub mod Places
+pub mod Stages
+pub mod Outcomes
+pub mod SourceView
+pub mod TokensView
+pub mod StageViews
+pub mod Halts
+pub mod Loaded

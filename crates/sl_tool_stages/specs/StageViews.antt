@@ -1,0 +1,22 @@
+-- view: the later stages as values.
+use Rattle.sl_ast.specs.Views.{items_of}
+use Rattle.sl_list_instructions.specs.Listing as listing
+use Rattle.sl_list_instructions.specs.Listing.{image_from}
+use Rattle.sl_tool_stages.specs.TokensView.{tokens_view}
+use Rattle.sl_tool_stages.specs.Values as values
+use Rattle.sl_tool_stages.specs.declared.tree.Tree.{Tree}
+use Rattle.sl_tool_stages.specs.declared.compiled.Compiled.{Compiled}
+use Rattle.sl_tool_stages.specs.declared.loaded.Image.{Image}
+use Rattle.sl_tool_stages.specs.declared.loaded.Loaded.{Loaded}
+
+abbrev pub tree_view : Tree → values.Tree
+tree_view t = values.tree (tokens_view t.tokens) (items_of t.spec)
+
+abbrev pub compiled_view : Compiled → values.Compiled
+compiled_view c = values.compiled (values.tree (tokens_view c.tokens) (items_of c.specification.bound.spec)) c.specification.bound.tables
+
+abbrev pub image_view : Image → listing.Image
+image_view i = image_from i.bytes.items i.base i.start
+
+abbrev pub loaded_view : Loaded → values.Loaded
+loaded_view l = values.loaded (compiled_view l.compiled) (image_view l.image)

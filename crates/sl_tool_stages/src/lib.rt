@@ -1,0 +1,47 @@
+//! The stages that a request goes through before anything is shown of it.
+//!
+//! [`Source`] is the text that the main file of a specification expands to, [`Tokens`] are its
+//! tokens, [`Tree`] is the tree that they spell, and [`Compiled`] has the tables of that tree,
+//! which are sound. [`Loaded`] has an [`Image`] beside them: bytes, where they lie in memory, and
+//! the context. Each is made by its call `read` and keeps the one before, so that the place of a
+//! token can still be told:
+//!
+//! ```text
+//! let source = Source::read(alloc, name, files)?;
+//! let tree = Tree::read(alloc, &source)?;
+//! let compiled = Compiled::read(alloc, tree)?;
+//! let loaded = Loaded::read(alloc, target, compiled, files)?;
+//! ```
+//!
+//! Where a stage gives nothing, a [`Halt`] says why. Of a specification, an image or a word for the
+//! context that is refused it has a [`Refusal`]: the line of a file or the name of a field, and the
+//! [`Problem`] there. Its text is what the tool prints of it.
+//!
+//! `specs/Stages.antt` says what each stage makes of the one before, `specs/Outcomes.antt` what its
+//! call promises of that, and `specs/Problems.antt` what is printed of each refusal.
+#![tactic(auto)]
+
+mod compiled;
+mod fetched;
+mod halt;
+mod image;
+mod lines;
+mod loaded;
+mod place;
+mod problem;
+mod refusal;
+mod source;
+mod tokens;
+mod tree;
+
+pub use compiled::Compiled;
+pub use halt::Halt;
+pub use image::has_room;
+pub use lines::push_counted;
+pub use loaded::{Image, Loaded};
+pub use place::{Name, Place};
+pub use problem::{Conflict, Problem};
+pub use refusal::{Refusal, Subject};
+pub use source::Source;
+pub use tokens::Tokens;
+pub use tree::Tree;

@@ -1,0 +1,121 @@
+//! Refusals, and the text that is printed of them.
+
+ghost use Rattle.std.specs.Prelude.{◌≡◌, ◌++◌, IfOk, OnOk};
+ghost use Rattle.sl_tool_stages.specs.Problems.{apart_lines, lines_after, point_line};
+ghost use Rattle.sl_tool_stages.specs.Problems.{report_lines, subject_text};
+
+use crate::lines::{push_place, push_point};
+use crate::place::{Name, Place};
+use crate::problem::{Conflict, Problem, push_words};
+use sl_bind_compile::Apart;
+use sl_cube::Point;
+use std::alloc::{AllocError, Global};
+
+/// What a refusal speaks of.
+#[derive(Debug, Drop)]
+pub enum Subject {
+    /// A line of a file.
+    Line(Place),
+    /// A context field that a word names.
+    Field(Name),
+}
+
+/// What is refused: the place or the field, and the problem there.
+#[derive(Debug, Drop)]
+pub struct Refusal {
+    /// The line of a file, or the field of the context.
+    pub subject: Subject,
+    /// What is wrong with it.
+    pub problem: Problem,
+}
+
+impl Refusal {
+    ghost use Rattle.std.specs.Prelude.{◌≡◌, IfOk};
+    ghost use Rattle.sl_tool_stages.specs.Problems.{refusal, refusal_of_field, refusal_text};
+
+    /// The refusal of a whole file, which is its line 0.
+    pub fn of_file(alloc: Global, file: &str, problem: Problem) -> Result<Self, AllocError>
+        ensures { IfOk result (λ x. x ≡ refusal file.now 0 problem) }
+    {
+        let file = Name::copied(alloc, file)?;
+        let subject = Subject::Line(Place { file, line: 0 });
+        Ok(Refusal { subject, problem })
+    }
+
+    /// The refusal of the context field of this name.
+    pub fn of_field(alloc: Global, name: &str, problem: Problem) -> Result<Self, AllocError>
+        ensures { IfOk result (λ x. x ≡ refusal_of_field name.now problem) }
+    {
+        let name = Name::copied(alloc, name)?;
+        let subject = Subject::Field(name);
+        Ok(Refusal { subject, problem })
+    }
+
+    /// The text that is printed of it, whole lines: the subject with the words of the problem, and
+    /// for a conflict the lines of its report.
+    pub fn text(&self, alloc: Global) -> Result<Vec<u8>, AllocError>
+        ensures { IfOk result (λ text. text.items ≡ refusal_text self.now) }
+    {
+        let mut out = Vec::new(alloc);
+        push_subject(&mut out, &self.subject)?;
+        out.extend_from_slice(b": ")?;
+        push_words(&mut out, &self.problem)?;
+        out.extend_from_slice(b"\n")?;
+        push_after(&mut out, &self.problem)?;
+        Ok(out)
+    }
+}
+
+/// Appends a line of a file, or the name of a context field.
+fn push_subject(out: &mut Vec<u8>, subject: &Subject) -> Result<(), AllocError>
+    ensures { OnOk result (out.new.items ≡ out.old.items ++ subject_text subject.now) }
+{
+    match subject {
+        Subject::Line(place) => push_place(out, place),
+        Subject::Field(name) => out.extend_from_slice(name.as_bytes()),
+    }
+}
+
+/// Appends a line with a point after its name.
+fn push_named_point(out: &mut Vec<u8>, name: &[u8], point: &Point) -> Result<(), AllocError>
+    ensures { OnOk result (out.new.items ≡ out.old.items ++ point_line name.now point.now) }
+{
+    out.extend_from_slice(name)?;
+    out.extend_from_slice(b" ")?;
+    push_point(out, point)?;
+    out.extend_from_slice(b"\n")
+}
+
+/// Appends the lines that say how the sets of two constructors differ.
+fn push_apart(out: &mut Vec<u8>, apart: &Apart) -> Result<(), AllocError>
+    ensures { OnOk result (out.new.items ≡ out.old.items ++ apart_lines apart.now) }
+{
+    match apart {
+        Apart::Same => out.extend_from_slice(b"same\n"),
+        Apart::Two {
+            only_first,
+            only_second,
+        } => {
+            push_named_point(out, b"first", only_first)?;
+            push_named_point(out, b"second", only_second)
+        }
+    }
+}
+
+/// Appends the report of a conflict.
+fn push_report(out: &mut Vec<u8>, conflict: &Conflict) -> Result<(), AllocError>
+    ensures { OnOk result (out.new.items ≡ out.old.items ++ report_lines conflict.now) }
+{
+    push_named_point(out, b"both", &conflict.both)?;
+    push_apart(out, &conflict.apart)
+}
+
+/// Appends what is printed after the line of the problem.
+fn push_after(out: &mut Vec<u8>, problem: &Problem) -> Result<(), AllocError>
+    ensures { OnOk result (out.new.items ≡ out.old.items ++ lines_after problem.now) }
+{
+    match problem {
+        Problem::Ambiguous(conflict) => push_report(out, conflict),
+        _ => Ok(()),
+    }
+}
