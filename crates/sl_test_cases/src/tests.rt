@@ -1,24 +1,20 @@
-//! Worked cases, in tables, crate by crate. What each of them expects was reckoned by hand.
+//! Worked cases, in tables, crate by crate.
 
 mod blocks;
 mod choose;
 mod constraints;
 mod contexts;
 mod cube;
-mod directive;
-mod emu;
+mod cube_sets;
+mod cubes;
 mod generator;
 mod heights;
 mod levels;
 mod lex;
-mod list;
 mod outside;
 mod pcode;
 mod preproc;
-mod request;
 mod rules;
-mod settle;
 mod shapes;
 mod sizes;
-mod sizing;
 mod word;

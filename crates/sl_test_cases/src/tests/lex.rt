@@ -1,6 +1,5 @@
-use sl_lex::LexError::{BadByte, OpenString, WideInteger};
 use sl_lex::TokKind::{Blank, Caret, Char, Integer, Mark, Text, Word};
-use sl_lex::{LexError, TokKind, lex};
+use sl_lex::{TokKind, lex};
 use std::test::Fail;
 
 /// A text, and its tokens by kind and by length in bytes.
@@ -91,22 +90,6 @@ static READ: [(&[u8], &[(TokKind, usize)]); 14] = [
     ),
 ];
 
-/// A text, and its first bad place.
-static REFUSED: [(&[u8], LexError); 12] = [
-    (b"a$b", BadByte(1)),
-    (b"a\x80", BadByte(1)),
-    (b":\x00", BadByte(1)),
-    (b":\"", OpenString(1)),
-    (b"attach names f \"a", OpenString(15)),
-    (b"\"a\n\x80\"", OpenString(0)),
-    (b"\"a\x80\n", BadByte(2)),
-    (b"\"a\r\n", BadByte(2)),
-    (b" 18446744073709551616 $", WideInteger(1)),
-    (b"0x10000000000000000", WideInteger(0)),
-    (b"$ 18446744073709551616", BadByte(0)),
-    (b"define;@", BadByte(7)),
-];
-
 #[test]
 fn tokens_of_texts(rt: HostRuntime) -> Result<(), Fail> {
     for (text, tokens) in &READ {
@@ -118,11 +101,4 @@ fn tokens_of_texts(rt: HostRuntime) -> Result<(), Fail> {
         }
     }
     Ok(())
-}
-
-#[test]
-fn first_bad_places(rt: HostRuntime) {
-    for (text, error) in &REFUSED {
-        assert_eq!(rt; lex(rt.alloc(), text).err(), Some(*error));
-    }
 }

@@ -1,10 +1,8 @@
-//! Files that can't be read, and a sink that gives up.
+//! Reads and writes that fail one by one.
 
-use super::calls::command;
-use sl_emu::Emu;
+use super::calls::called;
 use sl_outside::{MemFiles, MemSink};
-use sl_tool::{Status, run_tool};
-use std::alloc::{AllocError, Global};
+use sl_tool::Status;
 use std::test::Fail;
 
 static SPEC: &[u8] = b"@include \"b\"
@@ -16,79 +14,39 @@ define space ram type=ram_space size=2 default;
 define token t (8) a=(4,7);
 ";
 
-/// The listing of the image.
-const LISTING: &str = "0000: 16 add\n";
-
-/// The main file, the one that it includes, and the image.
-fn folder(alloc: Global) -> Result<MemFiles, AllocError> {
-    let mut files = MemFiles::new(alloc);
-    files.add("s", SPEC)?;
-    files.add("b", DEFINITIONS)?;
-    files.add("i", b"\x16")?;
-    Ok(files)
-}
-
-/// The fetch that fails, how the call ends, and what it writes.
-static READS: [(u64, Status, &str); 5] = [
-    (1, Status::ReadFault, ""),
-    (2, Status::ReadFault, ""),
-    (3, Status::ReadFault, ""),
-    (4, Status::Done, LISTING),
-    (0, Status::Done, LISTING),
+/// The fetch and the put that fail, of which there is no 0th; how many bytes the sink takes; how the call ends; and how
+/// many bytes of the listing are written.
+static ROWS: [(u64, u64, u64, Status, usize); 12] = [
+    (1, 0, 99, Status::ReadFault, 0),
+    (2, 0, 99, Status::ReadFault, 0),
+    (3, 0, 99, Status::ReadFault, 0),
+    (4, 0, 99, Status::Done, 13),
+    (0, 0, 99, Status::Done, 13),
+    (0, 1, 99, Status::WriteFault, 0),
+    (0, 2, 99, Status::Done, 13),
+    (0, 0, 0, Status::WriteFault, 0),
+    (0, 0, 1, Status::WriteFault, 1),
+    (0, 0, 12, Status::WriteFault, 12),
+    (0, 0, 13, Status::Done, 13),
+    (3, 1, 0, Status::ReadFault, 0),
 ];
 
 #[test]
-fn nothing_is_written_at_a_read_fault(rt: HostRuntime) -> Result<(), Fail> {
+fn a_prefix_is_written_at_a_fault(rt: HostRuntime) -> Result<(), Fail> {
     let alloc = rt.alloc();
-    let words = command(alloc, &["list", "s", "i"])?;
-    for (failing, ends, text) in &READS {
-        let mut files = folder(alloc)?;
-        files.fail_on(*failing)?;
+    for (fetch, put, room, status, written) in &ROWS {
+        let mut files = MemFiles::new(alloc);
+        files.add("s", SPEC)?;
+        files.add("b", DEFINITIONS)?;
+        files.add("i", b"\x16")?;
+        files.fail_on(*fetch)?;
         let mut out = MemSink::new(alloc);
-        let mut runner = Emu { count: 0 };
-        let status = run_tool(alloc, words.as_slice(), &mut files, &mut out, &mut runner);
-        assert_eq!(rt; status, *ends, "{failing}");
-        assert_eq!(rt; out.bytes(), text.as_bytes(), "{failing}");
-    }
-    Ok(())
-}
-
-/// How many bytes the sink takes, how the call ends, and what was taken.
-static WRITES: [(u64, Status, &str); 6] = [
-    (0, Status::WriteFault, ""),
-    (1, Status::WriteFault, "0"),
-    (5, Status::WriteFault, "0000:"),
-    (12, Status::WriteFault, "0000: 16 add"),
-    (13, Status::Done, LISTING),
-    (14, Status::Done, LISTING),
-];
-
-#[test]
-fn a_front_is_written_at_a_write_fault(rt: HostRuntime) -> Result<(), Fail> {
-    let alloc = rt.alloc();
-    let words = command(alloc, &["list", "s", "i"])?;
-    for (room, ends, text) in &WRITES {
-        let mut files = folder(alloc)?;
-        let mut out = MemSink::new(alloc);
+        out.fail_on(*put)?;
         out.room(*room);
-        let mut runner = Emu { count: 0 };
-        let status = run_tool(alloc, words.as_slice(), &mut files, &mut out, &mut runner);
-        assert_eq!(rt; status, *ends, "{room}");
-        assert_eq!(rt; out.bytes(), text.as_bytes(), "{room}");
+        let (ended, _count) = called(alloc, &["sleigh", "list", "s", "i"], &mut files, &mut out)?;
+        assert!(rt; ended == *status, "{fetch} {put} {room}");
+        let listing = b"0000: 16 add\n".iter().take(*written);
+        assert!(rt; out.bytes().iter().eq(listing), "{fetch} {put} {room}");
     }
-    Ok(())
-}
-
-#[test]
-fn the_first_put_fails(rt: HostRuntime) -> Result<(), Fail> {
-    let alloc = rt.alloc();
-    let words = command(alloc, &["list", "s", "i"])?;
-    let mut files = folder(alloc)?;
-    let mut out = MemSink::new(alloc);
-    out.fail_on(1)?;
-    let mut runner = Emu { count: 0 };
-    let status = run_tool(alloc, words.as_slice(), &mut files, &mut out, &mut runner);
-    assert_eq!(rt; status, Status::WriteFault);
-    assert_eq!(rt; out.bytes(), b"".as_slice());
     Ok(())
 }
