@@ -1,0 +1,4 @@
+pub mod ListLemmas
+pub mod HoleLemmas
+pub mod FindingLemmas
+pub mod GapLemmas

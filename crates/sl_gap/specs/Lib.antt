@@ -1,0 +1,3 @@
+pub mod Holes
+pub mod Reports
+pub mod Findings
