@@ -1,0 +1,5 @@
+pub mod PickLemmas
+pub mod WantedLemmas
+mod AssembleLemmas
+pub mod RootLemmas
+pub mod RootsLemmas

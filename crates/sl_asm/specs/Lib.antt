@@ -1,0 +1,5 @@
+pub mod Regions
+pub mod Roots
+pub mod Rooted
+pub mod Wanted
+pub mod Assembling

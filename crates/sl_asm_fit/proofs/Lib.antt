@@ -1,0 +1,5 @@
+pub mod BitLemmas
+pub mod WindowLemmas
+pub mod RegionLemmas
+pub mod FrontLemmas
+mod SolveLemmas
