@@ -41,16 +41,16 @@ one_to_one = record { some_file = some_file; may_be_packed = may_be_packed; one_
 
 -- ---- answers agree
 
-has_mark : (p : Packed) (bytes : List ℕ) → IsFileOf p bytes → HasMark mark bytes
+pub has_mark : (p : Packed) (bytes : List ℕ) → IsFileOf p bytes → HasMark mark bytes
 has_mark p bytes f = record { rest = write_written f.written; bytes_are = f.are.bytes }
 
-file_not_cut : (p : Packed) (bytes : List ℕ) → IsFileOf p bytes → IsCut bytes → ⊥
+pub file_not_cut : (p : Packed) (bytes : List ℕ) → IsFileOf p bytes → IsCut bytes → ⊥
 file_not_cut p bytes f c = whole_not_cut bytes f.written f.are c.1
 
-file_not_damaged : (p : Packed) (bytes : List ℕ) (at : ℕ) → IsFileOf p bytes → IsDamagedAt bytes at → ⊥
+pub file_not_damaged : (p : Packed) (bytes : List ℕ) (at : ℕ) → IsFileOf p bytes → IsDamagedAt bytes at → ⊥
 file_not_damaged p bytes at f d = whole_not_damaged pack IsPackable bytes f.written at f.are d.1
 
-torn : (bytes : List ℕ) (at : ℕ) → IsCut bytes → IsDamagedAt bytes at → ⊥
+pub torn : (bytes : List ℕ) (at : ℕ) → IsCut bytes → IsDamagedAt bytes at → ⊥
 torn bytes at c d = cut_not_damaged pack IsPackable bytes at c.1 d.1
 
 pub agree : AnswersAgree

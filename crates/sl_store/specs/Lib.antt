@@ -2,3 +2,4 @@ pub mod Reads
 pub mod Answers
 pub mod Laws
 pub mod Kinds
+pub mod Numbers

@@ -1,5 +1,6 @@
 -- step: what is read after the mark, and at the end of the bytes.
 use Rattle.std.specs.Prelude.{◌≡◌, ℕ, List, Result, Ok, Err}
+use Rattle.sl_store.specs.Numbers.{AreNumbered}
 use Rattle.sl_store_write.specs.Packs.{packed_of}
 use Rattle.sl_store_write.specs.declared.packed.Packed as program
 use Rattle.sl_store_format.specs.Packed.{Written, apart}
@@ -12,6 +13,7 @@ pub record IsRead (outcome : Outcome Written) (p : program.Packed) (left : List 
   pub written : Written
   pub reads : outcome ≡ Ok (written, left)
   pub is : apart written ≡ packed_of p
+  pub numbers : AreNumbered p
 
 abbrev pub ReadsPacked : Outcome Written → Result program.Packed s.Stop → List ℕ → Type 0
 ReadsPacked outcome (Ok p) left = IsRead outcome p left
@@ -21,6 +23,7 @@ pub record IsWhole (outcome : Result Written Fault) (p : program.Packed) : Type 
   pub written : Written
   pub ends : outcome ≡ Ok written
   pub is : apart written ≡ packed_of p
+  pub numbers : AreNumbered p
 
 abbrev pub Halts : Result Written Fault → s.Stop → Type 0
 Halts outcome sv.NoMemory = Unit {0}

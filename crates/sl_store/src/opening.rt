@@ -1,9 +1,11 @@
 //! Packed files, read.
 
+ghost use Rattle.std.specs.Prelude.{IfOk};
 ghost use Rattle.sl_store_write.specs.Packs.{IsFileOf};
 ghost use Rattle.sl_store_format.specs.Packed.{Packed as PackedOf, written_here};
 ghost use Rattle.sl_store_bytes.specs.Verdicts.{at_end};
 ghost use Rattle.sl_store.specs.Answers.{Answers, Opens};
+ghost use Rattle.sl_store.specs.Numbers.{AreNumbered};
 ghost use Rattle.sl_store.specs.Reads.{Ends, ReadsPacked};
 
 use sl_ast::items::Spec;
@@ -54,12 +56,14 @@ fn whole<'a>(alloc: Global, left: &'a [u8]) -> Result<Packed<'a>, Stop>
     }
 }
 
-/// What a packed file holds. Names of the tree are borrowed from the bytes.
+/// What a packed file holds. Names of the tree are borrowed from the bytes, and in place of the index of its
+/// first token each item has its number, which is that of its place.
 pub fn unpack<'a>(alloc: Global, bytes: &'a [u8]) -> Result<Packed<'a>, UnpackError>
     // Each answer comes only where it is due.
     ensures answers { Answers bytes.now result }
     // What `pack` gives is opened, unless memory runs out.
     ensures opens { (p : PackedOf) → IsFileOf p bytes.now → Opens p result }
+    ensures numbers { IfOk result AreNumbered }
 {
     let Some(left) = bytes.strip_prefix(MARK) else {
         return Err(UnpackError::NotPacked);

@@ -1,11 +1,11 @@
 -- Items that are read with their places.
-use Rattle.std.proofs.Common.{◌≡◌, ◌≢◌, ℕ, zero, suc, ◌≤◌, ◌-◌, List, [], ◌∷◌, ◌++◌, Vec, map, Ok, refl, ap, sym, ◌∙◌, append_assoc, append-nil, arith}
+use Rattle.std.proofs.Common.{◌≡◌, ◌≢◌, ℕ, zero, suc, ◌≤◌, ◌-◌, List, [], ◌∷◌, ◌++◌, Vec, length, map, Ok, refl, ap, sym, ◌∙◌, append_assoc, append-nil, arith}
 use Rattle.std.specs.declared.alloc.Global.{Global}
 use Rattle.std.proofs.lemmas.List.{map_push}
 use Rattle.sl_ast.specs.Trees.{Constructor, Head, Inside, nothing, constructor_then, block_then, Item, block}
 use Rattle.sl_ast.specs.Validity.{deepest}
 use Rattle.sl_ast.specs.Views as view
-use Rattle.sl_ast.specs.Views.{chained, constructor_of, head_of, inner_step}
+use Rattle.sl_ast.specs.Views.{chained, constructor_of, head_of, inner_step, inner_indexes, inner_indexes_step, item_indexes, joined_lists}
 use Rattle.sl_ast.specs.declared.constructors.Constructor as program
 use Rattle.sl_ast.specs.declared.constructors.Head as head
 use Rattle.sl_ast.specs.declared.constructors.Inner as n
@@ -26,8 +26,9 @@ use Rattle.sl_store_bytes.specs.Reads.{Stops}
 use Rattle.sl_store_bytes.specs.Tables.{coded, coded_if}
 use Rattle.sl_store_bytes.specs.declared.bytes.Stop.{Stop}
 use Rattle.sl_preproc.specs.declared.places.Place.{Place}
-use Rattle.sl_store_read.specs.Placed.{chain_of, chain_in, places_in, IsInner, AreInside, IsItem, AreItems}
+use Rattle.sl_store_read.specs.Placed.{chain_of, chain_in, places_in, indexes_in, numbered, IsInner, AreInside, IsItem, AreItems}
 use Rattle.sl_store_read.specs.declared.items.Placed as program_items
+use Rattle.sl_store_read.proofs.Numbers.{block_numbers, joined_push, numbers_join, plain_indexes}
 use Rattle.sl_store_format.proofs.Goods.{true_le}
 use Rattle.sl_store_phrases.proofs.Forms.{passes}
 use Rattle.sl_store_phrases.proofs.Rounds.{stops_along, stops_then, rounds_begin, round_goes, round_stops, rounds_end}
@@ -103,25 +104,33 @@ chain_block : (first : ℕ) (h : head.Head) (inside : Vec n.Inner Global) (rest 
 chain_block first h inside rest =
     ap (λ x. chain_of x rest) (sym (rolls-With first h inside)) ∙ ap (λ f. f rest) (fold-roll-Inner (Inside → Inside) inner_step (Inner-F.With first h inside))
 
+indexes_constructor : (first : ℕ) (c : program.Constructor) → indexes_in (n.Constructor first c) ≡ first ∷ []
+indexes_constructor first c = ap indexes_in (sym (rolls-Constructor first c)) ∙ fold-roll-Inner (List ℕ) inner_indexes_step (Inner-F.Constructor first c)
+
+indexes_block : (first : ℕ) (h : head.Head) (inside : Vec n.Inner Global) → indexes_in (n.With first h inside) ≡ first ∷ inner_indexes inside.items
+indexes_block first h inside = ap indexes_in (sym (rolls-With first h inside)) ∙ fold-roll-Inner (List ℕ) inner_indexes_step (Inner-F.With first h inside)
+
 pub read_block : (files depth : ℕ) (xs one two three left : List ℕ) (p : Place) (before after : List Place) (first : ℕ) (h : head.Head) (inside : Vec n.Inner Global)
     → place_here files xs ≡ Ok (p, one) → coded_if (inner_fits depth) item_forms one ≡ Ok (x.With, two) → head_here two ≡ Ok (head_of h, three)
-    → 1 ≤ depth → AreInside (list_of (inner_here files (depth - 1)) three) (before ++ p ∷ []) inside.items after left
+    → 1 ≤ depth → AreInside (list_of (inner_here files (depth - 1)) three) (before ++ p ∷ []) inside.items after left → first ≡ length before
     → IsInner (inner_here files depth xs) before (n.With first h inside) after left
-read_block files depth xs one two three left p before after first h inside placed form head deep read = record {
+read_block files depth xs one two three left p before after first h inside placed form head deep read number = record {
   inner = block_at p (head_of h) (inners read.members);
   reads = inner_is files depth xs ∙ nested_block (deeper_of files depth) files depth xs one p placed two three left (head_of h) read.members form head (ap (λ d. list_of d three) (deeper_is files depth deep) ∙ read.reads);
   is = λ rest. chain_block first h inside rest ∙ ap (λ i. block_then (head_of h) i rest) read.are;
   places = read.places ∙ append_assoc before (p ∷ []) (inner_places (inners read.members));
+  numbers = indexes_block first h inside ∙ ap (λ ns. first ∷ ns) read.numbers ∙ block_numbers before p (inner_places (inners read.members)) first number;
 }
 
 pub read_constructor : (files depth : ℕ) (xs one two left : List ℕ) (p : Place) (before : List Place) (first : ℕ) (form : ItemForm) (c : program.Constructor)
-    → place_here files xs ≡ Ok (p, one) → coded_if (inner_fits depth) item_forms one ≡ Ok (form, two) → form ≢ x.With → constructor_here two ≡ Ok (constructor_of c, left)
+    → place_here files xs ≡ Ok (p, one) → coded_if (inner_fits depth) item_forms one ≡ Ok (form, two) → form ≢ x.With → constructor_here two ≡ Ok (constructor_of c, left) → first ≡ length before
     → IsInner (inner_here files depth xs) before (n.Constructor first c) (before ++ p ∷ []) left
-read_constructor files depth xs one two left p before first form c placed taken other read = record {
+read_constructor files depth xs one two left p before first form c placed taken other read number = record {
   inner = constructor_at p (constructor_of c);
   reads = inner_is files depth xs ∙ nested_constructor (deeper_of files depth) files depth xs one p placed two left form (constructor_of c) taken other read;
   is = chain_constructor first c;
   places = refl;
+  numbers = indexes_constructor first c ∙ ap (λ k. k ∷ []) number;
 }
 
 -- ---- in a loop
@@ -146,13 +155,19 @@ more_places (block_at p h js ∷ is) i =
 pub record AreRead (found : List n.Inner) (before after : List Place) (members : List Inner) : Type 0 where
   pub are : (rest : Inside) → chained (map chain_of found) rest ≡ chained (map chain_in members) rest
   pub places : after ≡ before ++ inner_places (inners members)
+  pub numbers : joined_lists (map indexes_in found) ≡ numbered before (inner_places (inners members))
 
 pub none_read : (found : List n.Inner) (before : List Place) → found ≡ [] → AreRead found before before []
-none_read found before none = record { are = λ rest. ap (λ ys. chained (map chain_of ys) rest) none; places = sym (append-nil before) }
+none_read found before none = record {
+  are = λ rest. ap (λ ys. chained (map chain_of ys) rest) none;
+  places = sym (append-nil before);
+  numbers = ap (λ ys. joined_lists (map indexes_in ys)) none;
+}
 
 pub one_read : (found more : List n.Inner) (before after later : List Place) (members : List Inner) (y : n.Inner) (i : Inner) → more ≡ found ++ y ∷ []
-    → ((rest : Inside) → chain_of y rest ≡ chain_in i rest) → later ≡ after ++ places_in i → AreRead found before after members → AreRead more before later (members ++ i ∷ [])
-one_read found more before after later members y i same is added so_far = record {
+    → ((rest : Inside) → chain_of y rest ≡ chain_in i rest) → later ≡ after ++ places_in i → indexes_in y ≡ numbered after (places_in i)
+    → AreRead found before after members → AreRead more before later (members ++ i ∷ [])
+one_read found more before after later members y i same is added counted so_far = record {
   are = λ rest.
       (ap (λ ys. chained (map chain_of ys) rest) same ∙ ap (λ fs. chained fs rest) (map_push chain_of found y) ∙ chained_more (map chain_of found) (chain_of y) rest
       ∙ so_far.are (chain_of y rest) ∙ ap (chained (map chain_in members)) (is rest)
@@ -160,6 +175,10 @@ one_read found more before after later members y i same is added so_far = record
   places =
       added ∙ ap (λ ps. ps ++ places_in i) so_far.places ∙ append_assoc before (inner_places (inners members)) (places_in i)
       ∙ ap (λ ps. before ++ ps) (sym (more_places members i));
+  numbers =
+      ap (λ ys. joined_lists (map indexes_in ys)) same ∙ ap joined_lists (map_push indexes_in found y) ∙ joined_push (map indexes_in found) (indexes_in y)
+      ∙ numbers_join before (inner_places (inners members)) (places_in i) after (joined_lists (map indexes_in found)) (indexes_in y) so_far.places so_far.numbers counted
+      ∙ ap (numbered before) (sym (more_places members i));
 }
 
 pub all_read : (outcome : Outcome (List Inner)) (found : List n.Inner) (before after : List Place) (members : List Inner) (left : List ℕ) → outcome ≡ Ok (members, left)
@@ -169,6 +188,7 @@ all_read outcome found before after members left reads read = record {
   reads = reads;
   are = read.are nothing ∙ inside_is members;
   places = read.places;
+  numbers = read.numbers;
 }
 
 -- ---- items
@@ -213,41 +233,48 @@ item_stops_at_place files xs e h = stops_then (place_here files xs) _ e h
 pub read_with : (files : ℕ) (xs one two three left : List ℕ) (p : Place) (before after : List Place) (y : item.Item) (h : Head) (inside : List n.Inner)
     → view.item_of y ≡ block h (view.inside_of inside)
     → place_here files xs ≡ Ok (p, one) → coded item_forms one ≡ Ok (x.With, two) → head_here two ≡ Ok (h, three)
-    → AreInside (list_of (inner_here files deepest) three) (before ++ p ∷ []) inside after left
+    → AreInside (list_of (inner_here files deepest) three) (before ++ p ∷ []) inside after left → item_indexes y ≡ y.first ∷ inner_indexes inside → y.first ≡ length before
     → IsItem (placed_here files xs) before y after left
-read_with files xs one two three left p before after y h inside seen placed form head read = record {
+read_with files xs one two three left p before after y h inside seen placed form head read kept number = record {
   placed = with_at p h (inners read.members);
   reads = item_block files xs one p placed two three left h read.members form head read.reads;
   is = seen ∙ ap (block h) read.are;
   places = read.places ∙ append_assoc before (p ∷ []) (inner_places (inners read.members));
+  numbers = kept ∙ ap (λ ns. y.first ∷ ns) read.numbers ∙ block_numbers before p (inner_places (inners read.members)) y.first number;
 }
 
 pub read_plain : (files : ℕ) (xs one two left : List ℕ) (p : Place) (before : List Place) (form : ItemForm) (y : item.Item) (i : Item) → view.item_of y ≡ i
-    → place_here files xs ≡ Ok (p, one) → coded item_forms one ≡ Ok (form, two) → form ≢ x.With → plain_by form two ≡ Ok (i, left)
+    → place_here files xs ≡ Ok (p, one) → coded item_forms one ≡ Ok (form, two) → form ≢ x.With → plain_by form two ≡ Ok (i, left) → y.first ≡ length before
     → IsItem (placed_here files xs) before y (before ++ p ∷ []) left
-read_plain files xs one two left p before form y i seen placed taken other read = record {
+read_plain files xs one two left p before form y i seen placed taken other read number = record {
   placed = item_at p i;
   reads = item_plain files xs one p placed two left form i taken other read;
   is = seen;
   places = refl;
+  numbers = ap (λ ns. y.first ∷ ns) (plain_indexes form two left y.kind i seen other read) ∙ ap (λ k. k ∷ []) number;
 }
 
 -- so many items were read
 pub record ItemsRead (found : List item.Item) (places : List Place) (placed : List Placed) : Type 0 where
   pub are : map view.item_of found ≡ map item_of placed
   pub are_places : places ≡ all_places placed
+  pub numbers : joined_lists (map item_indexes found) ≡ numbered [] places
 
 all_more : (is : List Placed) (i : Placed) → all_places (is ++ i ∷ []) ≡ all_places is ++ item_places i
 all_more [] i = append-nil (item_places i)
 all_more (j ∷ is) i = ap (λ ps. item_places j ++ ps) (all_more is i) ∙ sym (append_assoc (item_places j) (all_places is) (item_places i))
 
 pub item_read : (found more : List item.Item) (places later : List Place) (placed : List Placed) (y : item.Item) (i : Placed) → more ≡ found ++ y ∷ []
-    → view.item_of y ≡ item_of i → later ≡ places ++ item_places i → ItemsRead found places placed → ItemsRead more later (placed ++ i ∷ [])
-item_read found more places later placed y i same is added so_far = record {
+    → view.item_of y ≡ item_of i → later ≡ places ++ item_places i → item_indexes y ≡ numbered places (item_places i) → ItemsRead found places placed
+    → ItemsRead more later (placed ++ i ∷ [])
+item_read found more places later placed y i same is added counted so_far = record {
   are =
       ap (map view.item_of) same ∙ map_push view.item_of found y ∙ ap (λ zs. zs ++ view.item_of y ∷ []) so_far.are ∙ ap (λ z. map item_of placed ++ z ∷ []) is
       ∙ sym (map_push item_of placed i);
   are_places = added ∙ ap (λ ps. ps ++ item_places i) so_far.are_places ∙ sym (all_more placed i);
+  numbers =
+      ap (λ ys. joined_lists (map item_indexes ys)) same ∙ ap joined_lists (map_push item_indexes found y) ∙ joined_push (map item_indexes found) (item_indexes y)
+      ∙ numbers_join [] places (item_places i) places (joined_lists (map item_indexes found)) (item_indexes y) refl so_far.numbers counted ∙ ap (numbered []) (sym added);
 }
 
 -- ---- the loops
@@ -275,7 +302,7 @@ pub inside_goes : (files depth : ℕ) (whole : Outcome (List Inner)) (left k : �
 inside_goes files depth whole left k found more before after later xs rest y same pushed so_far one = record {
   members = so_far.members ++ one.inner ∷ [];
   reads = so_far.reads ∙ round_goes (λ k u. inner_here files depth) same_state so_far.members left k tt xs rest one.inner same one.reads;
-  read = one_read found more before after later so_far.members y one.inner pushed one.is one.places so_far.read;
+  read = one_read found more before after later so_far.members y one.inner pushed one.is one.places one.numbers so_far.read;
 }
 
 pub inside_stops : (files depth : ℕ) (whole : Outcome (List Inner)) (left k : ℕ) (found : List n.Inner) (before after : List Place) (xs : List ℕ) (e : Stop)
@@ -301,7 +328,11 @@ items_begin files most xs rest count left found places so_many none no_place sam
   reads =
       ap (λ m. listed 0 m (λ k u. placed_here files) same_state tt xs) (sym same) ∙ rounds_begin (λ k u. placed_here files) same_state 0 most xs rest count tt e
       ∙ ap (λ k. collected [] (some_more (λ j u. placed_here files) same_state k tt rest)) (sym so_many);
-  read = record { are = ap (map view.item_of) none; are_places = no_place };
+  read = record {
+    are = ap (map view.item_of) none;
+    are_places = no_place;
+    numbers = ap (λ ys. joined_lists (map item_indexes ys)) none ∙ ap (numbered []) (sym no_place);
+  };
 }
 
 pub items_stop_at_count : (files most : ℕ) (xs : List ℕ) (e : Stop) → most ≡ most_items files → Stops (number 0 most xs) e → Stops (items_here files xs) e
@@ -315,7 +346,7 @@ pub items_go : (files : ℕ) (whole : Outcome (List Placed)) (left k : ℕ) (fou
 items_go files whole left k found more places later xs rest y same pushed so_far one = record {
   placed = so_far.placed ++ one.placed ∷ [];
   reads = so_far.reads ∙ round_goes (λ k u. placed_here files) same_state so_far.placed left k tt xs rest one.placed same one.reads;
-  read = item_read found more places later so_far.placed y one.placed pushed one.is one.places so_far.read;
+  read = item_read found more places later so_far.placed y one.placed pushed one.is one.places one.numbers so_far.read;
 }
 
 pub items_stop : (files : ℕ) (whole : Outcome (List Placed)) (left k : ℕ) (found : List item.Item) (places : List Place) (xs : List ℕ) (e : Stop)
@@ -330,4 +361,5 @@ items_end files whole left found xs none so_far = record {
   reads = so_far.reads ∙ rounds_end (λ k u. placed_here files) same_state so_far.placed left tt xs none;
   are = so_far.read.are;
   places = so_far.read.are_places;
+  numbers = so_far.read.numbers;
 }

@@ -91,12 +91,12 @@ inner_here-returns-in_ok-inside-in-With t c =
     let inside = subst (λ ps. AreInside (list_of (inner_here c.args.files (c.args.depth - 1)) c.head_here.new.bytes) ps c.in_ok-inside-in-With.inside.items c.inside_here.new.places.items c.inside_here.new.bytes)
     c.in_ok-push.ensures.items c.in_ok-inside-in-With.ensures in
     read_block c.args.files c.args.depth c.args.bytes.now c.place_here.new.bytes c.inner_form.new.bytes c.head_here.new.bytes c.inside_here.new.bytes c.in_ok-place.place
-    c.args.places.now.items c.inside_here.new.places.items _ c.in_ok-head-in-With.head c.in_ok-inside-in-With.inside c.in_ok-place.ensures with c.in_ok-head-in-With.ensures deep inside
+    c.args.places.now.items c.inside_here.new.places.items _ c.in_ok-head-in-With.head c.in_ok-inside-in-With.inside c.in_ok-place.ensures with c.in_ok-head-in-With.ensures deep inside (c.len-first.ensures ∙ c.args.places.now.ok.0)
 
 pub inner_here-returns-in_ok-constructor-in_default : goal.inner_here-returns-in_ok-constructor-in_default
 inner_here-returns-in_ok-constructor-in_default t c =
     let read = read_constructor c.args.files c.args.depth c.args.bytes.now c.place_here.new.bytes c.inner_form.new.bytes c.constructor_here.new.bytes c.in_ok-place.place
     c.args.places.now.items c.len-first.result c.in_ok-inner_form.field-0 c.in_ok-constructor-in_default.constructor c.in_ok-place.ensures c.in_ok-inner_form.ensures c.in_default.not-With
-    c.in_ok-constructor-in_default.ensures in
+    c.in_ok-constructor-in_default.ensures (c.len-first.ensures ∙ c.args.places.now.ok.0) in
     subst (λ ps. IsInner (inner_here c.args.files c.args.depth c.args.bytes.now) c.args.places.now.items (n.Constructor c.len-first.result c.in_ok-constructor-in_default.constructor) ps c.constructor_here.new.bytes)
     (sym c.in_ok-push.ensures.items) read

@@ -39,11 +39,11 @@ returns-in_ok-inside-in-With c =
     let inside = subst (λ ps. AreInside (list_of (inner_here c.args.files deepest) c.head_here.new.bytes) ps c.in_ok-inside-in-With.inside.items c.inside_here.new.places.items c.inside_here.new.bytes)
     c.in_ok-push.ensures.items c.in_ok-inside-in-With.ensures in
     read_with c.args.files c.args.bytes.now c.place_here.new.bytes c.coded.new.self c.head_here.new.bytes c.inside_here.new.bytes c.in_ok-place.place c.args.places.now.items
-    c.inside_here.new.places.items _ (head_of c.in_ok-head-in-With.head) c.in_ok-inside-in-With.inside.items refl c.in_ok-place.ensures with c.in_ok-head-in-With.ensures inside
+    c.inside_here.new.places.items _ (head_of c.in_ok-head-in-With.head) c.in_ok-inside-in-With.inside.items refl c.in_ok-place.ensures with c.in_ok-head-in-With.ensures inside refl (c.len-first.ensures ∙ c.args.places.now.ok.0)
 
 pub returns-in_ok-kind-in_default : goal.returns-in_ok-kind-in_default
 returns-in_ok-kind-in_default c =
     let y : Item = record { first = c.len-first.result; kind = c.in_ok-kind-in_default.kind } in
     let read = read_plain c.args.files c.args.bytes.now c.place_here.new.bytes c.coded.new.self c.plain_by.new.bytes c.in_ok-place.place c.args.places.now.items c.in_ok-form.form y
-    (kind_of c.in_ok-kind-in_default.kind) refl c.in_ok-place.ensures c.in_ok-form.ensures c.in_default.not-With c.in_ok-kind-in_default.ensures in
+    (kind_of c.in_ok-kind-in_default.kind) refl c.in_ok-place.ensures c.in_ok-form.ensures c.in_default.not-With c.in_ok-kind-in_default.ensures (c.len-first.ensures ∙ c.args.places.now.ok.0) in
     subst (λ ps. IsItem (placed_here c.args.files c.args.bytes.now) c.args.places.now.items y ps c.plain_by.new.bytes) (sym c.in_ok-push.ensures.items) read

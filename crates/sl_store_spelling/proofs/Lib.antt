@@ -1,0 +1,5 @@
+pub mod CostLaws
+pub mod NameLaws
+pub mod FileLaws
+pub mod LeafLaws
+pub mod ModeLaws
