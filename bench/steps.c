@@ -3,7 +3,7 @@
 //
 //     steps IMAGE STEPS [BASE]
 //
-// prints what `sleigh run` prints of examples/rv32im, and on the error output the nanoseconds of the steps alone, by the clock
+// prints what `sleigh run` prints of processors/rv32im, and on the error output the nanoseconds of the steps alone, by the clock
 // and of the processor.
 #include <inttypes.h>
 #include <stdint.h>
