@@ -16,7 +16,7 @@ from common import all_images, store, store_runs
 AS = "riscv64-unknown-elf-as -march=rv32im_zicsr_zifencei -mabi=ilp32 -o"       # so that objdump shows no compressed instruction
 OBJDUMP = "riscv64-unknown-elf-objdump -D -z -j .text -M no-aliases,numeric"
 LISTS = ("words", "shapes", "csrs")
-ENDS = {"alu1": 0x108cc, "alu2": 0x108f0, "alu3": 0x1090c, "edges": 0x121e0}
+ENDS = {"alu1": 0x108cc, "alu2": 0x108f0, "alu3": 0x10908, "edges": 0x121e0}
 ENDS_OF_CODE = {"alu1": 0x8d0, "alu2": 0x8f4, "alu3": 0x90c, "edges": 0x21e4, "hashing": 0x4ec, "numbers": 0x63c, "sorting": 0x53c, "text": 0xaac}
 BASE = 0x10000
 runs = []
