@@ -1,4 +1,6 @@
 pub mod Cuts
+pub mod NarrowLemmas
+pub mod PerformLemmas
 pub mod PutLemmas
 pub mod RunLemmas
 pub mod TemporaryLemmas

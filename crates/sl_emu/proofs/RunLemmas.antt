@@ -6,14 +6,13 @@ use Rattle.sl_word.specs.Memories.{Memory}
 use Rattle.sl_word.specs.declared.word.Endian.{Endian}
 use Rattle.sl_word.specs.declared.word.UserId.{UserId}
 use Rattle.sl_pcode.specs.Effects.{effect_of}
-use Rattle.sl_pcode.specs.Machine.{Ending, EndsSo, Run, Temporaries as Bytes, at_end, calls_user_op, divides_by_zero, ended, first_memory, jump_limit, jump_run, jumps_too_often, leaves_to, op_does, ops_run, ran_of, rest_after, run_from, run_of, whole}
+use Rattle.sl_pcode.specs.Machine.{Ending, EndsSo, Run, Temporaries as Bytes, at_end, calls_user_op, divides_by_zero, ended, first_memory, jump_limit, jump_run, jumps_too_often, leaves_to, ops_run, ran_of, rest_after, run_from, run_of, whole}
 use Rattle.sl_pcode.specs.Targets.{place_at}
 use Rattle.sl_pcode.specs.WellFormed.{IsWellFormedOp}
-use Rattle.sl_pcode.specs.declared.effect.Effect.{Effect}
 use Rattle.sl_pcode.specs.declared.operation.Op.{Op}
 use Rattle.sl_pcode.proofs.RunLaws.{ends_so, jump_run-none, jump_run-taken, op_does-all, rest_after-more, rest_after-ran, run_from-end, run_from-op, run_of-bound}
 use Rattle.sl_emu.specs.Outcomes.{HasEffectsOf, IsErrorOf, left_ending}
-use Rattle.sl_emu.specs.Steps.{Does, IsSteady, Turned, follows}
+use Rattle.sl_emu.specs.Steps.{IsSteady, OpDoes, Turned, follows}
 use Rattle.sl_emu.specs.declared.run.EmuError.{EmuError}
 use Rattle.sl_emu.specs.declared.run.EmuError.TheVariants.{DivideByZero, UserOp, JumpLimit, NoMemory}
 use Rattle.sl_emu.specs.declared.run.Left.{Left}
@@ -25,15 +24,13 @@ pub formed_at : (sizes : List ℕ) (ops : List Op) (at : ℕ) (op : Op) → op �
 formed_at sizes ops at op read inside all = subst (IsWellFormedOp sizes) (sym read) (all at op inside)
 
 -- One turn: an operation stands at a place, and does this to memory and temporary bytes.
-module _ (endian : Endian) (sizes : List ℕ) (ops : List Op) (left at : ℕ) (m : Memory) (t : Bytes) (op : Op) (e : Effect) (th : Then) (m' : Memory) (t' : Bytes)
-    (found : slice_get ops at ≡ Some op) (is : effect_of op ≡ Some e) (d : Does endian sizes e m t m' t' th) where
+module _ (endian : Endian) (sizes : List ℕ) (ops : List Op) (left at : ℕ) (m : Memory) (t : Bytes) (op : Op) (th : Then) (m' : Memory) (t' : Bytes)
+    (found : slice_get ops at ≡ Some op) (d : OpDoes endian sizes op m t m' t' th) where
   turns : run_from endian sizes ops left at m t
       ≡ follows th m' t' (λ m'' t''. whole m (run_from endian sizes ops left (at + 1) m'' t'')) (λ distance. jump_run endian sizes ops left (place_at at distance) m t)
       (λ ending. whole m (ended ending m)) (λ ending. ended ending m)
   turns =
       run_from-op endian sizes ops left at m t op found
-      ∙ ap (λ (o : Option Effect). op_does endian sizes o m t (λ m'' t''. whole m (run_from endian sizes ops left (at + 1) m'' t'')) (λ distance. jump_run endian sizes ops left (place_at at distance) m t)
-      (λ ending. whole m (ended ending m)) (λ ending. ended ending m)) is
       ∙ d.runs _ _ _ _
 
   -- what follows, by what the operation came to

@@ -12,7 +12,7 @@ use Rattle.sl_word.specs.Layout.{big_endian, little_endian, number_of}
 use Rattle.sl_word.specs.declared.word.Endian.{Endian}
 use Rattle.sl_word.specs.declared.word.Endian.TheVariants.{Little, Big}
 use Rattle.sl_pcode.specs.Machine.{with_temporaries}
-use Rattle.sl_emu.specs.Temporaries.{byte_in, bytes_in}
+use Rattle.sl_emu.specs.Blocks.{byte_in, bytes_in}
 
 little_along : (f g : ℕ → ℕ) (n : ℕ) → ((i : ℕ) → i < n → f i ≡ g i) → little_endian f n ≡ little_endian g n
 little_along f g zero same = refl
@@ -68,24 +68,29 @@ parts o = (omega arith, omega arith)
 abbrev pub Block : Type 0
 Block = Vec ℕ Global
 
-abbrev pub IsEmpty : Block → Type 0
-IsEmpty block = block.items ≡ []
+-- a block whose bytes are all 0
+abbrev pub IsBlank : Block → Type 0
+IsBlank block = (p : ℕ) → get_or block.items p 0 ≡ 0
 
-pub emptied : (blocks : List Block) (n : ℕ) (b : Block) → n < length blocks → IsEmpty b → ((k : ℕ) → k < n → HoldsAt IsEmpty blocks k)
-    → (k : ℕ) → k < n + 1 → HoldsAt IsEmpty (set blocks n b) k
-emptied blocks n b inside empty before =
+pub blanked : (blocks : List Block) (n : ℕ) (b : Block) → n < length blocks → IsBlank b → ((k : ℕ) → k < n → HoldsAt IsBlank blocks k)
+    → (k : ℕ) → k < n + 1 → HoldsAt IsBlank (set blocks n b) k
+blanked blocks n b inside blank before =
     below_more _ _
     (λ k h d. let other : k ≢ n = omega arith in rw get_or-set_other (before k h d))
-    (λ d. rw get_or-set_same empty)
+    (λ d. rw get_or-set_same blank)
 
-pub all_empty : (blocks : List Block) (n : ℕ) → length blocks ≤ n → ((k : ℕ) → k < n → HoldsAt IsEmpty blocks k) → (o : ℕ) → bytes_in blocks o ≡ 0
-all_empty blocks n whole empty o =
+pub all_blank : (blocks : List Block) (n : ℕ) → length blocks ≤ n → ((k : ℕ) → k < n → HoldsAt IsBlank blocks k) → (o : ℕ) → bytes_in blocks o ≡ 0
+all_blank blocks n whole blank o =
     elim ((slice_get_cases blocks (o / 1048576)).1) [
       | inl found ↦
           ap (λ x. byte_in x (o % 1048576)) found.2
-          ∙ ap (λ l. get_or l (o % 1048576) 0) (subst (λ (b : Block). b.items ≡ []) found.3 (empty (o / 1048576) (omega (arith, found.1, whole)) found.0))
+          ∙ subst (λ (b : Block). IsBlank b) found.3 (blank (o / 1048576) (omega (arith, found.1, whole)) found.0) (o % 1048576)
       | inr past ↦ ap (λ x. byte_in x (o % 1048576)) past.1
     ]
+
+-- a block that has no byte yet
+abbrev pub IsEmpty : Block → Type 0
+IsEmpty block = block.items ≡ []
 
 added_at : (blocks : List Block) (b : Block) (j p : ℕ) → IsEmpty b → byte_in (slice_get (blocks ++ b ∷ []) j) p ≡ byte_in (slice_get blocks j) p
 added_at [] b zero p empty = ap (λ l. get_or l p 0) empty

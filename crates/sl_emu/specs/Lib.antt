@@ -1,3 +1,4 @@
+pub mod Blocks
 pub mod Outcomes
 pub mod Readable
 pub mod Steps

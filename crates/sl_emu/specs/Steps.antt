@@ -6,7 +6,9 @@ use Rattle.sl_pcode.specs.declared.effect.Effect.{Effect}
 use Rattle.sl_pcode.specs.declared.varnode.Place2.{Place2}
 use Rattle.sl_pcode.specs.declared.varnode.Place2.TheVariants.{Const, Unique, In}
 use Rattle.sl_pcode.specs.declared.varnode.Varnode.{Varnode}
-use Rattle.sl_pcode.specs.Machine.{at_target, does, Ending, leaves_to, divides_by_zero, calls_user_op, jumps_too_often, Run, ended, whole, Temporaries as Bytes}
+use Rattle.sl_pcode.specs.Effects.{effect_of}
+use Rattle.sl_pcode.specs.declared.operation.Op.{Op}
+use Rattle.sl_pcode.specs.Machine.{at_target, does, op_does, Ending, leaves_to, divides_by_zero, calls_user_op, jumps_too_often, Run, ended, whole, Temporaries as Bytes}
 use Rattle.sl_emu.specs.Outcomes.{left_ending}
 use Rattle.sl_emu.specs.declared.run.EmuError.{EmuError}
 use Rattle.sl_emu.specs.declared.run.EmuError.TheVariants.{DivideByZero, UserOp, JumpLimit, NoMemory}
@@ -49,6 +51,12 @@ Turned old before new after (Err NoMemory) = new ≡ old
 pub record Does (endian : Endian) (sizes : List ℕ) (effect : Effect) (m : Memory) (t : Bytes) (m' : Memory) (t' : Bytes) (then : Then) : Type 0 where
   pub runs : (next : Memory → Bytes → Run) (jump : ℕ → Run) (leave fault : Ending → Run)
       → does endian sizes effect m t next jump leave fault ≡ follows then m' t' next jump leave fault
+  pub steady : IsSteady then m t m' t'
+
+-- The same of an operation, by what its code makes of its operands.
+pub record OpDoes (endian : Endian) (sizes : List ℕ) (op : Op) (m : Memory) (t : Bytes) (m' : Memory) (t' : Bytes) (then : Then) : Type 0 where
+  pub runs : (next : Memory → Bytes → Run) (jump : ℕ → Run) (leave fault : Ending → Run)
+      → op_does endian sizes (effect_of op) m t next jump leave fault ≡ follows then m' t' next jump leave fault
   pub steady : IsSteady then m t m' t'
 
 -- This follows a jump to a target, whatever a jump and leaving do.

@@ -3,6 +3,8 @@
 
 mod emu;
 mod laws;
+mod narrow;
+mod perform;
 mod run;
 mod step;
 mod temporaries;

@@ -11,7 +11,8 @@ ghost use Rattle.sl_emu.specs.Outcomes.{HasEffectsOf, IsErrorOf, left_ending, ru
 ghost use Rattle.sl_emu.specs.Steps.{Turned};
 ghost use Rattle.sl_emu.specs.Temporaries.{order_of, temporary_bytes};
 
-use crate::step::{Then, step};
+use crate::perform::perform;
+use crate::step::Then;
 use crate::temporaries::Temporaries;
 use sl_pcode::{Op, OpList};
 use sl_word::{State, UserId};
@@ -151,8 +152,8 @@ fn turn(
         (run_from (endian_of state.old) (address_sizes state.old) ops.now jumps.new at.new (byte_at state.new) (temporary_bytes t.new))
         result }
 {
-    let effect = ops[*at].effect().unwrap();
-    let Ok(then) = step(effect, state, t) else {
+    let op = &ops[*at];
+    let Ok(then) = perform(op, state, t) else {
         return Err(EmuError::NoMemory);
     };
     match then {

@@ -11,9 +11,10 @@ ghost use Rattle.sl_pcode.specs.declared.effect.Effect.TheVariants as effect;
 ghost use Rattle.sl_emu.specs.Steps.{Does, IsNear, IsTargetThen};
 ghost use Rattle.sl_emu.specs.Temporaries.{order_of, temporary_bytes};
 
+use crate::narrow::{result1, result2};
 use crate::temporaries::Temporaries;
 use sl_pcode::{Effect, Place2, Varnode};
-use sl_word::{Op1, Op2, Size, SpaceId, State, UserId, Word, apply1, apply2};
+use sl_word::{Op1, Op2, Size, SpaceId, State, UserId, Word};
 use std::alloc::AllocError;
 
 /// What follows an operation.
@@ -40,7 +41,10 @@ pub(crate) fn read(state: &State, t: &Temporaries, v: Varnode) -> Word
         ≡ value_of (endian_of state.now) (address_sizes state.now) v (byte_at state.now) (temporary_bytes t.now) }
 {
     match v.place {
-        Place2::Const => Word::new(v.offset.into(), v.size).unwrap(),
+        Place2::Const => {
+            let bits = u128::from(v.offset);
+            Word { bits, size: v.size }
+        }
         Place2::Unique => t.read(v.offset, v.size),
         Place2::In(space) => state.read(space, v.offset, v.size),
     }
@@ -72,7 +76,7 @@ pub(crate) fn write(
 }
 
 // Puts what an operation makes of one input.
-fn unary(
+pub(crate) fn unary(
     state: &mut State,
     t: &mut Temporaries,
     op: Op1,
@@ -94,12 +98,12 @@ fn unary(
         ≡ next (byte_at state.new) (temporary_bytes t.new)) }
     ensures unchanged { OnErr result (byte_at state.new ≡ byte_at state.old) }
 {
-    let word = apply1(op, read(state, t, a), out.size);
+    let word = result1(op, read(state, t, a), out.size);
     write(state, t, out, word)
 }
 
 // Puts what an operation makes of two inputs, or tells that there is no value.
-fn binary(
+pub(crate) fn binary(
     state: &mut State,
     t: &mut Temporaries,
     op: Op2,
@@ -120,7 +124,7 @@ fn binary(
     ensures unchanged { OnErr result (byte_at state.new ≡ byte_at state.old) }
 {
     let (a, b) = (read(state, t, a), read(state, t, b));
-    let Ok(word) = apply2(op, a, b, out.size) else {
+    let Ok(word) = result2(op, a, b, out.size) else {
         return Ok(Then::DividesByZero);
     };
     write(state, t, out, word)?;
@@ -135,7 +139,7 @@ fn address(word: Word) -> u64
 }
 
 // Puts the bytes of a space at a pointer.
-fn load(
+pub(crate) fn load(
     state: &mut State,
     t: &mut Temporaries,
     out: Varnode,
@@ -160,7 +164,7 @@ fn load(
 }
 
 // Puts a value into a space at a pointer.
-fn store(
+pub(crate) fn store(
     state: &mut State,
     t: &Temporaries,
     space: Varnode,
@@ -195,7 +199,7 @@ fn target_then(target: Varnode) -> Then
 }
 
 // What follows a jump that is taken where the condition isn't 0.
-fn cbranch(state: &State, t: &Temporaries, target: Varnode, condition: Varnode) -> Then
+pub(crate) fn cbranch(state: &State, t: &Temporaries, target: Varnode, condition: Varnode) -> Then
     requires near { IsNear target.place target.offset }
     requires range { IsInRange (address_sizes state.now) condition }
     requires order { order_of t.now ≡ endian_of state.now }

@@ -1,10 +1,10 @@
 //! The temporary bytes of runs.
 
-ghost use Rattle.std.specs.Prelude.{◌≡◌, ℕ, ◌+◌, ◌/◌, ◌%◌, ◌^◌, ◌<◌, ◌≤◌, [], length, slice_get, slice_index, OnOk};
+ghost use Rattle.std.specs.Prelude.{◌≡◌, ℕ, ◌+◌, ◌/◌, ◌%◌, ◌^◌, ◌<◌, ◌≤◌, [], ◌∷◌, false, length, slice_get, slice_index, OnOk};
 ghost use Rattle.std.specs.Prelude.{IfSome, Some, Vec};
 ghost use Rattle.sl_word.specs.Layout.{byte_of, number_of};
 ghost use Rattle.sl_pcode.specs.Machine.{with_temporaries};
-ghost use Rattle.sl_emu.specs.Temporaries.{bytes_in};
+ghost use Rattle.sl_emu.specs.Blocks.{bytes_in};
 
 use sl_word::{Endian, Size, Word};
 use std::alloc::{AllocError, Global};
@@ -12,19 +12,23 @@ use std::alloc::{AllocError, Global};
 // So many offsets have a buffer of their own.
 const BLOCK: u64 = 1 << 20;
 
-// So many buffers keep their memory from one run to the next.
+// So many buffers keep their memory from one run to the next, those that are no longer than this.
 const KEPT: usize = 64;
+
+const KEPT_LENGTH: usize = 4096;
 
 /// Temporary bytes by their offsets, which are below 2^32, all 0 at first.
 ///
 /// Each 2^20 offsets have a buffer that grows as it is written, since a list has those of each node
-/// of its instruction from a multiple of 2^20 on. The memory of the first 64 buffers is kept from one
-/// run to the next.
+/// of its instruction from a multiple of 2^20 on. The first 64 buffers are kept from one run to the
+/// next, with zeros in them, where they are no longer than 4,096 bytes.
 #[derive(Drop)]
 pub struct Temporaries {
     alloc: Global,
     endian: Endian,
     blocks: Vec<Vec<u8>>,
+    written: bool,
+    ghost blank: { written ≡ false → (offset : ℕ) → bytes_in blocks.items offset ≡ 0 },
 }
 
 #[tactic(auto, unfolding(crate::specs::Temporaries::temporary_bytes, crate::specs::Temporaries::order_of))]
@@ -39,6 +43,7 @@ impl Temporaries {
             alloc,
             endian: Endian::Little,
             blocks: Vec::new(alloc),
+            written: false,
         }
     }
 
@@ -48,8 +53,11 @@ impl Temporaries {
         ensures zero { temporary_bytes self.new ≡ λ offset. 0 }
     {
         self.endian = endian;
-        self.blocks.truncate(KEPT);
-        clear_all(&mut self.blocks);
+        if self.written {
+            self.blocks.truncate(KEPT);
+            clear_all(self.alloc, &mut self.blocks);
+            self.written = false;
+        }
     }
 
     // The number that the bytes from an offset on make.
@@ -68,17 +76,28 @@ impl Temporaries {
         ensures put { OnOk result (temporary_bytes self.new
             ≡ with_temporaries offset word.size.bytes (byte_of (order_of self.old) word.size.bytes word.bits) (temporary_bytes self.old)) }
     {
+        self.written = true;
         put_word(self.alloc, &mut self.blocks, self.endian, offset, word)
     }
 }
 
-// Makes all blocks empty.
-fn clear_all(blocks: &mut [Vec<u8>])
+// Makes all bytes of blocks 0.
+fn clear_all(alloc: Global, blocks: &mut [Vec<u8>])
     ensures { (offset : ℕ) → bytes_in blocks.new offset ≡ 0 }
 {
     'blocks: for index in 0..blocks.len() {
-        blocks[index].clear();
+        clear_block(alloc, &mut blocks[index]);
     }
+}
+
+// Makes all bytes of a block 0. A long one is let go.
+fn clear_block(alloc: Global, block: &mut Vec<u8>)
+    ensures { (place : ℕ) → slice_index block.new.items place ≡ 0 }
+{
+    if KEPT_LENGTH < block.len() {
+        *block = Vec::new(alloc);
+    }
+    block.as_mut_slice().fill(0);
 }
 
 fn byte_at(blocks: &[Vec<u8>], offset: u64) -> u8
@@ -98,11 +117,65 @@ fn word_at(blocks: &[Vec<u8>], endian: Endian, offset: u64, size: Size) -> Word
 {
     let count = usize::from(size.get());
     match in_block(blocks, offset, count) {
-        Some(bytes) => Word::from_bytes(endian, size, bytes),
+        Some(bytes) => word_of(endian, size, bytes),
         None => {
             let whole = front_of(blocks, offset);
             Word::from_bytes(endian, size, &whole[..count])
         }
+    }
+}
+
+// The word of a size that bytes make.
+fn word_of(endian: Endian, size: Size, bytes: &[u8]) -> Word
+    requires { length bytes.now ≡ size.bytes }
+    ensures size { result.size ≡ size }
+    ensures value { result.bits ≡ number_of endian (slice_index bytes.now) size.bytes }
+{
+    match short_number(endian, bytes) {
+        Some(bits) => {
+            let bits = u128::from(bits);
+            Word { bits, size }
+        }
+        None => Word::from_bytes(endian, size, bytes),
+    }
+}
+
+// The number that bytes make, where there are 1, 2 or 4, as most numbers have.
+#[inline(always)]
+fn short_number(endian: Endian, bytes: &[u8]) -> Option<u32>
+    ensures value { IfSome result (λ n. n ≡ number_of endian (slice_index bytes.now) (length bytes.now)) }
+    ensures below { IfSome result (λ n. n < 256 ^ length bytes.now) }
+{
+    match bytes {
+        [a] => Some(u32::from(*a)),
+        [a, b] => Some(pair(endian, *a, *b)),
+        [a, b, c, d] => Some(quad(endian, *a, *b, *c, *d)),
+        _ => None,
+    }
+}
+
+// The number that two bytes make.
+#[inline(always)]
+fn pair(endian: Endian, a: u8, b: u8) -> u32
+    ensures value { result ≡ number_of endian (slice_index (a ∷ b ∷ [])) 2 }
+    ensures below { result < 65536 }
+{
+    let (a, b) = (u32::from(a), u32::from(b));
+    match endian {
+        Endian::Little => a + 256 * b,
+        Endian::Big => 256 * a + b,
+    }
+}
+
+// The number that four bytes make.
+#[inline(always)]
+fn quad(endian: Endian, a: u8, b: u8, c: u8, d: u8) -> u32
+    ensures value { result ≡ number_of endian (slice_index (a ∷ b ∷ c ∷ d ∷ [])) 4 }
+    ensures below { result < 4294967296 }
+{
+    match endian {
+        Endian::Little => pair(endian, a, b) + 65536 * pair(endian, c, d),
+        Endian::Big => 65536 * pair(endian, a, b) + pair(endian, c, d),
     }
 }
 
@@ -153,13 +226,18 @@ fn put_word(
     )
 }
 
-// The bytes of a word in memory order, and zeros behind them.
+// The bytes of a word in memory order, and any behind them.
 fn bytes_of(endian: Endian, word: Word) -> [u8; 16]
     ensures { (i : ℕ) → i < word.size.bytes → slice_index result i ≡ byte_of endian word.size.bytes word.bits i }
 {
-    let mut whole = [0; 16];
-    word.put_into(endian, &mut whole[..usize::from(word.size.get())]);
-    whole
+    match endian {
+        Endian::Little => word.bits.to_le_bytes(),
+        Endian::Big => {
+            let mut whole = [0; 16];
+            word.put_into(endian, &mut whole[..usize::from(word.size.get())]);
+            whole
+        }
+    }
 }
 
 // Puts bytes from an offset on.
@@ -231,6 +309,10 @@ fn overwrite(block: &mut [u8], place: usize, bytes: &[u8])
     ensures put { (o : ℕ) → slice_index block.new o
         ≡ with_temporaries place (length bytes.now) (slice_index bytes.now) (slice_index block.old) o }
 {
+    if let [byte] = bytes {
+        block[place] = *byte;
+        return;
+    }
     block[place..place + bytes.len()].copy_from_slice(bytes);
 }
 

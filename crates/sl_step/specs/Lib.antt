@@ -3,3 +3,4 @@ pub mod Machines
 pub mod Outcomes
 pub mod Stages
 pub mod Stands
+pub mod Windows

@@ -1,10 +1,22 @@
 //! Instructions that were read.
 
-ghost use Rattle.std.specs.Prelude.{◌≡◌, IfOk, IsTrue, length, take};
+ghost use Rattle.std.specs.Prelude.{◌≡◌, ◌<◌, IfOk, IsTrue, length, take};
+ghost use Rattle.sl_step.specs.Windows.{window_in};
+ghost use Rattle.sl_word.specs.Bytes.{address_sizes};
 
+use crate::window::few_at;
 use sl_decode_contexts::Commit;
 use sl_pcode::OpList;
+use sl_word::{SpaceId, State};
 use std::alloc::{AllocError, Global};
+
+// What an operation takes in a list with as much room left as it has taken, and so a commit; and what
+// an instruction takes besides.
+const OPERATION: usize = 256;
+
+const COMMIT: usize = 128;
+
+const OTHERS: usize = 1024;
 
 /// An instruction: what it was read from, and what it is.
 #[derive(Debug, Drop)]
@@ -71,5 +83,25 @@ impl Instruction {
         self.address == address
             && self.context == context
             && bytes.starts_with(self.bytes.as_slice())
+    }
+
+    /// Whether it was read at this address and from this context, from bytes that a state has there. No
+    /// where they are more than a few.
+    pub(crate) fn is_in(&self, state: &State, space: SpaceId, address: u64, context: u64) -> bool
+        requires { space.0 < length (address_sizes state.now) }
+        ensures bytes { IsTrue result → take (length self.now.bytes.items)
+            (window_in state.now space.0 address) ≡ self.now.bytes.items }
+        ensures address { IsTrue result → self.now.address ≡ address }
+        ensures context { IsTrue result → self.now.context ≡ context }
+    {
+        let few = few_at(state, space, address);
+        self.is_of(&few, address, context)
+    }
+
+    /// How many bytes of memory it takes at most, but for inputs of an operation past the third.
+    pub(crate) fn weight(&self) -> usize {
+        let list = self.ops.ops().len().saturating_mul(OPERATION);
+        let rest = self.commits.len().saturating_mul(COMMIT);
+        list.saturating_add(rest).saturating_add(OTHERS)
     }
 }

@@ -13,7 +13,6 @@ use crate::instruction::Instruction;
 use crate::machine::Machine;
 use crate::run::run;
 use crate::stepper::Stepper;
-use crate::window::window_at;
 use sl_emu::{Left, Runner};
 use std::alloc::Global;
 use std::rc::Rc;
@@ -79,9 +78,9 @@ impl Stepper<'_, '_> {
             (R.count runner.old) (R.count runner.new) result }
     {
         let address = machine.counter;
-        let window = window_at(&machine.state, self.space, address);
         let context = machine.contexts.at(address);
-        let instruction = match self.instruction(alloc, &window, address, context, buffers) {
+        let read = self.instruction_in(alloc, &machine.state, address, context, buffers);
+        let instruction = match read {
             Ok(instruction) => instruction,
             Err(error) => return Err(error),
         };

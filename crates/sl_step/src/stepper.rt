@@ -1,25 +1,27 @@
 //! What decodes and builds the instructions of a specification.
 
-ghost use Rattle.std.specs.Prelude.{◌≡◌, IfErr, IfOk, length};
+ghost use Rattle.std.specs.Prelude.{◌≡◌, ◌<◌, IfErr, IfOk, length};
 ghost use Rattle.sl_ast.specs.Views.{items_of};
 ghost use Rattle.sl_faithful_accepted.specs.Laws.{IsShort};
 ghost use Rattle.sl_bind_compile.specs.Compiled.{IsCompiled};
 ghost use Rattle.sl_step.specs.Kept.{AreKept, IsReadAs, IsReadFrom};
 ghost use Rattle.sl_step.specs.Stages.{IsUnread, Reads};
 ghost use Rattle.sl_step.specs.Stands.{StandsFor, choice_in, specification_in};
+ghost use Rattle.sl_step.specs.Windows.{window_in};
+ghost use Rattle.sl_word.specs.Bytes.{address_sizes};
 
 use crate::buffers::StepBuffers;
 use crate::error::StepError;
 use crate::instruction::{Instruction, Listed};
 use crate::sight::sight_of;
 use crate::spaces::default_space;
-use crate::window::WINDOW;
+use crate::window::{WINDOW, window_at};
 use sl_bind_compile::Compiled;
 use sl_build::{Built, Decoded, Sections};
 use sl_decode::{DecodeError, Walk, address_size};
 use sl_faithful_reach::tokens_are_short;
 use sl_list_instructions::Disassembly;
-use sl_word::{AddressSize, SpaceId};
+use sl_word::{AddressSize, SpaceId, State};
 use std::alloc::{AllocError, Global};
 use std::rc::Rc;
 
@@ -151,5 +153,30 @@ impl<'t, 'a> Stepper<'t, 'a> {
         };
         buffers.keep(&instruction);
         Ok(instruction)
+    }
+
+    /// The same of the bytes that a state has at the address.
+    pub(crate) fn instruction_in(
+        &self,
+        alloc: Global,
+        state: &State,
+        address: u64,
+        context: u64,
+        buffers: &mut StepBuffers,
+    ) -> Result<Rc<Instruction>, StepError>
+        requires stands { StandsFor self.now }
+        requires space { self.now.space.0 < length (address_sizes state.now) }
+        requires kept { AreKept (specification_in self.now) (choice_in self.now) buffers.old }
+        ensures kept { AreKept (specification_in self.now) (choice_in self.now) buffers.new }
+        ensures read { IfOk result (λ x. IsReadAs (specification_in self.now) (choice_in self.now)
+            (window_in state.now self.now.space.0 address) address context x.value) }
+        ensures unread { IfErr result (IsUnread (specification_in self.now) (choice_in self.now)
+            (window_in state.now self.now.space.0 address) address context) }
+    {
+        if let Some(found) = buffers.found_in(state, self.space, address, context) {
+            return Ok(found);
+        }
+        let window = window_at(state, self.space, address);
+        self.instruction(alloc, &window, address, context, buffers)
     }
 }

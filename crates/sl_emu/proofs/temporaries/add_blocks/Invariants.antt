@@ -1,5 +1,5 @@
 use Rattle.std.proofs.Common.{◌≡◌, ℕ, ◌+◌, ◌-◌, length}
-use Rattle.sl_emu.specs.Temporaries.{bytes_in}
+use Rattle.sl_emu.specs.Blocks.{bytes_in}
 use Rattle.sl_emu.proofs.temporaries.add_blocks.Given as goal
 
 abbrev pub invariant-loop-alloc : goal.invariant-loop-alloc

@@ -1,5 +1,5 @@
 use Rattle.std.proofs.Common.{◌≡◌, ℕ, ◌+◌, ◌<◌, length, get_or}
-use Rattle.sl_emu.specs.Temporaries.{bytes_in}
+use Rattle.sl_emu.specs.Blocks.{bytes_in}
 use Rattle.sl_emu.proofs.temporaries.front_of.Given as goal
 
 abbrev pub invariant-bytes : goal.invariant-bytes

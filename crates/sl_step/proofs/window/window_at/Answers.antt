@@ -1,9 +1,11 @@
 use Rattle.std.proofs.Common.{ℕ, ◌+◌, ◌%◌, ◌^◌, arith}
 use Rattle.sl_step.proofs.WindowLemmas.{all_told}
+use Rattle.sl_step.specs.Windows.{window_in}
 use Rattle.sl_word.specs.Bytes.{address_size, byte_at}
 use Rattle.sl_step.proofs.window.window_at.Goals as goal
 
 pub returns : goal.returns
+unfolding window_in
 returns c =
     let state = c.args.state.now in
     let space = c.args.space.0 in

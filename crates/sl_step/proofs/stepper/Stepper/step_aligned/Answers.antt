@@ -11,6 +11,7 @@ use Rattle.sl_step.proofs.AddressLemmas.{bytes_are, default_is, sizes_are}
 use Rattle.sl_step.proofs.StepLemmas.{cut_commits, seen_holds, stepped, unread, window_same}
 use Rattle.sl_step.specs.Outcomes.{Steps}
 use Rattle.sl_step.specs.Stands.{choice_in, specification_in}
+use Rattle.sl_step.specs.Windows.{window_in}
 use Rattle.sl_step.specs.declared.error.StepError.TheVariants.{NoMemory}
 use Rattle.sl_step.specs.declared.instruction.Instruction.{Instruction}
 use Rattle.sl_step.specs.declared.machine.Machine.{Machine}
@@ -24,6 +25,7 @@ wide : (t : Tables) (machine : Machine) (i : ℕ) → address_sizes machine.stat
 wide t machine i sizes is = ap (λ (ns : List ℕ). slice_index ns i) sizes ∙ sym (bytes_are t i is)
 
 pub returns-in-Err-clause-steps : goal.returns-in-Err-clause-steps
+unfolding window_in
 returns-in-Err-clause-steps g c start m seen =
     let x = c.args.self.now in
     let s = specification_in x in
@@ -32,10 +34,9 @@ returns-in-Err-clause-steps g c start m seen =
     let stands = c.requires.stands in
     let n = g.R.Runner.count c.args.runner.now in
     seen_holds (λ (a : steps.Machine). Steps s choose start a old n n (Err c.in-Err.error)) start old m seen
-    (unread s choose start old m.commits c.window_at-window.result c.at-context.result c.at-context.type_inv
+    (unread s choose start old m.commits (window_in old.state x.space.0 old.counter) c.at-context.result c.at-context.type_inv
     (c.at-context.ensures start m.commits seen.contexts) c.requires.aligned
-    (c.window_at-window.ensures
-    ∙ window_same s choose start old m.commits x.space.0 (address_size old.state x.space.0)
+    (window_same s choose start old m.commits x.space.0 (address_size old.state x.space.0)
     (sym (default_is s.tables x.space.0 stands.space))
     (wide s.tables old x.space.0 c.requires.fits.sizes stands.space))
     n (g.R.Runner.small c.args.runner.now) seen.contexts c.in-Err.error c.in-Err.ensures.unread)
@@ -49,6 +50,7 @@ run-requires-clause-well_formed g c =
     read.faithful.translation.well_formed
 
 pub returns-clause-steps : goal.returns-clause-steps
+unfolding window_in
 returns-clause-steps g c start m seen =
     let x = c.args.self.now in
     let s = specification_in x in
@@ -60,10 +62,9 @@ returns-clause-steps g c start m seen =
     let behind = g.R.Runner.count c.run.new.runner in
     seen_holds (λ (a : steps.Machine). Steps s choose start a c.run.new.machine before behind c.run.result) start old m
     seen
-    (stepped s choose start old m.commits c.window_at-window.result c.at-context.result c.at-context.type_inv
+    (stepped s choose start old m.commits (window_in old.state x.space.0 old.counter) c.at-context.result c.at-context.type_inv
     (c.at-context.ensures start m.commits seen.contexts) c.requires.aligned
-    (c.window_at-window.ensures
-    ∙ window_same s choose start old m.commits x.space.0 (address_size old.state x.space.0) (sym default)
+    (window_same s choose start old m.commits x.space.0 (address_size old.state x.space.0) (sym default)
     (wide s.tables old x.space.0 c.requires.fits.sizes stands.space))
     c.in-Ok.instruction.value.commits.items c.in-Ok.instruction.value.after (operations c.in-Ok.instruction.value.ops) c.in-Ok.ensures.read c.requires.fits
     x.size.bytes
@@ -77,6 +78,7 @@ returns-clause-steps g c start m seen =
     before behind c.run.result c.run.ensures.runs)
 
 pub returns-in_default-clause-steps : goal.returns-in_default-clause-steps
+unfolding window_in
 returns-in_default-clause-steps g c start m seen =
     let x = c.args.self.now in
     let s = specification_in x in
@@ -87,10 +89,9 @@ returns-in_default-clause-steps g c start m seen =
     let new : Machine = record { state = old.state; counter = old.counter; contexts = c.commit_all.new.self } in
     let made = c.in_default.ensures.first start m.commits seen.contexts in
     seen_holds (λ (a : steps.Machine). Steps s choose start a new n n (Err NoMemory)) start old m seen
-    (cut_commits s choose start old m.commits c.window_at-window.result c.at-context.result c.at-context.type_inv
+    (cut_commits s choose start old m.commits (window_in old.state x.space.0 old.counter) c.at-context.result c.at-context.type_inv
     (c.at-context.ensures start m.commits seen.contexts) c.requires.aligned
-    (c.window_at-window.ensures
-    ∙ window_same s choose start old m.commits x.space.0 (address_size old.state x.space.0)
+    (window_same s choose start old m.commits x.space.0 (address_size old.state x.space.0)
     (sym (default_is s.tables x.space.0 stands.space))
     (wide s.tables old x.space.0 c.requires.fits.sizes stands.space))
     c.in-Ok.instruction.value.commits.items c.in-Ok.instruction.value.after
