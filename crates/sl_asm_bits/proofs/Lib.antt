@@ -1,0 +1,5 @@
+pub mod BitLemmas
+pub mod NumberLemmas
+pub mod ShiftLemmas
+pub mod SumLemmas
+pub mod OperatorLemmas

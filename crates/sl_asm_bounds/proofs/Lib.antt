@@ -1,0 +1,4 @@
+pub mod HullLemmas
+pub mod BoundLemmas
+pub mod ContextLemmas
+pub mod ExtentLemmas

@@ -1,0 +1,5 @@
+pub mod TokenLemmas
+pub mod FieldLemmas
+pub mod EntryLemmas
+pub mod HalfLemmas
+pub mod ValueLemmas

@@ -1,0 +1,4 @@
+pub mod Tokens
+pub mod Frames
+pub mod OpenBits
+pub mod Verdicts

@@ -1,0 +1,26 @@
+use Rattle.std.proofs.Common.{◌≡◌, ap, subst, sym, ◌∙◌}
+use Rattle.sl_asm_print.proofs.DigitLemmas.{read_as}
+use Rattle.sl_asm_print.proofs.FieldLemmas.{text_attached, text_of_value}
+use Rattle.sl_asm_print.specs.Fields.{AddsWhere, IsShownBy}
+use Rattle.sl_show.specs.Numbers.{number_text}
+use Rattle.sl_spec.specs.Tables.{Attached, Entries, Field}
+use Rattle.sl_spec.specs.Views.{entries_of}
+use Rattle.sl_asm_print.proofs.fields.put_text.Goals as goal
+
+pub returns-in_default : goal.returns-in_default
+returns-in_default c = λ known.
+    let f : Field = c.args.of.now in
+    text_of_value c.args.t.now c.args.id f _ c.args.text.now c.args.cubes.now.items c.put_value.new.cubes.items (sym c.in_default.ensures)
+    (λ w fits shows. read_as c.number_in.result w fits (c.number_in.ensures w fits (ap (λ (g : Field). number_text g.dec w) c.of.view_is ∙ shows)))
+    c.in_ok-put_value.ensures
+
+pub returns : goal.returns
+returns c = λ known.
+    let t = c.args.t.now in
+    let f : Field = c.args.of.now in
+    let a : Attached = c.in-Some.attached.now in
+    let old = c.args.cubes.now.items in
+    let new = c.put_attached.new.cubes.items in
+    let same : entries_of c.deref.result.now ≡ a.entries = ap entries_of c.deref.ensures ∙ ap (λ (x : Attached). x.entries) c.attached.view_is in
+    text_attached t c.args.id f a c.args.text.now old new (sym c.in-Some.ensures)
+    (subst (λ (E : Entries). AddsWhere (IsShownBy t f E c.args.text.now) old new) same (c.in_ok-known.ensures known))

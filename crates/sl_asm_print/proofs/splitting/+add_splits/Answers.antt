@@ -1,0 +1,35 @@
+use Rattle.std.proofs.Common.{◌≡◌, ◌<◌, Bool, IsTrue, length, arith, subst}
+use Rattle.sl_asm_print.proofs.SplitLemmas.{back_to, cut_all, cut_other, cut_step}
+use Rattle.sl_asm_print.specs.Splits.{pieces}
+use Rattle.sl_asm_print.proofs.splitting.+add_splits.Goals as goal
+use Rattle.sl_asm_print.proofs.splitting.+add_splits.Goals.{then-can_be+in_ok-push+in_ok-add_splits, else-can_be}
+
+pub ends-preserved : goal.ends-preserved
+ends-preserved t c =
+    let first = c.in-Some.first.now in
+    let rest = c.in-Some.rest.now in
+    let text = c.args.text.now in
+    let front = c.args.front.now.items in
+    let n = c.ends.end in
+    let old = c.args.out.now.items in
+    let deep : c.len-depth.result ≡ length front = omega arith in
+    elim c.if-can_be.branch [
+      | then-can_be+in_ok-push+in_ok-add_splits w ↦ record {
+        same = rw w.front-is (back_to front c.ends.front.items w.push.new.self.items w.add_splits.new.front.items _ _ c.len-depth.result deep
+            c.ends.invariant.same w.in_ok-push.ensures.items w.in_ok-add_splits.ensures.front w.truncate.ensures.items);
+        cut = rw w.out-is (cut_step first rest text front n old c.ends.out.items w.add_splits.new.out.items _ w.push.new.self.items c.ends.front.items _
+            c.split_at.ensures.front c.split_at.ensures.back c.ends.invariant.same w.in_ok-push.ensures.items c.ends.invariant.cut w.in_ok-add_splits.ensures.splits);
+      }
+      | else-can_be w ↦ record {
+        same = rw w.front-is c.ends.invariant.same;
+        cut = rw w.out-is (cut_other first rest text (pieces front) n old c.ends.out.items _ c.split_at.ensures.front
+            (λ shows keeps e. subst (λ (b : Bool). IsTrue b) w.if-can_be.false (c.can_be.ensures shows keeps e)) c.ends.invariant.cut);
+      }
+    ]
+
+pub returns-clause-splits : goal.returns-clause-splits
+returns-clause-splits t c =
+    let text = c.args.text.now in
+    let whole : length text < c.ends.end = omega arith in
+    rw c.in-Some.ensures.cases.0 (cut_all c.in-Some.first.now c.in-Some.rest.now text (pieces c.args.front.now.items) c.ends.end c.args.out.now.items c.ends.out.items whole
+    c.ends.invariant.cut)

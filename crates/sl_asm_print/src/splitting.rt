@@ -1,0 +1,90 @@
+//! Ways to cut a text into parts.
+
+ghost use Rattle.std.specs.Prelude.{◌≡◌, [], List, ℕ, IfOk, IsTrue, OnOk, map};
+ghost use Rattle.std.specs.List.{flat_map};
+ghost use Rattle.sl_asm_print.specs.Splits.{AddsSplits, HasSplit, KeepsTexts, pieces};
+ghost use Rattle.sl_show.specs.declared.templates.Part.{Part as PartOf};
+
+use sl_show::Part;
+use std::alloc::{AllocError, Global};
+
+/// A text for each part.
+pub type Split<'x> = Vec<&'x [u8]>;
+
+/// Adds the front, if no text is left.
+fn add_whole<'x>(
+    alloc: Global,
+    text: &[u8],
+    front: &[&'x [u8]],
+    out: &mut Vec<Split<'x>>,
+) -> Result<(), AllocError>
+    ensures { OnOk result (AddsSplits [] text.now (pieces front.now)
+        out.old.items out.new.items) }
+{
+    if !text.is_empty() {
+        return Ok(());
+    }
+    let whole = copied(alloc, front)?;
+    out.push(whole)?;
+    Ok(())
+}
+
+/// The pieces once more.
+fn copied<'x>(alloc: Global, pieces: &[&'x [u8]]) -> Result<Split<'x>, AllocError>
+    ensures { IfOk result (λ copy. copy.items ≡ pieces.now) }
+{
+    pieces.iter().copied().collect(alloc)
+}
+
+/// Adds the ways to cut the text into these parts, each after the front.
+fn add_splits<'x>(
+    alloc: Global,
+    parts: &[Part],
+    text: &'x [u8],
+    front: &mut Split<'x>,
+    out: &mut Vec<Split<'x>>,
+) -> Result<(), AllocError>
+    ensures front { OnOk result (front.new.items ≡ front.old.items) }
+    ensures splits { OnOk result (AddsSplits parts.now text.now (pieces front.old.items)
+        out.old.items out.new.items) }
+{
+    let Some((first, rest)) = parts.split_first() else {
+        return add_whole(alloc, text, front, out);
+    };
+    let depth = front.len();
+    'ends: for end in 0..text.len() + 1 {
+        let (piece, more) = text.split_at(end);
+        if can_be(first, piece) {
+            front.push(piece)?;
+            add_splits(alloc, rest, more, front, out)?;
+            front.truncate(depth);
+        }
+    }
+    Ok(())
+}
+
+/// Whether a part can have the text.
+fn can_be(part: &Part, piece: &[u8]) -> bool
+    ensures { (shows : PartOf → List ℕ) → KeepsTexts shows → shows part.now ≡ piece.now
+        → IsTrue result }
+{
+    match part {
+        Part::Text(text) => text.as_slice() == piece,
+        _ => true,
+    }
+}
+
+/// All ways to cut the text into the parts. The only error is want of memory.
+pub fn splits<'x>(
+    alloc: Global,
+    parts: &[Part],
+    text: &'x [u8],
+) -> Result<Vec<Split<'x>>, AllocError>
+    ensures { IfOk result (λ out. (shows : PartOf → List ℕ) → KeepsTexts shows
+        → flat_map shows parts.now ≡ text.now → HasSplit (map shows parts.now) out.items) }
+{
+    let mut front = Vec::new(alloc);
+    let mut out = Vec::new(alloc);
+    add_splits(alloc, parts, text, &mut front, &mut out)?;
+    Ok(out)
+}

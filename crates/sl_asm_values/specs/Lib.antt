@@ -1,0 +1,4 @@
+pub mod Narrowing
+pub mod Halves
+pub mod Names
+pub mod Rows
