@@ -3,8 +3,9 @@
 # The options of a command.
 _sleigh_options() {
     case "$1" in
-    list | pcode) echo "--base --hex" ;;
-    run) echo "--base --hex --steps" ;;
+    check | gaps) echo "--packed" ;;
+    list | pcode) echo "--packed --base --hex" ;;
+    run) echo "--packed --base --hex --steps" ;;
     esac
 }
 
@@ -12,7 +13,7 @@ _sleigh() {
     local current="${COMP_WORDS[COMP_CWORD]}" previous="${COMP_WORDS[COMP_CWORD - 1]}" command="${COMP_WORDS[1]}" word IFS=$' \t\n'
     COMPREPLY=()
     if [ "$COMP_CWORD" -eq 1 ]; then
-        mapfile -t COMPREPLY < <(compgen -W "check list pcode run gen" -- "$current")
+        mapfile -t COMPREPLY < <(compgen -W "check list pcode run gaps pack gen" -- "$current")
         return
     fi
     case "$command:$previous" in
@@ -33,9 +34,11 @@ _sleigh() {
         return
     fi
     compopt -o filenames 2>/dev/null
-    if [ "$names" -eq 0 ]; then
+    if [ "$names" -eq 0 ] && [[ " ${COMP_WORDS[*]} " == *" --packed "* ]]; then
+        mapfile -t COMPREPLY < <(compgen -f -- "$current")
+    elif [ "$names" -eq 0 ]; then
         mapfile -t COMPREPLY < <(compgen -f -X '!*.slaspec' -- "$current"; compgen -d -- "$current")
-    elif [ "$command" != check ]; then
+    elif [[ " list pcode run " == *" $command "* ]]; then
         mapfile -t COMPREPLY < <(compgen -f -- "$current")
     fi
 }

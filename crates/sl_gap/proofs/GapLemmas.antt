@@ -21,17 +21,16 @@ use Rattle.sl_cube.specs.declared.Point.{Point}
 use Rattle.sl_gap.proofs.ListLemmas.{rising_push, small_more}
 use Rattle.sl_gap.specs.Findings.{AreFindings, AreKept, AreUnmarked, IsAt, LooksSure, TellsFinding, TellsHoleOf, with_hole}
 use Rattle.sl_gap.specs.Holes.{IsHole, IsLeastHole}
-use Rattle.sl_gap.specs.Reports.{AreHoles, AreShadowed, IsPlain, IsReport, IsRising, IsSure}
+use Rattle.sl_gap.specs.Reports.{AreHoles, AreShadowed, IsPlain, IsReport, IsRising, IsSure, Report}
 use Rattle.sl_gap.specs.declared.findings.Finding.{Finding}
 use Rattle.sl_gap.specs.declared.reports.Found.{Found}
 use Rattle.sl_gap.specs.declared.report.Hole.{Hole}
-use Rattle.sl_gap.specs.declared.report.Report.{Report}
 use Rattle.sl_decode_meaning.specs.Meanings.{says}
 use Rattle.sl_decode_plan.specs.Plans.{done, done_by}
 use Rattle.sl_decode_plan.specs.declared.plans.Plan.{Plan}
 use Rattle.sl_gap_operands.specs.Operands.{IsExamined}
-use Rattle.sl_gap_tables.specs.Gaps.{IsGap, IsShadowed}
-use Rattle.sl_gap_tables.specs.Tables.{TellChosen, TellGaps}
+use Rattle.sl_gap_tables.specs.Gaps.{IsGap, IsShadowed, TellGaps}
+use Rattle.sl_gap_tables.specs.Tables.{TellChosen}
 use Rattle.sl_spec.specs.Tables.{Ctor}
 use Rattle.sl_spec.specs.Unfolded.{all_placed, placed}
 use Rattle.sl_spec.specs.declared.tables.Tables.{Tables}
@@ -241,12 +240,12 @@ pub past_all : (t : Tables) (us : List Unfolded) (n : ℕ) → length t.construc
 past_all t us n counted past = omega (arith, counted, length-map us placed, past)
 
 pub report_is : (t : Tables) (cs : List (Placed Constructor)) (kept : List TableSets) (r : Report) (marks : List Bool) (f : Found) → AreKept t cs kept
-    → TellGaps t cs r.tables.items → TellChosen t cs marks → AreUnmarked marks r.shadowed.items → AreFindings t cs f → r.holes ≡ f.holes
-    → IsTrue r.sure ↔ LooksSure f r.tables.items → IsReport t cs r
+    → TellGaps t cs r.tables → TellChosen t cs marks → AreUnmarked marks r.shadowed → AreFindings t cs f → r.holes ≡ f.holes.items
+    → IsTrue r.sure ↔ LooksSure f r.tables → IsReport t cs r
 report_is t cs kept r marks f are told chosen un found holes sure =
-    let s = sure_is t cs kept r.tables.items f are told found in record {
+    let s = sure_is t cs kept r.tables f are told found in record {
       tables = told;
-      shadowed = are_shadowed t cs marks r.shadowed.items chosen un;
-      holes = subst (λ hs. AreHoles t cs hs.items) (sym holes) found.holes;
+      shadowed = are_shadowed t cs marks r.shadowed chosen un;
+      holes = subst (AreHoles t cs) (sym holes) found.holes;
       sure = (λ b. s.0 (sure.0 b), λ i. sure.1 (s.1 i));
     }

@@ -1,4 +1,4 @@
--- view: where a constructor is chosen at a point and its first table operand has no choice behind it.
+-- meaning: where a constructor is chosen at a point and its first table operand has no choice behind it.
 use Rattle.std.specs.Prelude.{ℕ, List}
 use Rattle.sl_ast.specs.Trees.{Constructor}
 use Rattle.sl_ast.specs.Unfolding.{Placed}

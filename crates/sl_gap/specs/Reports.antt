@@ -1,5 +1,5 @@
--- view: the report on what a specification leaves unmatched.
-use Rattle.std.specs.Prelude.{◌≡◌, ◌↔◌, ◌<◌, ◌≤◌, ℕ, All, List, [], ◌∷◌, length, map, Some, slice_get, IsTrue, Contains}
+-- meaning: the report on what a specification leaves unmatched.
+use Rattle.std.specs.Prelude.{◌≡◌, ◌↔◌, ◌<◌, ◌≤◌, ℕ, All, Bool, List, [], ◌∷◌, length, map, Option, Some, slice_get, IsTrue, Contains}
 use Rattle.sl_ast.specs.Trees.{Constructor}
 use Rattle.sl_ast.specs.Unfolding.{Placed}
 use Rattle.sl_cube.specs.Points.{InRange}
@@ -7,12 +7,18 @@ use Rattle.sl_cube.specs.declared.Point.{Point}
 use Rattle.sl_decode_meaning.specs.Places.{table_operands}
 use Rattle.sl_gap.specs.Holes.{IsHole, IsLeastHole}
 use Rattle.sl_gap.specs.declared.report.Hole.{Hole}
-use Rattle.sl_gap.specs.declared.report.Report.{Report}
 use Rattle.sl_gap_operands.specs.Operands.{IsExamined, IsQuiet}
-use Rattle.sl_gap_tables.specs.Gaps.{IsGap, IsShadowed}
-use Rattle.sl_gap_tables.specs.Tables.{TellGaps}
+use Rattle.sl_gap_tables.specs.Gaps.{IsGap, IsShadowed, TellGaps}
 use Rattle.sl_spec.specs.Tables.{Ctor}
 use Rattle.sl_spec.specs.declared.tables.Tables.{Tables}
+
+-- What a specification leaves unmatched: the least unmatched point of each table, in order of the tables; the constructors
+-- that are chosen at no point; the holes; and whether no decode can end for want of a constructor.
+pub record Report : Type 0 where
+  pub tables : List (Option Point)
+  pub shadowed : List ℕ
+  pub holes : List Hole
+  pub sure : Bool
 
 -- Each number is less than those after it.
 abbrev pub IsRising : List ℕ → Type 0
@@ -46,10 +52,9 @@ module _ (t : Tables) (cs : List (Placed Constructor)) where
     pub no_holes : (number table place : ℕ) → IsExamined t cs number table place → (parent child : Point)
         → IsHole t cs number table place parent child → ⊥
 
-  -- What each table leaves unmatched, in order of the tables; which constructors are shadowed; the holes; and whether no
-  -- decode can end for want of a constructor.
+  -- Each list has all that it should and nothing else.
   pub record IsReport (r : Report) : Type 0 where
-    pub tables : TellGaps t cs r.tables.items
-    pub shadowed : AreShadowed r.shadowed.items
-    pub holes : AreHoles r.holes.items
+    pub tables : TellGaps t cs r.tables
+    pub shadowed : AreShadowed r.shadowed
+    pub holes : AreHoles r.holes
     pub sure : IsTrue r.sure ↔ IsSure

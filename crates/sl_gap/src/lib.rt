@@ -4,9 +4,11 @@
 
 mod findings;
 mod holes;
+mod laws;
 mod report;
 mod reports;
 mod unmarked;
 
+pub use laws::{report_is_one, some_report};
 pub use report::{Hole, Report};
 pub use reports::gaps;

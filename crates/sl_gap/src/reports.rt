@@ -10,6 +10,7 @@ ghost use Rattle.sl_decode_meaning.specs.Meanings.{says};
 ghost use Rattle.sl_decode_plan.specs.Plans.{done_by};
 ghost use Rattle.sl_gap.specs.Findings.{AddsHole, AreFindings, AreKept, LooksSure};
 ghost use Rattle.sl_gap.specs.Reports.{IsReport};
+ghost use Rattle.sl_gap.specs.Views.{report_view};
 ghost use Rattle.sl_gap_tables.specs.Tables.{AreSettled};
 ghost use Rattle.sl_spec.specs.Unfolded.{all_placed};
 
@@ -102,8 +103,8 @@ fn is_sure(found: &Found, gaps: &[Option<Point>]) -> bool
 /// The report on a specification. The only error is want of memory.
 pub fn gaps(alloc: Global, compiled: &Compiled<'_>) -> Result<Report, AllocError>
     requires { IsCompiled compiled.now }
-    ensures { IfOk result (IsReport compiled.now.bound.tables
-        (all_constructors (items_of compiled.now.bound.spec))) }
+    ensures { IfOk result (λ r. IsReport compiled.now.bound.tables
+        (all_constructors (items_of compiled.now.bound.spec)) (report_view r)) }
 {
     let t = &compiled.bound.tables;
     let kept = compiled.checked.tables.as_slice();

@@ -1,4 +1,4 @@
--- view: the points that lie some bytes behind others.
+-- meaning: the points that lie some bytes behind others.
 use Rattle.std.specs.Prelude.{◌≡◌, ◌-◌, ◌*◌, ◌/◌, ◌%◌, ◌^◌, ℕ}
 use Rattle.sl_cube.specs.declared.Point.{Point}
 

@@ -1,4 +1,4 @@
--- view: the constructors that are examined for holes.
+-- meaning: the constructors that are examined for holes.
 use Rattle.std.specs.Prelude.{◌≡◌, ◌≤◌, ℕ, Bool, false, List, [], ◌∷◌, Some, slice_get}
 use Rattle.std.specs.List.{list_any}
 use Rattle.std.specs.Option.{is_some}

@@ -21,8 +21,8 @@ use Rattle.sl_cube_sets.specs.Sets.{HasAt, IsUnmatched}
 use Rattle.sl_cube_sets.specs.Unions.{has_set}
 use Rattle.sl_cube_sets.specs.declared.CubeSet.{CubeSet}
 use Rattle.sl_gap_tables.proofs.SetLemmas.{least_same, some_at, unmatched_down, unmatched_up}
-use Rattle.sl_gap_tables.specs.Gaps.{IsGap}
-use Rattle.sl_gap_tables.specs.Tables.{AreUnmatched, HasSome, TellGaps, TellsUnmatched}
+use Rattle.sl_gap_tables.specs.Gaps.{IsGap, TellGaps}
+use Rattle.sl_gap_tables.specs.Tables.{AreUnmatched, HasSome, TellsUnmatched}
 use Rattle.sl_spec.specs.declared.tables.Tables.{Tables}
 
 -- ---- all cubes of a table

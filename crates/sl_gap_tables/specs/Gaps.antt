@@ -1,5 +1,5 @@
--- view: what a table leaves unmatched, and where a constructor is chosen.
-use Rattle.std.specs.Prelude.{ℕ, List, Option}
+-- meaning: what a table leaves unmatched, and where a constructor is chosen.
+use Rattle.std.specs.Prelude.{◌≡◌, ℕ, List, length, Option, Some, slice_get}
 use Rattle.sl_ast.specs.Trees.{Constructor}
 use Rattle.sl_ast.specs.Unfolding.{Placed}
 use Rattle.sl_conflict.specs.Ambiguity.{IsOf}
@@ -27,3 +27,8 @@ module _ (t : Tables) (cs : List (Placed Constructor)) where
   -- It is the choice at no point.
   abbrev pub IsShadowed : ℕ → Type 0
   IsShadowed number = (p : Point) → InRange p → IsChosen number p → ⊥
+
+  -- what each table leaves unmatched, by its number
+  pub record TellGaps (told : List (Option Point)) : Type 0 where
+    pub counted : length told ≡ length t.tables
+    pub each : (table : ℕ) (one : Option Point) → slice_get told table ≡ Some one → TellsGap table one

@@ -8,7 +8,7 @@ use Rattle.sl_cube.specs.Points.{InRange}
 use Rattle.sl_cube.specs.declared.Point.{Point}
 use Rattle.sl_cube_sets.specs.Sets.{HasAt, IsChoice, IsLeastOf, IsUnmatched}
 use Rattle.sl_cube_sets.specs.Unions.{has_set}
-use Rattle.sl_gap_tables.specs.Gaps.{IsChosen, TellsGap}
+use Rattle.sl_gap_tables.specs.Gaps.{IsChosen}
 use Rattle.sl_spec.specs.declared.tables.Tables.{Tables}
 
 -- One of the sets has the point.
@@ -28,11 +28,6 @@ pub record AreUnmatched (kept : List TableSets) (told : List (Option Point)) (co
 -- Each table is settled.
 abbrev pub AreSettled : List TableSets → Type 0
 AreSettled kept = (table : ℕ) (k : TableSets) → slice_get kept table ≡ Some k → HasChoices k
-
--- What is told of each table of a specification, by its number.
-pub record TellGaps (t : Tables) (cs : List (Placed Constructor)) (told : List (Option Point)) : Type 0 where
-  pub counted : length told ≡ length t.tables
-  pub each : (table : ℕ) (one : Option Point) → slice_get told table ≡ Some one → TellsGap t cs table one
 
 -- The set at an index of the table is the choice at the point, and this is its constructor.
 pub record IsChosenAt (k : TableSets) (number : ℕ) (p : Point) : Type 0 where

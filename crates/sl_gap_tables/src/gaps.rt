@@ -7,7 +7,8 @@ ghost use Rattle.sl_conflict.specs.Kept.{IsPaired};
 ghost use Rattle.sl_conflict.specs.TableTests.{AreSetsOf};
 ghost use Rattle.sl_cube.specs.Points.{IsInSome};
 ghost use Rattle.sl_cube.specs.declared.Point.{Point as PointOf};
-ghost use Rattle.sl_gap_tables.specs.Tables.{AreUnmatched, HasSome, TellGaps, TellsUnmatched};
+ghost use Rattle.sl_gap_tables.specs.Gaps.{TellGaps};
+ghost use Rattle.sl_gap_tables.specs.Tables.{AreUnmatched, HasSome, TellsUnmatched};
 ghost use Rattle.sl_spec.specs.declared.tables.Tables.{Tables as TablesOf};
 
 use sl_conflict::TableSets;

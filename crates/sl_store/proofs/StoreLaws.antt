@@ -1,11 +1,13 @@
 -- Laws of packing and unpacking.
 use Rattle.std.proofs.Common.{◌≡◌, ℕ, ◌-◌, ◌==◌, Bool, true, false, List, [], ◌∷◌, ◌++◌, length, Result, Ok, Err, refl, ap, sym, ◌∙◌, append-nil, arith}
-use Rattle.sl_store_write.specs.Packs.{IsFileOf, packed_of}
+use Rattle.sl_store_write.specs.Packs.{IsFileOf}
+use Rattle.sl_store_write.specs.Parts.{packed_of}
 use Rattle.sl_store_write.specs.declared.packed.Packed as program
 use Rattle.sl_store_format.specs.Packed.{Written, Packed, IsPackable, IsPacked, apart, mark, pack, write_written, written_here}
 use Rattle.sl_store_bytes.specs.Reader.{Fault, cut, damaged}
 use Rattle.sl_store_bytes.specs.Verdicts.{HasMark, at_end}
-use Rattle.sl_store.specs.Answers.{Answers, Opens, IsCut, IsDamagedAt}
+use Rattle.sl_store.specs.Answers.{Answers, Opens}
+use Rattle.sl_store.specs.Damage.{IsCut, IsDamagedAt}
 use Rattle.sl_store.specs.Laws.{HasFile, AreOneToOne, AnswersAgree, Verdict, not_packed, file_of, is_cut, is_damaged, EachHasAVerdict}
 use Rattle.sl_store.specs.Reads.{IsWhole}
 use Rattle.sl_store.specs.declared.opening.UnpackError as u

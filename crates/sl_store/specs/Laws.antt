@@ -1,10 +1,12 @@
 -- law: laws of packing and unpacking.
 use Rattle.std.specs.Prelude.{◌≡◌, ℕ, List, Result, Ok, Err}
-use Rattle.sl_store_write.specs.Packs.{IsFileOf, packed_of}
+use Rattle.sl_store_write.specs.Packs.{IsFileOf}
+use Rattle.sl_store_write.specs.Parts.{packed_of}
 use Rattle.sl_store_write.specs.declared.packed.Packed as program
 use Rattle.sl_store_format.specs.Packed.{Packed, IsPacked, mark}
 use Rattle.sl_store_bytes.specs.Verdicts.{HasMark}
-use Rattle.sl_store.specs.Answers.{Answers, IsCut, IsDamagedAt}
+use Rattle.sl_store.specs.Answers.{Answers}
+use Rattle.sl_store.specs.Damage.{IsCut, IsDamagedAt}
 use Rattle.sl_store.specs.declared.opening.UnpackError as u
 use Rattle.sl_store.specs.declared.opening.UnpackError.TheVariants as uv
 

@@ -1,4 +1,5 @@
 pub mod Reads
+pub mod Damage
 pub mod Answers
 pub mod Laws
 pub mod Kinds

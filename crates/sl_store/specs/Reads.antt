@@ -1,7 +1,7 @@
 -- step: what is read after the mark, and at the end of the bytes.
 use Rattle.std.specs.Prelude.{◌≡◌, ℕ, List, Result, Ok, Err}
 use Rattle.sl_store.specs.Numbers.{AreNumbered}
-use Rattle.sl_store_write.specs.Packs.{packed_of}
+use Rattle.sl_store_write.specs.Parts.{packed_of}
 use Rattle.sl_store_write.specs.declared.packed.Packed as program
 use Rattle.sl_store_format.specs.Packed.{Written, apart}
 use Rattle.sl_store_bytes.specs.Reader.{Fault, cut, damaged, Outcome}

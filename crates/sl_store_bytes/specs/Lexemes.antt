@@ -1,4 +1,4 @@
--- law: lists of bytes each of which is judged by those before it.
+-- meaning: lists of bytes each of which is judged by those before it.
 use Rattle.std.specs.Prelude.{◌≡◌, ℕ, Bool, true, List, [], ◌∷◌, ◌++◌, length}
 use Rattle.sl_store_bytes.specs.Lists.{some_more, listed, IsListed}
 use Rattle.sl_store_bytes.specs.Numbers.{write_number}

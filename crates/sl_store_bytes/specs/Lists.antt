@@ -1,4 +1,4 @@
--- law: lists and optional parts.
+-- meaning: lists and optional parts.
 use Rattle.std.specs.Prelude.{◌≤◌, ℕ, zero, suc, Bool, ◌==◌, nat_le, if◌then◌else◌, List, [], ◌∷◌, ◌++◌, length, Option, None, Some}
 use Rattle.sl_ast.specs.Validity.{Each}
 use Rattle.sl_store_bytes.specs.Numbers.{write_number, number, greatest, IsWithin}

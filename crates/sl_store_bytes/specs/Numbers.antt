@@ -1,4 +1,4 @@
--- law: numbers in groups of 7 bits, least first, in the fewest bytes.
+-- meaning: numbers in groups of 7 bits, least first, in the fewest bytes.
 use Rattle.std.specs.Prelude.{◌≤◌, ◌<◌, ℕ, zero, suc, ◌+◌, ◌-◌, ◌*◌, ◌/◌, ◌%◌, Bool, ◌&&◌, if◌then◌else◌, List, [], ◌∷◌, nat_le}
 use Rattle.sl_store_bytes.specs.Reader.{Reader, ◌>>=◌, pure, byte}
 

@@ -1,4 +1,4 @@
--- law: the bytes of byte orders, attributes, kinds, relations and operators.
+-- meaning: the bytes of byte orders, attributes, kinds, relations and operators.
 use Rattle.std.specs.Prelude.{ℕ, List, [], ◌∷◌}
 use Rattle.sl_ast.specs.declared.definitions.AttachKind.{AttachKind}
 use Rattle.sl_ast.specs.declared.definitions.AttachKind.TheVariants as a

@@ -1,4 +1,4 @@
--- law: readers of bytes, what they take of the bytes that are left, or where they stop.
+-- meaning: readers of bytes, what they take of the bytes that are left, or where they stop.
 use Rattle.std.specs.Prelude.{ℕ, suc, Bool, if◌then◌else◌, List, [], ◌∷◌, length, drop, Option, None, Some, Result, Ok, Err}
 
 -- The bytes end too early, or no file begins with these bytes. The number counts the bytes that are

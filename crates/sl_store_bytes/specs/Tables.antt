@@ -1,4 +1,4 @@
--- law: bytes that stand for the members of a table.
+-- meaning: bytes that stand for the members of a table.
 use Rattle.std.specs.Prelude.{ℕ, Bool, if◌then◌else◌, List, Option, None, Some, slice_get}
 use Rattle.sl_store_bytes.specs.Reader.{Reader, choose}
 

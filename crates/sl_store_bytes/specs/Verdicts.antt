@@ -1,4 +1,4 @@
--- law: what the bytes of a file are: those of a value, the beginning of some, or damaged at a byte.
+-- meaning: what the bytes of a file are: those of a value, the beginning of some, or damaged at a byte.
 use Rattle.std.specs.Prelude.{◌≡◌, ◌<◌, ℕ, suc, List, [], ◌∷◌, ◌++◌, length, take, Result, Ok, Err}
 use Rattle.sl_store_bytes.specs.Reader.{Fault, damaged, Outcome}
 

@@ -1,4 +1,4 @@
--- law: the kinds of lexemes. A byte may follow others where some lexeme begins with all of them.
+-- meaning: the kinds of lexemes. A byte may follow others where some lexeme begins with all of them.
 use Rattle.std.specs.Prelude.{◌≡◌, ℕ, Bool, true, false, ◌&&◌, ◌||◌, ◌==◌, nat_le, if◌then◌else◌, List, [], ◌∷◌, ◌++◌, length, slice_index, ◌-◌, Option, None, Some}
 use Rattle.sl_ast.specs.Operators.{missing_function, missing_statement}
 use Rattle.sl_ast.specs.Symbols.{keyword_of}

@@ -6,7 +6,8 @@ use Rattle.sl_ast.specs.Validity.{heaviest, Each, IfWritten, IsPiece, IsAction, 
 use Rattle.sl_store_format.specs.Constructors.{write_piece, PieceLeaves, piece_by, piece, write_section, SectionLeaves, section, write_actions, ActionsLeaves, actions, write_constructor, ConstructorLeaves, made_of, constructor_here, write_head, HeadLeaves, head_of, head_here, write_macro, MacroLeaves, macro_of, macro_here}
 use Rattle.sl_store_format.specs.Forms.{shown_forms, shown_code}
 use Rattle.sl_store_format.specs.Keywords.{word_bytes}
-use Rattle.sl_store_format.specs.Patterns.{write_pattern, ActionLeaves}
+use Rattle.sl_store_format.specs.Actions.{ActionLeaves}
+use Rattle.sl_store_format.specs.PatternBytes.{write_pattern}
 use Rattle.sl_store_format.specs.Statements.{write_statement, StatementLeaves}
 use Rattle.sl_store_format.specs.declared.forms.ShownForm.{ShownForm}
 use Rattle.sl_store_format.specs.declared.forms.ShownForm.TheVariants as x

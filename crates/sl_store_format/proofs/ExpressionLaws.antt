@@ -9,7 +9,8 @@ use Rattle.sl_ast.specs.declared.expressions.BinaryOp.TheVariants as o
 use Rattle.sl_ast.specs.declared.expressions.PrefixOp.{PrefixOp}
 use Rattle.sl_ast.specs.declared.expressions.PrefixOp.TheVariants as p
 use Rattle.sl_store_format.specs.Expressions.{count, write_expression, write_arguments, Leaves, AllLeaves, fits, size_fits, drop_fits, bits_fit, operator_fits, space_fits, room_after, space_here, width, bracketed, given, called, simple, operand, sized_here, dropped_here, bits_here, prefixed, starred, operands, joined_here, form_by, expression, Fits, whole_expression}
-use Rattle.sl_store_format.specs.Forms.{expression_forms, expression_code}
+use Rattle.sl_store_format.specs.Forms.{expression_code}
+use Rattle.sl_store_format.specs.StatementForms.{expression_forms}
 use Rattle.sl_store_format.specs.declared.forms.ExpressionForm.{ExpressionForm}
 use Rattle.sl_store_format.specs.declared.forms.ExpressionForm.TheVariants as x
 use Rattle.sl_store_bytes.specs.Exact.{Exact}

@@ -22,7 +22,8 @@ use Rattle.sl_store_format.specs.declared.forms.TargetForm.{TargetForm}
 use Rattle.sl_store_format.specs.declared.forms.TargetForm.TheVariants as target
 use Rattle.sl_store_format.specs.declared.forms.ExpressionForm.{ExpressionForm}
 use Rattle.sl_store_format.specs.declared.forms.ExpressionForm.TheVariants as expression
-use Rattle.sl_store_format.specs.Forms.{definition_forms, definition_code, attribute_forms, attribute_code, member_forms, member_code, shown_forms, shown_code, item_forms, item_code, pattern_forms, pattern_code, statement_forms, statement_code, left_forms, left_code, direct_forms, direct_code, target_forms, target_code, expression_forms, expression_code}
+use Rattle.sl_store_format.specs.Forms.{definition_forms, definition_code, attribute_forms, attribute_code, member_forms, member_code, shown_forms, shown_code, item_forms, item_code, pattern_forms, pattern_code, statement_code, left_code, direct_code, target_code, expression_code}
+use Rattle.sl_store_format.specs.StatementForms.{statement_forms, left_forms, direct_forms, target_forms, expression_forms}
 use Rattle.sl_store_bytes.proofs.RuleLaws.{Counts}
 
 definition_there : (k : DefinitionForm) → slice_get definition_forms (definition_code k) ≡ Some k

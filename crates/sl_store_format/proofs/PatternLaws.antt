@@ -9,7 +9,9 @@ use Rattle.sl_ast.specs.declared.patterns.Relation.{Relation}
 use Rattle.sl_ast.specs.declared.patterns.Relation.TheVariants as r
 use Rattle.sl_store_format.specs.Expressions.{write_expression, Leaves, Fits, expression}
 use Rattle.sl_store_format.specs.Forms.{pattern_forms, pattern_code}
-use Rattle.sl_store_format.specs.Patterns.{joint_code, write_pattern, PatternLeaves, pattern_fits, ellipsis_fits, constrained, grouped, simple_pattern, before_ellipsis, with_ellipsis, both_patterns, pattern_by, pattern, PatternFits, whole_pattern, write_operand, OperandLeaves, operand_here, write_action, ActionLeaves, action}
+use Rattle.sl_store_format.specs.Actions.{write_operand, OperandLeaves, operand_here, write_action, ActionLeaves, action}
+use Rattle.sl_store_format.specs.PatternBytes.{joint_code, write_pattern, PatternLeaves}
+use Rattle.sl_store_format.specs.Patterns.{pattern_fits, ellipsis_fits, constrained, grouped, simple_pattern, before_ellipsis, with_ellipsis, both_patterns, pattern_by, pattern, PatternFits, whole_pattern}
 use Rattle.sl_store_format.specs.declared.forms.PatternForm.{PatternForm}
 use Rattle.sl_store_format.specs.declared.forms.PatternForm.TheVariants as x
 use Rattle.sl_store_bytes.specs.Exact.{Exact}

@@ -4,8 +4,9 @@ use Rattle.sl_ast.specs.Operators.{in_section}
 use Rattle.sl_ast.specs.Trees.{Name, Expression, Operand, by_name, by_integer, StarForm, Left, left_name, left_bits, left_star, Direct, to_label, to_operand, Dest, direct, computed, Target, calls, calls_computed, Exported, exports, exports_star, Statement, local, declare, assign, goto, branch, call_to, return, build, export, invoke, label}
 use Rattle.sl_ast.specs.Validity.{heaviest, IsExpression, IsStarForm, IsLeft, IsDest, IsTarget, IsExported, IsStatement}
 use Rattle.sl_store_format.specs.Expressions.{write_expression, Leaves, width}
-use Rattle.sl_store_format.specs.Forms.{left_forms, left_code, direct_forms, direct_code, target_forms, target_code, statement_forms, statement_code}
-use Rattle.sl_store_format.specs.Patterns.{write_operand, OperandLeaves, operand_here}
+use Rattle.sl_store_format.specs.Forms.{left_code, direct_code, target_code, statement_code}
+use Rattle.sl_store_format.specs.StatementForms.{left_forms, direct_forms, target_forms, statement_forms}
+use Rattle.sl_store_format.specs.Actions.{write_operand, OperandLeaves, operand_here}
 use Rattle.sl_store_format.specs.Statements.{value, write_star, StarLeaves, star_form, write_left, LeftLeaves, left_by, left, write_direct, DirectLeaves, direct_by, direct_here, write_dest, DestLeaves, dest, write_target, TargetLeaves, target_by, target, write_exported, ExportedLeaves, exported, write_statement, StatementLeaves, statement_by, statement}
 use Rattle.sl_store_format.specs.declared.forms.DirectForm.{DirectForm}
 use Rattle.sl_store_format.specs.declared.forms.DirectForm.TheVariants as d

@@ -1,4 +1,4 @@
--- law: constructors, blocks' heads and macros as bytes, the conditions on their leaves, and their readers.
+-- meaning: constructors, blocks' heads and macros as bytes, the conditions on their leaves, and their readers.
 use Rattle.std.specs.Prelude.{ℕ, List, [], ◌∷◌, ◌++◌, Option}
 use Rattle.sl_ast.specs.Symbols.{Word, plain, quoted, word_of}
 use Rattle.sl_ast.specs.Trees.{Name, Pattern, Action, Statement, Piece, piece_word, piece_text, piece_blank, piece_caret, piece_char, Section, statements, unimplemented, Constructor, Head, Macro}
@@ -6,7 +6,9 @@ use Rattle.sl_ast.specs.Validity.{IfWritten}
 use Rattle.sl_store_format.specs.Definitions.{write_word, WordLeaves}
 use Rattle.sl_store_format.specs.Forms.{shown_forms}
 use Rattle.sl_store_format.specs.Keywords.{word_bytes}
-use Rattle.sl_store_format.specs.Patterns.{write_pattern, PatternLeaves, whole_pattern, write_action, ActionLeaves, action}
+use Rattle.sl_store_format.specs.Actions.{write_action, ActionLeaves, action}
+use Rattle.sl_store_format.specs.PatternBytes.{write_pattern, PatternLeaves}
+use Rattle.sl_store_format.specs.Patterns.{whole_pattern}
 use Rattle.sl_store_format.specs.Statements.{write_statement, StatementLeaves, statement}
 use Rattle.sl_store_format.specs.declared.forms.ShownForm.{ShownForm}
 use Rattle.sl_store_format.specs.declared.forms.ShownForm.TheVariants as x

@@ -1,4 +1,4 @@
--- law: definitions and attached lists as bytes, the conditions on their leaves, and their readers.
+-- meaning: definitions and attached lists as bytes, the conditions on their leaves, and their readers.
 use Rattle.std.specs.Prelude.{◌≡◌, ◌≤◌, ℕ, List, [], ◌∷◌, ◌++◌, true}
 use Rattle.sl_ast.specs.Symbols.{Word, plain, quoted, word_of}
 use Rattle.sl_ast.specs.Trees.{Name, SpaceAttribute, of_type, of_size, of_word_size, is_default, BitRange, Field, Names, one, several, Definition, endian, alignment, space, bit_ranges, pcode_ops, token, context, registers, Member, member_word, member_text, member_integer, member_negative}

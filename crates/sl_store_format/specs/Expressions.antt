@@ -1,11 +1,11 @@
--- law: expressions as bytes, the conditions on their leaves, and their reader.
+-- meaning: expressions as bytes, the conditions on their leaves, and their reader.
 use Rattle.std.specs.Prelude.{◌≡◌, ◌≤◌, ℕ, zero, suc, ◌+◌, ◌-◌, Bool, true, false, ◌&&◌, ◌||◌, ◌==◌, nat_le, if◌then◌else◌, List, [], ◌∷◌, ◌++◌, Option, None, Some}
 use Rattle.sl_ast.specs.Operators.{Kind, in_section, in_action, is_section, has_names, has_prefix, has_operator, rank, right_rank, left_rank, loosest, widest}
 use Rattle.sl_ast.specs.Trees.{Name, Expression, Expressions, integer, named, paren, call, sized, dropped, bits, prefix, star, binary, no_more, with_more}
 use Rattle.sl_ast.specs.Validity.{Binds, IfWritten, heaviest, space_weight, weight}
 use Rattle.sl_ast.specs.Views.{arguments}
 use Rattle.sl_ast.specs.declared.expressions.BinaryOp.{BinaryOp}
-use Rattle.sl_store_format.specs.Forms.{expression_forms}
+use Rattle.sl_store_format.specs.StatementForms.{expression_forms}
 use Rattle.sl_store_format.specs.declared.forms.ExpressionForm.{ExpressionForm}
 use Rattle.sl_store_format.specs.declared.forms.ExpressionForm.TheVariants as x
 use Rattle.sl_store_bytes.specs.Lexemes.{write_bytes}

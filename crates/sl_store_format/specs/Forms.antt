@@ -86,9 +86,6 @@ pattern_code pattern.And = 4
 pattern_code pattern.Then = 5
 pattern_code pattern.Or = 6
 
-abbrev pub statement_forms : List StatementForm
-statement_forms = statement.Local ∷ statement.Declare ∷ statement.Assign ∷ statement.Goto ∷ statement.Branch ∷ statement.Call ∷ statement.Return ∷ statement.Build ∷ statement.Export ∷ statement.Invoke ∷ statement.Label ∷ []
-
 abbrev pub statement_code : StatementForm → ℕ
 statement_code statement.Local = 0
 statement_code statement.Declare = 1
@@ -102,32 +99,20 @@ statement_code statement.Export = 8
 statement_code statement.Invoke = 9
 statement_code statement.Label = 10
 
-abbrev pub left_forms : List LeftForm
-left_forms = left.Name ∷ left.Bits ∷ left.Star ∷ []
-
 abbrev pub left_code : LeftForm → ℕ
 left_code left.Name = 0
 left_code left.Bits = 1
 left_code left.Star = 2
-
-abbrev pub direct_forms : List DirectForm
-direct_forms = direct.Label ∷ direct.Name ∷ direct.Integer ∷ []
 
 abbrev pub direct_code : DirectForm → ℕ
 direct_code direct.Label = 0
 direct_code direct.Name = 1
 direct_code direct.Integer = 2
 
-abbrev pub target_forms : List TargetForm
-target_forms = target.Name ∷ target.Integer ∷ target.Computed ∷ []
-
 abbrev pub target_code : TargetForm → ℕ
 target_code target.Name = 0
 target_code target.Integer = 1
 target_code target.Computed = 2
-
-abbrev pub expression_forms : List ExpressionForm
-expression_forms = expression.Integer ∷ expression.Name ∷ expression.Paren ∷ expression.Call ∷ expression.Sized ∷ expression.Dropped ∷ expression.Bits ∷ expression.Prefix ∷ expression.Star ∷ expression.Binary ∷ []
 
 abbrev pub expression_code : ExpressionForm → ℕ
 expression_code expression.Integer = 0

@@ -1,4 +1,4 @@
--- law: items with their places as bytes, the conditions on them, and their readers.
+-- meaning: items with their places as bytes, the conditions on them, and their readers.
 use Rattle.std.specs.Prelude.{◌≤◌, ◌<◌, ℕ, zero, suc, ◌-◌, Bool, true, false, ◌==◌, nat_le, if◌then◌else◌, List, [], ◌∷◌, ◌++◌}
 use Rattle.sl_ast.specs.Trees.{Constructor, Head, Inside, nothing, constructor_then, block_then, Item, define, attach_list, attach_one, macro, constructor, block}
 use Rattle.sl_ast.specs.Validity.{Each, heaviest, deepest, IsItem, IsHead, IsConstructor}

@@ -1,4 +1,4 @@
--- law: the bytes of each word.
+-- meaning: the bytes of each word.
 use Rattle.std.specs.Prelude.{ℕ, List, codes}
 use Rattle.sl_ast.specs.Symbols.{Word, plain, quoted}
 use Rattle.sl_ast.specs.declared.symbols.Keyword.{Keyword}

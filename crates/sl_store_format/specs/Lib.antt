@@ -1,7 +1,10 @@
 pub mod Forms
+pub mod StatementForms
 pub mod Keywords
 pub mod Expressions
+pub mod PatternBytes
 pub mod Patterns
+pub mod Actions
 pub mod Statements
 pub mod Definitions
 pub mod Constructors

@@ -1,4 +1,4 @@
--- law: a packed specification: the files' names, the places of its items, and the items; and its bytes.
+-- meaning: a packed specification: the files' names, the places of its items, and the items; and its bytes.
 use Rattle.std.specs.Prelude.{◌≡◌, ◌≤◌, ℕ, suc, ◌+◌, List, [], ◌∷◌, ◌++◌, length, map, codes}
 use Rattle.std.specs.Str.{IsUtf8}
 use Rattle.sl_ast.specs.Trees.{Constructor, Head, Inside, nothing, constructor_then, block_then, Item, block}

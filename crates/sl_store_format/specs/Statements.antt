@@ -1,11 +1,11 @@
--- law: statements as bytes, the conditions on their leaves, and their readers.
+-- meaning: statements as bytes, the conditions on their leaves, and their readers.
 use Rattle.std.specs.Prelude.{◌≤◌, ℕ, List, [], ◌∷◌, ◌++◌}
 use Rattle.sl_ast.specs.Operators.{in_section}
 use Rattle.sl_ast.specs.Trees.{Name, Expression, Operand, by_name, by_integer, StarForm, Left, left_name, left_bits, left_star, Direct, to_label, to_operand, Dest, direct, computed, Target, calls, calls_computed, Exported, exports, exports_star, Statement, local, declare, assign, goto, branch, call_to, return, build, export, invoke, label}
 use Rattle.sl_ast.specs.Validity.{IfWritten}
 use Rattle.sl_store_format.specs.Expressions.{write_expression, Leaves, whole_expression, width}
-use Rattle.sl_store_format.specs.Forms.{left_forms, direct_forms, target_forms, statement_forms}
-use Rattle.sl_store_format.specs.Patterns.{write_operand, OperandLeaves, operand_here}
+use Rattle.sl_store_format.specs.StatementForms.{left_forms, direct_forms, target_forms, statement_forms}
+use Rattle.sl_store_format.specs.Actions.{write_operand, OperandLeaves, operand_here}
 use Rattle.sl_store_format.specs.declared.forms.DirectForm.{DirectForm}
 use Rattle.sl_store_format.specs.declared.forms.DirectForm.TheVariants as d
 use Rattle.sl_store_format.specs.declared.forms.LeftForm.{LeftForm}

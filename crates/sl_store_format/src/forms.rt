@@ -239,7 +239,8 @@ static STATEMENT_FORMS: [StatementForm; 11] = [
 ];
 
 impl Coded for StatementForm {
-    ghost use Rattle.sl_store_format.specs.Forms.{statement_forms, statement_code};
+    ghost use Rattle.sl_store_format.specs.Forms.{statement_code};
+    ghost use Rattle.sl_store_format.specs.StatementForms.{statement_forms};
 
     ghost table = { statement_forms };
 
@@ -265,7 +266,8 @@ pub enum LeftForm {
 static LEFT_FORMS: [LeftForm; 3] = [LeftForm::Name, LeftForm::Bits, LeftForm::Star];
 
 impl Coded for LeftForm {
-    ghost use Rattle.sl_store_format.specs.Forms.{left_forms, left_code};
+    ghost use Rattle.sl_store_format.specs.Forms.{left_code};
+    ghost use Rattle.sl_store_format.specs.StatementForms.{left_forms};
 
     ghost table = { left_forms };
 
@@ -291,7 +293,8 @@ pub enum DirectForm {
 static DIRECT_FORMS: [DirectForm; 3] = [DirectForm::Label, DirectForm::Name, DirectForm::Integer];
 
 impl Coded for DirectForm {
-    ghost use Rattle.sl_store_format.specs.Forms.{direct_forms, direct_code};
+    ghost use Rattle.sl_store_format.specs.Forms.{direct_code};
+    ghost use Rattle.sl_store_format.specs.StatementForms.{direct_forms};
 
     ghost table = { direct_forms };
 
@@ -321,7 +324,8 @@ static TARGET_FORMS: [TargetForm; 3] = [
 ];
 
 impl Coded for TargetForm {
-    ghost use Rattle.sl_store_format.specs.Forms.{target_forms, target_code};
+    ghost use Rattle.sl_store_format.specs.Forms.{target_code};
+    ghost use Rattle.sl_store_format.specs.StatementForms.{target_forms};
 
     ghost table = { target_forms };
 
@@ -365,7 +369,8 @@ static EXPRESSION_FORMS: [ExpressionForm; 10] = [
 ];
 
 impl Coded for ExpressionForm {
-    ghost use Rattle.sl_store_format.specs.Forms.{expression_forms, expression_code};
+    ghost use Rattle.sl_store_format.specs.Forms.{expression_code};
+    ghost use Rattle.sl_store_format.specs.StatementForms.{expression_forms};
 
     ghost table = { expression_forms };
 

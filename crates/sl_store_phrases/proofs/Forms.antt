@@ -3,7 +3,8 @@ use Rattle.std.proofs.Common.{◌≡◌, ◌<◌, ◌-◌, arith, ℕ, suc, Bool
 use Rattle.sl_ast.specs.Operators.{Kind}
 use Rattle.sl_ast.specs.Trees.{integer, bare}
 use Rattle.sl_store_format.specs.Expressions.{expression}
-use Rattle.sl_store_format.specs.Forms.{expression_forms, pattern_forms}
+use Rattle.sl_store_format.specs.Forms.{pattern_forms}
+use Rattle.sl_store_format.specs.StatementForms.{expression_forms}
 use Rattle.sl_store_format.specs.Patterns.{pattern}
 use Rattle.sl_store_bytes.specs.Reader.{Outcome, Reader, pure, and_then, ◌>>=◌, stop_at, picked, first, choose}
 use Rattle.sl_store_bytes.specs.Reads.{IsFault, Stops}

@@ -7,7 +7,8 @@ use Rattle.sl_ast.specs.Views.{expression_of, pattern_of}
 use Rattle.sl_ast.specs.declared.expressions.Expr.{Expr}
 use Rattle.sl_ast.specs.declared.patterns.Pattern as program
 use Rattle.sl_store_format.specs.Expressions.{expression, fits, form_by, simple, size_fits, drop_fits, bits_fit, width}
-use Rattle.sl_store_format.specs.Forms.{expression_forms, pattern_forms}
+use Rattle.sl_store_format.specs.Forms.{pattern_forms}
+use Rattle.sl_store_format.specs.StatementForms.{expression_forms}
 use Rattle.sl_store_format.specs.Patterns.{pattern, pattern_by, pattern_fits}
 use Rattle.sl_store_format.specs.declared.forms.ExpressionForm.{ExpressionForm}
 use Rattle.sl_store_format.specs.declared.forms.ExpressionForm.TheVariants as x

@@ -4,7 +4,7 @@ ghost use Rattle.std.specs.Prelude.{◌≡◌, ◌-◌, if◌then◌else◌, IfO
 ghost use Rattle.sl_ast.specs.Operators.{has_prefix};
 ghost use Rattle.sl_ast.specs.Validity.{space_weight};
 ghost use Rattle.sl_store_format.specs.Expressions as reader;
-ghost use Rattle.sl_store_format.specs.Forms.{expression_forms};
+ghost use Rattle.sl_store_format.specs.StatementForms.{expression_forms};
 ghost use Rattle.sl_store_bytes.specs.Orders.{operators, prefixes};
 ghost use Rattle.sl_store_bytes.specs.Reader.{byte, picked};
 ghost use Rattle.sl_store_bytes.specs.Reads.{Plain, Reads, now_of};

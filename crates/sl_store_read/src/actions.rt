@@ -1,7 +1,8 @@
 //! Bit patterns as parts of lists, and disassembly actions.
 
 ghost use Rattle.sl_ast.specs.Views.{action_of, operand_of_address, pattern_of};
-ghost use Rattle.sl_store_format.specs.Patterns as reader;
+ghost use Rattle.sl_store_format.specs.Actions as reader;
+ghost use Rattle.sl_store_format.specs.Patterns as patterns;
 ghost use Rattle.sl_store_bytes.specs.Reads.{Reads};
 
 use crate::parts::Part;
@@ -18,7 +19,7 @@ impl<'a> Part<'a> for Pattern<'a> {
 
     ghost view = { pattern_of };
 
-    ghost reader = { reader.whole_pattern };
+    ghost reader = { patterns.whole_pattern };
 
     fn read(alloc: Global, bytes: &mut Bytes<'a>) -> Result<Pattern<'a>, Stop> {
         whole_pattern(alloc, bytes)
@@ -26,7 +27,7 @@ impl<'a> Part<'a> for Pattern<'a> {
 }
 
 /// A name or an integer.
-#[tactic(auto, unfolding(sl_store_format::specs::Patterns::operand_here, sl_store_bytes::specs::Lists::either))]
+#[tactic(auto, unfolding(sl_store_format::specs::Actions::operand_here, sl_store_bytes::specs::Lists::either))]
 pub fn operand_here<'a>(bytes: &mut Bytes<'a>) -> Result<Address<'a>, Stop>
     ensures { Reads operand_of_address (reader.operand_here bytes.old) result bytes.new }
 {
@@ -48,7 +49,7 @@ impl<'a> Part<'a> for Action<'a> {
 
     ghost reader = { reader.action };
 
-    #[tactic(auto, unfolding(sl_store_format::specs::Patterns::action, sl_store_bytes::specs::Lists::either))]
+    #[tactic(auto, unfolding(sl_store_format::specs::Actions::action, sl_store_bytes::specs::Lists::either))]
     fn read(alloc: Global, bytes: &mut Bytes<'a>) -> Result<Action<'a>, Stop> {
         if bytes.below(2)? == 0 {
             let name = name(bytes)?;

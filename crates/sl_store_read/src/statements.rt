@@ -4,7 +4,7 @@ ghost use Rattle.std.specs.Prelude.{option_map};
 ghost use Rattle.sl_ast.specs.Views.{dest_of, direct_of, exported_of, expression_of, left_of};
 ghost use Rattle.sl_ast.specs.Views.{operand_of_pointer};
 ghost use Rattle.sl_ast.specs.Views.{star_of, statement_of, target_of};
-ghost use Rattle.sl_store_format.specs.Patterns as patterns;
+ghost use Rattle.sl_store_format.specs.Actions as actions;
 ghost use Rattle.sl_store_format.specs.Statements as reader;
 ghost use Rattle.sl_store_format.specs.declared.forms.StatementForm.TheVariants as form;
 ghost use Rattle.sl_store_bytes.specs.Reads.{Reads};
@@ -136,7 +136,7 @@ fn target<'a>(alloc: Global, bytes: &mut Bytes<'a>) -> Result<Target<'a>, Stop>
 
 /// A name or an integer that points to memory.
 fn pointer<'a>(bytes: &mut Bytes<'a>) -> Result<Pointer<'a>, Stop>
-    ensures { Reads operand_of_pointer (patterns.operand_here bytes.old) result bytes.new }
+    ensures { Reads operand_of_pointer (actions.operand_here bytes.old) result bytes.new }
 {
     match operand_here(bytes)? {
         Address::Name(name) => Ok(Pointer::Name(name)),

@@ -15,7 +15,8 @@ use Rattle.sl_store_format.specs.Expressions.{write_expression, write_arguments,
 use Rattle.sl_store_format.specs.Items.{ItemLeaves, GoodPlaced, Inner, constructor_at, block_at, Inners, no_inner, with_inner, Placed, item_at, with_at, size, write_place, write_inner, write_inners, write_item, write_placed}
 use Rattle.sl_store_format.specs.Keywords.{keyword_bytes}
 use Rattle.sl_store_format.specs.Packed.{Written, IsPackable, inside_of, item_of, pack}
-use Rattle.sl_store_format.specs.Patterns.{write_pattern, write_operand, write_action, joint_code}
+use Rattle.sl_store_format.specs.Actions.{write_operand, write_action}
+use Rattle.sl_store_format.specs.PatternBytes.{write_pattern, joint_code}
 use Rattle.sl_store_format.specs.Statements.{write_star, write_left, write_direct, write_dest, write_target, write_exported, write_statement}
 use Rattle.sl_store_bytes.specs.Lexemes.{write_bytes}
 use Rattle.sl_store_bytes.specs.Lists.{write_all, write_list, write_option, write_separated}

@@ -23,7 +23,8 @@ use Rattle.sl_store_format.specs.Definitions.{AnyMark, AttributeLeaves, RangeLea
 use Rattle.sl_store_format.specs.Expressions.{Leaves, AllLeaves, count}
 use Rattle.sl_store_format.specs.Items.{ItemLeaves}
 use Rattle.sl_store_format.specs.Packed.{chain_length, InsideLeaves, AllItemLeaves}
-use Rattle.sl_store_format.specs.Patterns.{PatternLeaves, OperandLeaves, ActionLeaves}
+use Rattle.sl_store_format.specs.Actions.{OperandLeaves, ActionLeaves}
+use Rattle.sl_store_format.specs.PatternBytes.{PatternLeaves}
 use Rattle.sl_store_format.specs.Statements.{StarLeaves, LeftLeaves, DirectLeaves, DestLeaves, TargetLeaves, ExportedLeaves, StatementLeaves}
 use Rattle.sl_lex.specs.declared.mode.Mode.{Mode}
 use Rattle.sl_lex.specs.declared.mode.Mode.TheVariants.{Top, Head as InHead, Plain, Body, Display, Pattern as InPattern}

@@ -19,7 +19,8 @@ use Rattle.sl_store_format.specs.Definitions.{AttributeLeaves, RangeLeaves, Fiel
 use Rattle.sl_store_format.specs.Expressions.{Leaves, AllLeaves}
 use Rattle.sl_store_format.specs.Items.{ItemLeaves, GoodPlaced, GoodInner, GoodInners, Inner, constructor_at, block_at, Inners, no_inner, with_inner, Placed, item_at, with_at}
 use Rattle.sl_store_format.specs.Packed.{Written, IsPackable, inside_of, item_of}
-use Rattle.sl_store_format.specs.Patterns.{PatternLeaves, OperandLeaves, ActionLeaves}
+use Rattle.sl_store_format.specs.Actions.{OperandLeaves, ActionLeaves}
+use Rattle.sl_store_format.specs.PatternBytes.{PatternLeaves}
 use Rattle.sl_store_format.specs.Statements.{StarLeaves, LeftLeaves, DirectLeaves, DestLeaves, TargetLeaves, ExportedLeaves, StatementLeaves}
 use Rattle.sl_store_bytes.specs.Lexemes.{Follow, Follows, IsRead, put_after}
 use Rattle.sl_store_bytes.specs.Lists.{AreGood, AreEach, AreSeparated}

@@ -1,3 +1,4 @@
 pub mod Placing
 pub mod Steps
+pub mod Parts
 pub mod Packs

@@ -3,8 +3,9 @@
 ghost use Rattle.std.specs.Prelude.{◌≡◌, ◌++◌, IfOk};
 ghost use Rattle.sl_ast.specs.Views.{action_of, operand_of_address, pattern_of};
 ghost use Rattle.sl_store_format.specs.Forms.{pattern_code};
-ghost use Rattle.sl_store_format.specs.Patterns.{joint_code, write_action, write_operand};
-ghost use Rattle.sl_store_format.specs.Patterns.{write_pattern};
+ghost use Rattle.sl_store_format.specs.Actions.{write_action, write_operand};
+ghost use Rattle.sl_store_format.specs.PatternBytes.{joint_code};
+ghost use Rattle.sl_store_format.specs.PatternBytes.{write_pattern};
 
 use crate::put::{Put, put_code};
 use sl_ast::patterns::{Action, Address, Pattern, PatternOp};

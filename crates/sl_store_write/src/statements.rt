@@ -3,7 +3,7 @@
 ghost use Rattle.std.specs.Prelude.{◌≡◌, ◌++◌, IfOk};
 ghost use Rattle.sl_ast.specs.Views.{dest_of, direct_of, exported_of, left_of, operand_of_pointer};
 ghost use Rattle.sl_ast.specs.Views.{star_of, statement_of, target_of};
-ghost use Rattle.sl_store_format.specs.Patterns.{write_operand};
+ghost use Rattle.sl_store_format.specs.Actions.{write_operand};
 ghost use Rattle.sl_store_format.specs.Statements.{write_dest, write_direct, write_exported, write_left, write_star};
 ghost use Rattle.sl_store_format.specs.Statements.{write_statement, write_target};
 

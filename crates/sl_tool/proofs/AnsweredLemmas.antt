@@ -6,23 +6,26 @@ use Rattle.std.proofs.lemmas.List.{take-append-le, take_min}
 use Rattle.sl_outside.specs.Causes.{Rose}
 use Rattle.sl_outside.specs.Folder.{Folder}
 use Rattle.sl_outside.specs.Uses.{Names, Asks, AsksFront, UsesFiles, UsesSink}
-use Rattle.sl_preproc.specs.Asks.{AsksFor as AsksForText}
 use Rattle.sl_base_surely.specs.Surely.{Surely}
 use Rattle.sl_base_surely.proofs.SurelyLemmas.{surely, surely_map}
-use Rattle.sl_tool.specs.Answers.{AsksFrom, Due, Shows, UsesFilesFor, asked_after}
+use Rattle.sl_tool.specs.Answers.{AnswersFrom, AsksForFile, AsksFrom, Due, Follows, Shows, UsesFilesFor, asked_after}
 use Rattle.sl_tool.specs.Answers.AsksFrom.{sound, unsound}
+use Rattle.sl_tool.specs.Asking.{AsksAfter}
+use Rattle.sl_tool.specs.Asking.AsksAfter.{asks_none, asks_rest}
 use Rattle.sl_tool.specs.Streams.{RanNone, Streams, Writes, WritesFront}
 use Rattle.sl_tool.specs.Growth.{Grew}
 use Rattle.sl_tool.specs.Request.{Request, spec_of}
 use Rattle.sl_tool.specs.Endings.{Shown, shown}
 use Rattle.sl_tool.specs.declared.status.Ending.{Ending}
 use Rattle.sl_tool_stages.specs.Outcomes.{FailsToRead, FailsToWrite, Gives, IsEarly, Obtains}
-use Rattle.sl_tool_stages.specs.Stages.{Specifies}
-use Rattle.sl_tool_stages.specs.Values.{Compiled}
+use Rattle.sl_tool_stages.specs.Stage.{Then}
+use Rattle.sl_tool_stages.specs.Stage.Then.{goes, stops}
+use Rattle.sl_tool_stages.specs.Stages.{Compiles, Reads, Specifies}
+use Rattle.sl_tool_stages.specs.Values.{Compiled, Tree}
 use Rattle.sl_tool_stages.specs.declared.halt.Halt.{Halt}
 use Rattle.sl_tool_stages.specs.declared.halt.Halt.TheVariants.{Refused, ReadFault, WriteFault, NoMemory}
 use Rattle.sl_tool_stages.specs.declared.refusal.Refusal.{Refusal}
-use Rattle.sl_tool_stages.proofs.StageLemmas.{specifies_some}
+use Rattle.sl_tool_stages.proofs.StageLemmas.{compiles_some, specifies_some}
 
 -- ---- what was written, and how many operations ran
 
@@ -124,14 +127,30 @@ abbrev pub FrontDue : (List (List ℕ) → Type 0) → Names → Names → Type 
 FrontDue due a b = (names : List (List ℕ)) × due names × AsksFront a b names
 
 -- what was asked for by now is the front of what is due, whatever becomes of the specification
-front_by : (told : Option Folder) (r : Request) (names : List (List ℕ)) (a b : Names) → AsksForText told (spec_of r) names → AsksFront a b names
+front_by : (told : Option Folder) (r : Request) (names : List (List ℕ)) (a b : Names) → AsksForFile told (spec_of r) names → AsksFront a b names
     → (q : Result Compiled Refusal) × Specifies told (spec_of r) q → FrontDue (AsksFrom told r) a b
 front_by told r names a b text front (Err x, j) = (names, unsound text j, front)
 front_by told r names a b text front (Ok u, j) = (names ++ asked_after r, sound names text j, front_more a b names (asked_after r) front)
 
-pub front_due : (told : Option Folder) (r : Request) (names : List (List ℕ)) (a b : Names) → AsksForText told (spec_of r) names → AsksFront a b names
+pub front_due : (told : Option Folder) (r : Request) (names : List (List ℕ)) (a b : Names) → AsksForFile told (spec_of r) names → AsksFront a b names
     → Surely (FrontDue (AsksFrom told r) a b)
 front_due told r names a b text front = surely_map (front_by told r names a b text front) (specifies_some told (spec_of r))
+
+-- the names of a specification, and those that are asked for then
+names_joined : (told : Option Folder) (r : Request) (t : Tree) (names more : List (List ℕ)) → Reads told (spec_of r) (Ok t) → AsksForFile told (spec_of r) names
+    → AsksAfter r t more → AsksFrom told r (names ++ more)
+names_joined told r t names more read text (asks_none h) = subst (AsksFrom told r) (sym (append-nil names)) (unsound text (goes read h))
+names_joined told r t names more read text (asks_rest h) = sound names text (goes read h)
+
+-- nothing was asked for once the tree is there, whatever becomes of it
+after_by : (r : Request) (t : Tree) (a : Names) → (q : Result Compiled Refusal) × Compiles t q → FrontDue (AsksAfter r t) a a
+after_by r t a (Err x, h) = ([], asks_none h, (0, Asks-nil a))
+after_by r t a (Ok u, h) = (asked_after r, asks_rest h, (0, Asks-nil a))
+
+-- what becomes of the tree becomes of the request
+pub from_tree : (told : Option Folder) (r : Request) (t : Tree) (x : Result Shown Refusal) → Reads told (spec_of r) (Ok t) → Then Compiles (Follows told r) t x → AnswersFrom told r x
+from_tree told r t x read (stops h) = stops (goes read h)
+from_tree told r t x read (goes h k) = goes (goes read h) k
 
 module _ {F : Type 0} (told : F → Option Folder) (faults : F → ℕ) (asked : F → Names) where
   abbrev Uses : F → F → List (List ℕ) → Type 0 → Type 0 → Type 0
@@ -161,12 +180,12 @@ module _ {F : Type 0} (told : F → Option Folder) (faults : F → ℕ) (asked :
     asks_all = λ n. v.asks_all also;
   }
 
-  -- ---- the text, and what is asked for after it
+  -- ---- the specification, and what is asked for after it
 
   module _ (r : Request) where
-    -- the names of the text were asked for
+    -- the names of the specification were asked for
     abbrev AsksText : F → F → Type 0 → Type 0 → Type 0
-    AsksText old new early fails = (names : List (List ℕ)) × AsksForText (told old) (spec_of r) names × Uses old new names early fails
+    AsksText old new early fails = (names : List (List ℕ)) × AsksForFile (told old) (spec_of r) names × Uses old new names early fails
 
     refuses : (old new : F) (early fails f : Type 0) (x : Refusal) → Specifies (told old) (spec_of r) (Err x) → AsksText old new early fails → (early → ⊥) → (f → ⊥)
         → UsesFor (AsksFrom (told old) r) old new ⊥ f
@@ -187,7 +206,7 @@ module _ {F : Type 0} (told : F → Option Folder) (faults : F → ℕ) (asked :
       asks_all = λ n. absurd (n tt);
     }
 
-    -- the text could not be had, or was refused
+    -- the file could not be had, or was refused
     pub stop_first : {T B : Type 0} (S : Result B Refusal → Type 0) (view : T → B) (old new : F) (h : Halt)
         → ((e : Refusal) → S (Err e) → Specifies (told old) (spec_of r) (Err e)) → Obtains S view (Err h)
         → AsksText old new (IsEarly {T = T} (Err h)) (FailsToRead {T = T} (Err h))
@@ -197,7 +216,7 @@ module _ {F : Type 0} (told : F → Option Folder) (faults : F → ℕ) (asked :
     stop_first S view old new WriteFault f g w = absurd g
     stop_first S view old new NoMemory f g w = stops_early old new _ _ _ w (λ e. absurd e)
 
-    -- the text was read and spells no tree
+    -- the file was read and has no tree
     pub stop_second : {T B : Type 0} (S : Result B Refusal → Type 0) (view : T → B) (old new : F) (early fails : Type 0) (h : Halt)
         → ((e : Refusal) → S (Err e) → Specifies (told old) (spec_of r) (Err e)) → Gives S view (Err h) → AsksText old new early fails → (early → ⊥)
         → UsesFor (AsksFrom (told old) r) old new (IsEarly {T = Ending} (Err h)) (FailsToRead {T = Ending} (Err h))
@@ -206,17 +225,51 @@ module _ {F : Type 0} (told : F → Option Folder) (faults : F → ℕ) (asked :
     stop_second S view old new early fails WriteFault f g w never = absurd g
     stop_second S view old new early fails NoMemory f g w never = stops_early old new early fails _ w (λ e. absurd e)
 
-    -- the specification is sound, and what follows asks for its own names
-    pub follows : (old mid new : F) (u : Compiled) (early fails e f : Type 0) → Specifies (told old) (spec_of r) (Ok u) → AsksText old mid early fails → (early → ⊥)
-        → Uses mid new (asked_after r) e f → UsesFor (AsksFrom (told old) r) old new e f
-    follows old mid new u early fails e f j w never v =
+    -- the tree is there, and what follows asks for its own names
+    pub after_tree : (old mid new : F) (t : Tree) (early fails e f : Type 0) → Reads (told old) (spec_of r) (Ok t) → AsksText old mid early fails → (early → ⊥)
+        → UsesFor (AsksAfter r t) mid new e f → UsesFor (AsksFrom (told old) r) old new e f
+    after_tree old mid new t early fails e f read w never v =
         let all = w.2.asks_all never in
         record {
           same_folder = v.same_folder ∙ w.2.same_folder;
           never_falls = omega (arith, w.2.never_falls, v.never_falls);
           failed = λ h. rose_more _ _ _ w.2.never_falls (v.failed h);
-          asks_front = surely (let p : FrontDue (AsksFrom (told old) r) (asked old) (asked new) =
-              (w.0 ++ asked_after r, sound w.0 w.1 j, front_after (asked old) (asked mid) (asked new) w.0 (asked_after r) all v.asks_front) in p);
+          asks_front = surely_map (λ (q : FrontDue (AsksAfter r t) (asked mid) (asked new)).
+              let p : FrontDue (AsksFrom (told old) r) (asked old) (asked new) =
+              (w.0 ++ q.0, names_joined (told old) r t w.0 q.0 read w.1 q.1, front_after (asked old) (asked mid) (asked new) w.0 q.0 all q.2) in p) v.asks_front;
           asks_all = λ n.
-              (w.0 ++ asked_after r, sound w.0 w.1 j, Asks-trans (asked old) (asked mid) (asked new) w.0 (asked_after r) all (v.asks_all n));
+              let q = v.asks_all n in
+              (w.0 ++ q.0, names_joined (told old) r t w.0 q.0 read w.1 q.1, Asks-trans (asked old) (asked mid) (asked new) w.0 q.0 all q.2);
         }
+
+    -- ---- what follows the tree
+
+    -- the tree isn't sound, or memory ran out
+    pub stop_after : {U : Type 0} (t : Tree) (view : U → Compiled) (old : F) (h : Halt) → Gives (Compiles t) view (Err h)
+        → UsesFor (AsksAfter r t) old old (IsEarly {T = Ending} (Err h)) (FailsToRead {T = Ending} (Err h))
+    stop_after t view old (Refused x) g = record {
+      same_folder = refl;
+      never_falls = omega arith;
+      failed = λ n. absurd n;
+      asks_front = surely (let p : FrontDue (AsksAfter r t) (asked old) (asked old) = ([], asks_none g, (0, Asks-nil (asked old))) in p);
+      asks_all = λ n. ([], asks_none g, Asks-nil (asked old));
+    }
+    stop_after t view old ReadFault g = absurd g
+    stop_after t view old WriteFault g = absurd g
+    stop_after t view old NoMemory g = record {
+      same_folder = refl;
+      never_falls = omega arith;
+      failed = λ n. absurd n;
+      asks_front = surely_map (after_by r t (asked old)) (compiles_some t);
+      asks_all = λ n. absurd (n tt);
+    }
+
+    -- the tree is sound
+    pub follows : (old new : F) (t : Tree) (u : Compiled) (e f : Type 0) → Compiles t (Ok u) → Uses old new (asked_after r) e f → UsesFor (AsksAfter r t) old new e f
+    follows old new t u e f h v = record {
+      same_folder = v.same_folder;
+      never_falls = v.never_falls;
+      failed = v.failed;
+      asks_front = surely (let p : FrontDue (AsksAfter r t) (asked old) (asked new) = (asked_after r, asks_rest h, v.asks_front) in p);
+      asks_all = λ n. (asked_after r, asks_rest h, v.asks_all n);
+    }

@@ -3,12 +3,13 @@ use Rattle.std.proofs.Common.{◌≡◌, ℕ, ◌⊎◌, inl, inr, List, Option,
 use Rattle.std.specs.Io.KnownBytes.{Appends}
 use Rattle.sl_outside.specs.Folder.{Folder}
 use Rattle.sl_base_surely.proofs.SurelyLemmas.{surely_map}
-use Rattle.sl_tool.specs.Answers.{Answers, Shows, counts_of, figures_of, generated, shows_of}
+use Rattle.sl_tool_request.specs.Requests.{TextFile}
+use Rattle.sl_tool.specs.Answers.{Answers, Shows, counts_of, figures_of, gaps_of, generated, packs_of, shows_of}
 use Rattle.sl_tool.specs.Ends.{Means, ReadsFiles, WritesWhole}
 use Rattle.sl_tool.specs.Ends.Means.{answer}
 use Rattle.sl_tool.specs.Laws.{AcceptedAreAnswered, Accepts, Counted, EndsSo, IsAccepted, IsComplete, IsTold, MayEnd, WritesAnswer}
 use Rattle.sl_tool.specs.Growth.{Grew}
-use Rattle.sl_tool.specs.Request.{CheckSpec, Generate, Request, ShowImage, Listing, Operations, Run, spec_of}
+use Rattle.sl_tool.specs.Request.{CheckSpec, Generate, PackSpec, ReportGaps, Request, ShowImage, Listing, Operations, Run, spec_of}
 use Rattle.sl_tool.specs.Endings.{Shown}
 use Rattle.sl_tool.specs.declared.status.Status.{Status}
 use Rattle.sl_tool.specs.declared.status.Status.TheVariants.{Done, Refused, Usage, ReadFault, WriteFault, NoMemory, Stopped}
@@ -31,15 +32,19 @@ no_refusal told (CheckSpec spec) is (c, h) x = refuses_none (Specifies told) (Sh
 no_refusal told (ShowImage t what) is (l, goes {b = c} h i) x =
     refuses_none (Specifies told) (Then (Loads told t) (Shows (shows_of what))) t.spec c (specifies_told told is) h
     (refuses_none (Loads told t) (Shows (shows_of what)) c l (loads_told told t is) i (λ e k. k)) x
+no_refusal told (ReportGaps spec) is (c, h) x = refuses_none (Specifies told) (Shows gaps_of) spec c (specifies_told told is) h (λ e k. k) x
 no_refusal told (Generate size) is (c, h) x =
     refuses_none (Specifies (Some generated)) (Shows (figures_of size)) (spec_of (Generate size)) c (specifies_one generated) h (λ e k. k) x
+no_refusal told (PackSpec name) is (c, h) x = refuses_none (Specifies told) (Shows packs_of) (TextFile name) c (specifies_told told is) h (λ e k. k) x
 
 endings : (told : Option Folder) (r : Request) (s : Shown) → Answers told r (Ok s) → MayEnd r s.ending
 endings told (CheckSpec spec) s (goes h k) = k.ending
 endings told (ShowImage t Listing) s (goes h (goes i k)) = k.ending
 endings told (ShowImage t Operations) s (goes h (goes i k)) = k.ending
 endings told (ShowImage t (Run steps)) s (goes h (goes i k)) = tt
+endings told (ReportGaps spec) s (goes h k) = k.ending
 endings told (Generate size) s (goes h k) = k.ending
+endings told (PackSpec name) s (goes h k) = k.ending
 
 -- an answer that is no refusal
 kept : (told : Option Folder) (r : Request) → ((x : Refusal) → Answers told r (Err x) → ⊥) → (x : Result Shown Refusal) × Answers told r x
@@ -49,7 +54,7 @@ kept told r none (Err x, h) = absurd (none x h)
 
 pub accepted_answered : AcceptedAreAnswered
 accepted_answered = λ told r accepted. record {
-  some = surely_map (kept told r (no_refusal told r accepted.is_told accepted.accepts)) (answer_some told r);
+  some = surely_map (kept told r (no_refusal told r accepted.is_told accepted.accepts)) (answer_some told r accepted.may_pack);
   endings = endings told r;
   no_refusal = no_refusal told r accepted.is_told accepted.accepts;
 }

@@ -9,17 +9,18 @@ use Rattle.sl_preproc.specs.Expanded.{asked_by}
 use Rattle.sl_preproc.proofs.MainLemmas.{asked_first}
 use Rattle.sl_base_surely.specs.Surely.{Surely}
 use Rattle.sl_base_surely.proofs.SurelyLemmas.{surely}
-use Rattle.sl_tool.specs.Answers.{Answers, AsksFor, UsesFilesFor, ran_of, text_of, status_of}
+use Rattle.sl_tool.specs.Answers.{Answers, AsksFor, AsksForFile, UsesFilesFor, ran_of, text_of, status_of}
 use Rattle.sl_tool.specs.Endings.{Shown, ended}
 use Rattle.sl_tool.specs.Ends.{Means, WritesWhole, WritesFirst, Ends, RunsFor}
 use Rattle.sl_tool.specs.Ends.Means.{answer}
 use Rattle.sl_tool.specs.Streams.{Writes, WritesFront}
-use Rattle.sl_tool.specs.Request.{CheckSpec, Generate, Request, ShowImage}
+use Rattle.sl_tool.specs.Request.{CheckSpec, Generate, PackSpec, ReportGaps, Request, ShowImage}
 use Rattle.sl_tool.specs.Writing.{IsWritten}
 use Rattle.sl_tool.specs.declared.status.Ending.{Ending}
 use Rattle.sl_tool.specs.declared.status.Ending.TheVariants as ending
 use Rattle.sl_tool.specs.declared.status.Status.{Status}
 use Rattle.sl_tool.specs.declared.status.Status.TheVariants.{Done, Refused, Usage, ReadFault, WriteFault, NoMemory, Stopped}
+use Rattle.sl_tool_request.specs.Requests.{PackedFile, SpecFile, TextFile}
 use Rattle.sl_tool_stages.specs.declared.halt.Halt.{Halt}
 use Rattle.sl_tool_stages.specs.declared.halt.Halt.TheVariants as halt
 use Rattle.sl_tool_stages.specs.declared.refusal.Refusal.{Refusal}
@@ -105,9 +106,9 @@ module _ {F : Type 0} (told : F → Option Folder) (faults : F → ℕ) (asked :
   }
 
 -- what the text of a specification asks for
-some_names : (told : Option Folder) (spec : List ℕ) → (names : List (List ℕ)) × AsksForText told spec names
-some_names None spec = (spec ∷ [], record { others = []; first = refl; defined = λ folder e. absurd (none_is folder e) })
-some_names (Some folder) spec = (
+text_names : (told : Option Folder) (spec : List ℕ) → (names : List (List ℕ)) × AsksForText told spec names
+text_names None spec = (spec ∷ [], record { others = []; first = refl; defined = λ folder e. absurd (none_is folder e) })
+text_names (Some folder) spec = (
   asked_by folder spec,
   record {
     others = (asked_first folder spec).0;
@@ -115,6 +116,10 @@ some_names (Some folder) spec = (
     defined = λ other e. ap (λ (f : Folder). asked_by f spec) (some_is folder other e);
   },
 )
+
+some_names : (told : Option Folder) (file : SpecFile) → (names : List (List ℕ)) × AsksForFile told file names
+some_names told (TextFile name) = text_names told name
+some_names told (PackedFile name) = (name ∷ [], refl)
 
 -- nothing was asked for, which is the front of what is due
 none_due : (told : Option Folder) (r : Request) (a : Names) → Surely ((due : List (List ℕ)) × AsksFor told r due × AsksFront a a due)
@@ -124,6 +129,12 @@ none_due told (CheckSpec spec) a =
 none_due told (ShowImage t what) a =
     let names = some_names told t.spec in
     front_due told (ShowImage t what) names.0 a a names.1 (0, Asks-nil a)
+none_due told (ReportGaps spec) a =
+    let names = some_names told spec in
+    front_due told (ReportGaps spec) names.0 a a names.1 (0, Asks-nil a)
+none_due told (PackSpec name) a =
+    let names = some_names told (TextFile name) in
+    front_due told (PackSpec name) names.0 a a names.1 (0, Asks-nil a)
 none_due told (Generate size) a =
     surely (let p : (due : List (List ℕ)) × AsksFor told (Generate size) due × AsksFront a a due = ([], refl, (0, Asks-nil a)) in p)
 

@@ -1,8 +1,10 @@
 pub mod CountLemmas
+pub mod GapLemmas
 pub mod RunLemmas
 pub mod OneAnswer
 pub mod SomeAnswer
 pub mod CompleteLemmas
+pub mod AlikeLemmas
 pub mod AnsweredLemmas
 pub mod FigureLemmas
 pub mod ShowLemmas

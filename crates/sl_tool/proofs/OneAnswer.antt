@@ -3,12 +3,16 @@ use Rattle.std.proofs.Common.{◌≡◌, ℕ, List, Option, Some, Result, Ok, Er
 use Rattle.sl_bind_compile.specs.Outcomes.{all_constructors}
 use Rattle.sl_list_instructions.proofs.ImageLawLemmas.{listing_is_one}
 use Rattle.sl_outside.specs.Folder.{Folder}
-use Rattle.sl_tool.specs.Answers.{Due, Follows, Shows, ShowsText, counts_of, figures_of, generated, shows_of}
+use Rattle.sl_store.proofs.StoreLaws.{one_to_one}
+use Rattle.sl_tool_request.specs.Requests.{TextFile}
+use Rattle.sl_tool_stages.specs.Packing.{packed_form_of}
+use Rattle.sl_tool.specs.Answers.{Due, Follows, Shows, ShowsText, counts_of, figures_of, gaps_of, generated, packs_of, shows_of}
 use Rattle.sl_tool.specs.Laws.{AreAlike, HasOneAnswer, IsTold, PrintsNoList}
-use Rattle.sl_tool.specs.Request.{CheckSpec, Generate, Request, ShowImage, Listing, Operations, Run, spec_of}
+use Rattle.sl_tool.specs.Request.{CheckSpec, Generate, PackSpec, ReportGaps, Request, ShowImage, Listing, Operations, Run, spec_of}
 use Rattle.sl_tool.specs.Endings.{Shown}
 use Rattle.sl_tool_stages.specs.Values.{Compiled}
 use Rattle.sl_tool_stages.specs.declared.refusal.Refusal.{Refusal}
+use Rattle.sl_tool.proofs.GapLemmas.{gap_text_is_one}
 use Rattle.sl_tool.proofs.RunLemmas.{figures_are_one, run_is_one}
 use Rattle.sl_tool_stages.proofs.StageLemmas.{loads_told, specifies_one, specifies_told}
 use Rattle.sl_tool_stages.proofs.Thens.{then_alike}
@@ -35,12 +39,19 @@ follows_one told (ShowImage t Listing) is plain c x y h g =
 follows_one told (ShowImage t Operations) is plain c x y h g = absurd plain
 follows_one told (ShowImage t (Run steps)) is plain c x y h g =
     then_alike _ _ AreAlike (loads_told told t is) (λ e. refl) (λ l. shows_one (shows_of (Run steps)) l (run_is_one l steps)) c x y h g
+follows_one told (ReportGaps spec) is plain c x y h g = shows_one gaps_of c (tells_one _ (gap_text_is_one c)) x y h g
 follows_one told (Generate size) is plain c x y h g = shows_one (figures_of size) c (figures_are_one c size) x y h g
+follows_one told (PackSpec name) is plain c x y h g =
+    shows_one packs_of c (tells_one _ (one_to_one.one_file (packed_form_of c.tree))) x y h g
 
 pub answer_one : HasOneAnswer
 answer_one told (CheckSpec spec) x y is plain h g =
     then_alike _ _ AreAlike (specifies_told told is) (λ e. refl) (follows_one told (CheckSpec spec) is plain) spec x y h g
 answer_one told (ShowImage t what) x y is plain h g =
     then_alike _ _ AreAlike (specifies_told told is) (λ e. refl) (follows_one told (ShowImage t what) is plain) t.spec x y h g
+answer_one told (ReportGaps spec) x y is plain h g =
+    then_alike _ _ AreAlike (specifies_told told is) (λ e. refl) (follows_one told (ReportGaps spec) is plain) spec x y h g
 answer_one told (Generate size) x y is plain h g =
     then_alike _ _ AreAlike (specifies_one generated) (λ e. refl) (follows_one (Some generated) (Generate size) is plain) (spec_of (Generate size)) x y h g
+answer_one told (PackSpec name) x y is plain h g =
+    then_alike _ _ AreAlike (specifies_told told is) (λ e. refl) (follows_one told (PackSpec name) is plain) (TextFile name) x y h g

@@ -11,16 +11,23 @@ use Rattle.sl_list_pcode.specs.Listing.{IsPcodeListing}
 use Rattle.sl_step_run.proofs.CountedLemmas.{some_counted_outcome, some_counted_text}
 use Rattle.sl_step_run.specs.Running.{IsCountedRunText, RunOutcome, RunsCountedTo}
 use Rattle.sl_base_surely.proofs.SurelyLemmas.{surely, surely_map, surely_then}
-use Rattle.sl_tool.specs.Answers.{Answers, Shows, counts_of, figures_of, generated, shows_of}
+use Rattle.sl_store.proofs.StoreLaws.{one_to_one}
+use Rattle.sl_store_format.specs.Packed.{IsPacked}
+use Rattle.sl_tool_request.specs.Requests.{TextFile}
+use Rattle.sl_tool_stages.specs.Packing.{packed_form_of}
+use Rattle.sl_tool.specs.Laws.{MayPack}
+use Rattle.sl_tool.specs.Answers.{Answers, Shows, counts_of, figures_of, gaps_of, generated, packs_of, shows_of}
 use Rattle.sl_tool.specs.Endings.{Shown, ending_of, shown}
 use Rattle.sl_tool.specs.Generated.{generated_image}
 use Rattle.sl_tool.specs.Counts.{count_line}
-use Rattle.sl_tool.specs.Request.{CheckSpec, Generate, Request, Show, ShowImage, Listing, Operations, Run, spec_of}
+use Rattle.sl_tool.specs.GapText.{IsGapText}
+use Rattle.sl_tool.specs.Request.{CheckSpec, Generate, PackSpec, ReportGaps, Request, Show, ShowImage, Listing, Operations, Run, spec_of}
 use Rattle.sl_tool.specs.declared.status.Ending.TheVariants.{Done}
 use Rattle.sl_tool_stages.specs.Stage.{HasSomeResult}
 use Rattle.sl_tool_stages.specs.Values.{Compiled, Loaded}
 use Rattle.sl_tool_stages.specs.declared.refusal.Refusal.{Refusal}
 use Rattle.sl_base_surely.specs.Surely.{Surely}
+use Rattle.sl_tool.proofs.GapLemmas.{some_gap_text}
 use Rattle.sl_tool.proofs.RunLemmas.{line_of}
 use Rattle.sl_tool_stages.proofs.ReadLemmas.{IsSpecified, specified}
 use Rattle.sl_tool_stages.proofs.StageLemmas.{loads_some, specifies_some}
@@ -32,6 +39,17 @@ counts_some : (c : Compiled) → HasSomeResult (Shows counts_of) c
 counts_some c =
     let line = count_line (length c.tables.tables) (length c.tables.constructors) in
     surely (let p : (r : Result Shown Refusal) × Shows counts_of c r = (Ok (shown Done line 0), record { ending = refl; text = refl; ran = refl }) in p)
+
+gaps_some : (c : Compiled) → HasSomeResult (Shows gaps_of) c
+gaps_some c =
+    surely_map (λ (t : (text : List ℕ) × IsGapText c text).
+    let p : (r : Result Shown Refusal) × Shows gaps_of c r = (Ok (shown Done t.0 0), record { ending = refl; text = t.1; ran = refl }) in p)
+    (some_gap_text c)
+
+packs_some : (c : Compiled) → IsPacked (packed_form_of c.tree) → HasSomeResult (Shows packs_of) c
+packs_some c packed =
+    let file = one_to_one.some_file (packed_form_of c.tree) packed in
+    surely (let p : (r : Result Shown Refusal) × Shows packs_of c r = (Ok (shown Done file.bytes 0), record { ending = refl; text = file.file; ran = refl }) in p)
 
 module _ (c : Compiled) (size : ℕ) (is : IsSpecified c) (known : IsAccepted c.tree.items c.tables) where
   abbrev image : Image
@@ -91,14 +109,16 @@ module _ (l : Loaded) (is : IsSpecified l.compiled) (known : IsAccepted l.compil
 
 -- ---- of a request
 
-pub answer_some : (told : Option Folder) (r : Request) → Surely ((x : Result Shown Refusal) × Answers told r x)
-answer_some told (CheckSpec spec) = then_some _ _ spec (specifies_some told spec) (λ c h. counts_some c)
-answer_some told (ShowImage t what) =
+pub answer_some : (told : Option Folder) (r : Request) → MayPack told r → Surely ((x : Result Shown Refusal) × Answers told r x)
+answer_some told (CheckSpec spec) has = then_some _ _ spec (specifies_some told spec) (λ c h. counts_some c)
+answer_some told (ShowImage t what) has =
     then_some _ _ t.spec (specifies_some told t.spec) (λ c h.
     then_some _ _ c (loads_some told t c) (λ l i.
     let is = subst IsSpecified (sym i.0) (specified told t.spec c h) in
     shows_some l is (accepted l.compiled.tree.items l.compiled.tables is.compiles) what))
-answer_some told (Generate size) =
+answer_some told (ReportGaps spec) has = then_some _ _ spec (specifies_some told spec) (λ c h. gaps_some c)
+answer_some told (Generate size) has =
     then_some _ _ (spec_of (Generate size)) (specifies_some (Some generated) (spec_of (Generate size))) (λ c h.
     let is = specified (Some generated) (spec_of (Generate size)) c h in
     figures_some c size is (accepted c.tree.items c.tables is.compiles))
+answer_some told (PackSpec name) has = then_some _ _ (TextFile name) (specifies_some told (TextFile name)) (λ c h. packs_some c (has c h))

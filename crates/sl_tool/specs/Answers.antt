@@ -10,14 +10,18 @@ use Rattle.sl_outside.specs.Folder.{Folder}
 use Rattle.sl_outside.specs.Uses.{Names, Asks, AsksFront}
 use Rattle.sl_preproc.specs.Asks.{AsksFor as AsksForText}
 use Rattle.sl_tool.specs.Endings.{Shown, ended}
+use Rattle.sl_tool.specs.GapText.{IsGapText}
 use Rattle.sl_tool.specs.Generated.{AreFigures}
 use Rattle.sl_tool.specs.Counts.{count_line}
-use Rattle.sl_tool.specs.Request.{Request, CheckSpec, ShowImage, Generate, spec_of}
+use Rattle.sl_tool.specs.Request.{Request, CheckSpec, ShowImage, ReportGaps, Generate, PackSpec, spec_of}
 use Rattle.sl_tool.specs.Request.{Show, Listing, Operations, Run}
 use Rattle.sl_tool.specs.Shows.{IsOperations, ShowsRun}
 use Rattle.sl_tool.specs.declared.status.Ending.TheVariants.{Done}
 use Rattle.sl_tool.specs.declared.status.Status.{Status}
 use Rattle.sl_tool.specs.declared.status.Status.TheVariants.{Refused}
+use Rattle.sl_tool_request.specs.Requests.{PackedFile, SpecFile, TextFile}
+use Rattle.sl_store_write.specs.Packs.{IsFileOf}
+use Rattle.sl_tool_stages.specs.Packing.{packed_form_of}
 use Rattle.sl_tool_stages.specs.Problems.{refusal_text}
 use Rattle.sl_tool_stages.specs.Stage.{Stage, Then}
 use Rattle.sl_tool_stages.specs.Stages.{Loads, Specifies}
@@ -49,9 +53,17 @@ shows_of Listing l = ShowsText
 shows_of Operations l = ShowsText (IsOperations l)
 shows_of (Run steps) l = ShowsRun l steps
 
+-- what is due of a sound specification whose gaps are reported
+abbrev pub gaps_of : Compiled → Due
+gaps_of c = ShowsText (IsGapText c)
+
 -- what is due of a specification that was generated
 abbrev pub figures_of : (size : ℕ) → Compiled → Due
 figures_of size c = AreFigures c size
+
+-- what is due of a specification that is packed: its file
+abbrev pub packs_of : Compiled → Due
+packs_of c = ShowsText (λ bytes. IsFileOf (packed_form_of c.tree) bytes)
 
 -- The last stage shows what is due, and refuses nothing.
 abbrev pub Shows : {A : Type 0} → (A → Due) → Stage Refusal A Shown
@@ -65,7 +77,9 @@ Shows due a (Err x) = ⊥
 abbrev pub Follows : Option Folder → Request → Stage Refusal Compiled Shown
 Follows told (CheckSpec spec) = Shows counts_of
 Follows told (ShowImage t what) = Then (Loads told t) (Shows (shows_of what))
+Follows told (ReportGaps spec) = Shows gaps_of
 Follows told (Generate size) = Shows (figures_of size)
+Follows told (PackSpec name) = Shows packs_of
 
 -- the specification that is generated
 abbrev pub generated : Folder
@@ -75,7 +89,9 @@ generated name = if bytes_eq (codes "gen") name then Some specification else Non
 abbrev pub folder_for : Option Folder → Request → Option Folder
 folder_for told (CheckSpec spec) = told
 folder_for told (ShowImage t what) = told
+folder_for told (ReportGaps spec) = told
 folder_for told (Generate size) = Some generated
+folder_for told (PackSpec name) = told
 
 -- What becomes of a request that has these files.
 abbrev pub AnswersFrom : Option Folder → Request → Result Shown Refusal → Type 0
@@ -104,21 +120,31 @@ ran_of (Err x) = 0
 abbrev pub asked_after : Request → List (List ℕ)
 asked_after (CheckSpec spec) = []
 asked_after (ShowImage t what) = t.image ∷ []
+asked_after (ReportGaps spec) = []
 asked_after (Generate size) = []
+asked_after (PackSpec name) = []
 
--- The names that a request asks its files for: those of the specification's text, and where that is
--- sound what it asks for then.
+-- The names that are asked for to read a specification: those of its text, or that of its packed
+-- file.
+abbrev pub AsksForFile : Option Folder → SpecFile → List (List ℕ) → Type 0
+AsksForFile told (TextFile name) names = AsksForText told name names
+AsksForFile told (PackedFile name) names = names ≡ name ∷ []
+
+-- The names that a request asks its files for: those of the specification, and where that is sound
+-- what it asks for then.
 pub data AsksFrom (told : Option Folder) (r : Request) : List (List ℕ) → Type 0 where
-  unsound : {names : List (List ℕ)} {x : Refusal} → AsksForText told (spec_of r) names
+  unsound : {names : List (List ℕ)} {x : Refusal} → AsksForFile told (spec_of r) names
       → Specifies told (spec_of r) (Err x) → AsksFrom told r names
-  sound : (names : List (List ℕ)) {c : Compiled} → AsksForText told (spec_of r) names
+  sound : (names : List (List ℕ)) {c : Compiled} → AsksForFile told (spec_of r) names
       → Specifies told (spec_of r) (Ok c) → AsksFrom told r (names ++ asked_after r)
 
 -- The names that a request asks for. What is generated isn't asked for.
 abbrev pub AsksFor : Option Folder → Request → List (List ℕ) → Type 0
 AsksFor told (CheckSpec spec) = AsksFrom told (CheckSpec spec)
 AsksFor told (ShowImage t what) = AsksFrom told (ShowImage t what)
+AsksFor told (ReportGaps spec) = AsksFrom told (ReportGaps spec)
 AsksFor told (Generate size) = λ names. names ≡ []
+AsksFor told (PackSpec name) = AsksFrom told (PackSpec name)
 
 -- A call asks for the names that are due: for all of them, or, where it stops early, for the first
 -- of them. It fails only where the count of faults rose. The folder stays as it is.

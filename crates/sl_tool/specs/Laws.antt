@@ -1,17 +1,21 @@
 -- meaning: laws above the definitions.
-use Rattle.std.specs.Prelude.{◌≡◌, ℕ, ◌⊎◌, List, Option, Some, IsSome, Result, Ok, Err, ⊤}
+use Rattle.std.specs.Prelude.{◌≡◌, ℕ, ◌≤◌, ◌⊎◌, List, length, Option, Some, IsSome, Result, Ok, Err, ⊤}
 use Rattle.std.specs.Io.KnownBytes.{Appends}
 use Rattle.sl_outside.specs.Causes.{Rose}
-use Rattle.sl_outside.specs.Folder.{Folder}
+use Rattle.sl_outside.specs.Folder.{Folder, size_limit}
+use Rattle.sl_store_format.specs.Packed.{IsPacked}
+use Rattle.sl_store_write.specs.Packs.{IsFileOf}
+use Rattle.sl_tool_request.specs.Requests.{PackedFile, SpecFile, TextFile}
 use Rattle.sl_tool.specs.Answers.{Answers, generated}
 use Rattle.sl_tool.specs.Endings.{Shown, ended}
 use Rattle.sl_tool.specs.Ends.{Ends, ReadsFiles}
 use Rattle.sl_tool.specs.Growth.{Grew}
-use Rattle.sl_tool.specs.Request.{CheckSpec, Generate, Request, ShowImage, Listing, Operations, Run, spec_of}
+use Rattle.sl_tool.specs.Request.{CheckSpec, Generate, PackSpec, ReportGaps, Request, ShowImage, Listing, Operations, Run, spec_of}
 use Rattle.sl_tool.specs.declared.status.Ending.{Ending}
 use Rattle.sl_tool.specs.declared.status.Ending.TheVariants.{Done}
 use Rattle.sl_tool.specs.declared.status.Status.{Status}
 use Rattle.sl_tool.specs.declared.status.Status.TheVariants.{NoMemory, ReadFault, WriteFault}
+use Rattle.sl_tool_stages.specs.Packing.{packed_form_of}
 use Rattle.sl_tool_stages.specs.Stage.{Then}
 use Rattle.sl_tool_stages.specs.Stages.{Loads, Specifies}
 use Rattle.sl_tool_stages.specs.Values.{Compiled, Loaded}
@@ -31,22 +35,32 @@ PrintsNoList (CheckSpec spec) = ⊤
 PrintsNoList (ShowImage t Listing) = ⊤
 PrintsNoList (ShowImage t Operations) = ⊥
 PrintsNoList (ShowImage t (Run steps)) = ⊤
+PrintsNoList (ReportGaps spec) = ⊤
 PrintsNoList (Generate size) = ⊤
+PrintsNoList (PackSpec name) = ⊤
 
 -- The folder is told, or what is asked for needs none.
 abbrev pub IsTold : Option Folder → Request → Type 0
 IsTold told (CheckSpec spec) = IsSome told
 IsTold told (ShowImage t what) = IsSome told
+IsTold told (ReportGaps spec) = IsSome told
 IsTold told (Generate size) = ⊤
+IsTold told (PackSpec name) = IsSome told
 
 -- But for those lists a request has one answer at most.
 abbrev pub HasOneAnswer : Type 0
 HasOneAnswer = (told : Option Folder) (r : Request) (x y : Result Shown Refusal) → IsTold told r → PrintsNoList r
     → Answers told r x → Answers told r y → AreAlike x y
 
+-- What is packed has a file: each name of a file is UTF-8, and there are few enough for a file to count them. Of a text that the
+-- program read that is so.
+abbrev pub MayPack : Option Folder → Request → Type 0
+MayPack told (PackSpec name) = (c : Compiled) → Specifies told (TextFile name) (Ok c) → IsPacked (packed_form_of c.tree)
+MayPack told _ = ⊤
+
 -- It can't be that a request has no answer.
 abbrev pub HasSomeAnswer : Type 0
-HasSomeAnswer = (told : Option Folder) (r : Request) → Surely ((x : Result Shown Refusal) × Answers told r x)
+HasSomeAnswer = (told : Option Folder) (r : Request) → MayPack told r → Surely ((x : Result Shown Refusal) × Answers told r x)
 
 -- ---- what is accepted is answered
 
@@ -54,11 +68,14 @@ HasSomeAnswer = (told : Option Folder) (r : Request) → Surely ((x : Result Sho
 abbrev pub Accepts : Option Folder → Request → Type 0
 Accepts told (CheckSpec spec) = (c : Compiled) × Specifies told spec (Ok c)
 Accepts told (ShowImage t what) = (l : Loaded) × Then (Specifies told) (Loads told t) t.spec (Ok l)
+Accepts told (ReportGaps spec) = (c : Compiled) × Specifies told spec (Ok c)
 Accepts told (Generate size) = (c : Compiled) × Specifies (Some generated) (spec_of (Generate size)) (Ok c)
+Accepts told (PackSpec name) = (c : Compiled) × Specifies told (TextFile name) (Ok c)
 
 pub record IsAccepted (told : Option Folder) (r : Request) : Type 0 where
   pub is_told : IsTold told r
   pub accepts : Accepts told r
+  pub may_pack : MayPack told r
 
 -- how a request may end that isn't refused: but for a run, which may stop, as done
 abbrev pub MayEnd : Request → Ending → Type 0
@@ -66,7 +83,9 @@ MayEnd (CheckSpec spec) ending = ending ≡ Done
 MayEnd (ShowImage t Listing) ending = ending ≡ Done
 MayEnd (ShowImage t Operations) ending = ending ≡ Done
 MayEnd (ShowImage t (Run steps)) ending = ⊤
+MayEnd (ReportGaps spec) ending = ending ≡ Done
 MayEnd (Generate size) ending = ending ≡ Done
+MayEnd (PackSpec name) ending = ending ≡ Done
 
 -- It can't be that the request has no answer with an ending, and it has no other.
 pub record IsAnswered (told : Option Folder) (r : Request) : Type 0 where
@@ -76,6 +95,28 @@ pub record IsAnswered (told : Option Folder) (r : Request) : Type 0 where
 
 abbrev pub AcceptedAreAnswered : Type 0
 AcceptedAreAnswered = (told : Option Folder) (r : Request) → IsAccepted told r → IsAnswered told r
+
+-- ---- packed specifications
+
+-- the request over this file of a specification; `gen` and `pack` are over none that could be packed, and the law leaves a
+-- report on gaps as it is
+abbrev pub over : SpecFile → Request → Request
+over file (CheckSpec spec) = CheckSpec file
+over file (ShowImage t what) = ShowImage (record t { spec = file }) what
+over file (ReportGaps spec) = ReportGaps spec
+over file (Generate size) = Generate size
+over file (PackSpec name) = PackSpec name
+
+-- Two requests have the same answers.
+abbrev pub AreAnsweredAlike : Option Folder → Request → Request → Type 0
+AreAnsweredAlike told r q = (x : Result Shown Refusal) → (Answers told r x → Answers told q x) × (Answers told q x → Answers told r x)
+
+-- Where a folder has the text of a sound specification, and under another name the file that it packs into, which isn't too long,
+-- each request over this file is answered as the same over the text.
+abbrev pub PackedIsAlike : Type 0
+PackedIsAlike = (folder : Folder) (main name bytes : List ℕ) (c : Compiled) (r : Request)
+    → Specifies (Some folder) (TextFile main) (Ok c) → IsFileOf (packed_form_of c.tree) bytes → length bytes ≤ size_limit
+    → folder name ≡ Some bytes → AreAnsweredAlike (Some folder) (over (TextFile main) r) (over (PackedFile name) r)
 
 -- ---- the whole call
 

@@ -2,9 +2,11 @@ pub mod Counts
 pub mod Endings
 pub mod Request
 pub mod Shows
+pub mod GapText
 pub mod Generated
 pub mod Figures
 pub mod Answers
+pub mod Asking
 pub mod Streams
 pub mod Growth
 pub mod Ends

@@ -1,8 +1,8 @@
 -- step: a request as the program keeps it.
-use Rattle.sl_tool_request.specs.Views.{target}
+use Rattle.sl_tool_request.specs.Views.{spec_file, target}
 use Rattle.sl_tool.specs.Request as spec
 use Rattle.sl_tool.specs.declared.request.Request.{Request}
-use Rattle.sl_tool.specs.declared.request.Request.TheVariants.{Check, Generate, Show as ShowImage}
+use Rattle.sl_tool.specs.declared.request.Request.TheVariants.{Check, Gaps, Generate, Pack, Show as ShowImage}
 use Rattle.sl_tool.specs.declared.request.Show.{Show}
 use Rattle.sl_tool.specs.declared.request.Show.TheVariants.{Listing, Operations, Run}
 
@@ -12,6 +12,8 @@ show_of Operations = spec.Operations
 show_of (Run steps) = spec.Run steps
 
 abbrev pub request : Request → spec.Request
-request (Check name) = spec.CheckSpec name.now
+request (Check file) = spec.CheckSpec (spec_file file)
 request (ShowImage t what) = spec.ShowImage (target t) (show_of what)
+request (Gaps file) = spec.ReportGaps (spec_file file)
 request (Generate size) = spec.Generate size
+request (Pack name) = spec.PackSpec name.now

@@ -1,6 +1,7 @@
 //! Laws of the definitions.
 
 ghost use Rattle.sl_tool.specs.Laws.{AcceptedAreAnswered, HasOneAnswer, HasSomeAnswer, IsComplete};
+ghost use Rattle.sl_tool.specs.Laws.{PackedIsAlike};
 
 /// A request has one answer at most, where the folder is told or it is a `gen`: an ending and a
 /// text, or a refusal; but for the lists of operations that `pcode` prints, of which any may stand
@@ -23,4 +24,10 @@ pub fn accepted_are_answered()
 /// Where besides no count of faults rose, the whole call writes such an answer, or memory runs out.
 pub fn complete()
     ensures { IsComplete }
+{}
+
+/// Of a sound specification, each request over the file that it packs into is answered as the same
+/// over its text, where that file isn't too long.
+pub fn packed_is_alike()
+    ensures { PackedIsAlike }
 {}

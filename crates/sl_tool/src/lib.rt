@@ -5,15 +5,15 @@
 //! how many tables and constructors it has; `list SPEC IMAGE` prints a listing, `pcode SPEC IMAGE`
 //! the listing with the operations of each instruction, and `run SPEC IMAGE` runs instructions and
 //! prints registers, changed memory and the fault; the image may be hexadecimal text, and begin at
-//! a base. `gen NUMBER` does all of this with a specification and an image of its own. A
-//! specification's main file is expanded, the text is split into tokens, the tokens are parsed, the
-//! rules are judged, sizes inferred, and tables settled, or the first reason is told why it is
-//! refused.
+//! a base. `gaps SPEC` prints what a specification leaves unmatched. `gen NUMBER` checks, lists and
+//! runs a specification and an image of its own. A specification's main file is expanded, the text
+//! is split into tokens, the tokens are parsed, the rules are judged, sizes inferred, and tables
+//! settled, or the first reason is told why it is refused.
 //!
 //! `sl_tool_stages` has the stages: source, tree, sound tables, and the image beside them.
 //! `answer.rt` has the row of them for each request, and then what follows: `check.rt` counts;
-//! `show.rt` shows an image; `figures.rt` has what `gen` tells. `specs/Answers.antt` says what is
-//! due of a request.
+//! `show.rt` shows an image; `report.rt` reports gaps; `figures.rt` has what `gen` tells.
+//! `specs/Answers.antt` says what is due of a request.
 #![tactic(auto)]
 
 mod answer;
@@ -21,12 +21,14 @@ mod check;
 mod figures;
 mod generated;
 mod laws;
+mod pack;
+mod report;
 mod request;
 mod show;
 mod status;
 mod tool;
 mod writing;
 
-pub use laws::{accepted_are_answered, complete, one_answer, some_answer};
+pub use laws::{accepted_are_answered, complete, one_answer, packed_is_alike, some_answer};
 pub use status::Status;
 pub use tool::run_tool;

@@ -1,11 +1,11 @@
 //! What the words of the command line ask for.
 
 ghost use Rattle.std.specs.Prelude.{◌≡◌, IfOk, map, option_map, string_bytes};
-ghost use Rattle.sl_tool_request.specs.Views.{request as asked_view};
+ghost use Rattle.sl_tool_request.specs.Views.{request as asked_view, spec_file};
 ghost use Rattle.sl_tool.specs.Request.{request_for, request_of, spec_of};
 ghost use Rattle.sl_tool.specs.Requests.{request};
 
-use sl_tool_request::{Request as Asked, Target};
+use sl_tool_request::{Request as Asked, SpecFile, Target};
 use std::alloc::{AllocError, Global};
 
 /// What is shown of an image.
@@ -21,23 +21,29 @@ pub enum Show {
 /// What is asked for.
 #[derive(Debug, Drop)]
 pub enum Request<'a> {
-    /// Whether the specification with this main file is sound.
-    Check(&'a str),
+    /// Whether the specification of this file is sound.
+    Check(SpecFile<'a>),
     /// What is shown of an image by a specification.
     Show(Target<'a>, Show),
+    /// What the specification of this file leaves unmatched.
+    Gaps(SpecFile<'a>),
     /// A specification that is generated, with an image of so many instructions, is listed and run.
     Generate(u64),
+    /// The specification with this main file is packed.
+    Pack(&'a str),
 }
 
 impl<'a> Request<'a> {
-    /// The name of the specification's main file.
-    pub fn spec(&self) -> &'a str
-        ensures { result.now ≡ spec_of (request self.now) }
+    /// The file of the specification.
+    pub fn spec(&self) -> SpecFile<'a>
+        ensures { spec_file result ≡ spec_of (request self.now) }
     {
         match self {
-            Request::Check(name) => *name,
+            Request::Check(file) => *file,
             Request::Show(target, _) => target.spec,
-            Request::Generate(_) => "gen",
+            Request::Gaps(file) => *file,
+            Request::Generate(_) => SpecFile::Text("gen"),
+            Request::Pack(name) => SpecFile::Text(*name),
         }
     }
 }
@@ -47,11 +53,13 @@ fn request_for(asked: Asked<'_>) -> Request<'_>
     ensures { request result ≡ request_for (asked_view asked.entry) }
 {
     match asked {
-        Asked::Check(name) => Request::Check(name),
+        Asked::Check(file) => Request::Check(file),
         Asked::List(target) => Request::Show(target, Show::Listing),
         Asked::Pcode(target) => Request::Show(target, Show::Operations),
         Asked::Run(target, steps) => Request::Show(target, Show::Run(steps)),
         Asked::Gen(size) => Request::Generate(size),
+        Asked::Gaps(file) => Request::Gaps(file),
+        Asked::Pack(name) => Request::Pack(name),
     }
 }
 

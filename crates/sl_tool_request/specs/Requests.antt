@@ -15,21 +15,28 @@ pub record Field : Type 0 where
   pub name : Text
   pub value : ℤ
 
--- What is listed or run: the names of the files of the specification and of the image, the address
+-- The file of a specification by its name: the main file of its text, or a packed file.
+pub data SpecFile : Type 0 where
+  TextFile : Text → SpecFile
+  PackedFile : Text → SpecFile
+
+-- What is listed or run: the file of the specification and the name of the image's file, the address
 -- of the image's first byte, whether the image is hexadecimal text, and the context's values.
 pub record Target : Type 0 where
-  pub spec : Text
+  pub spec : SpecFile
   pub image : Text
   pub base : ℕ
   pub is_hex : Bool
   pub context : List Field
 
 pub data Asked : Type 0 where
-  Checks : Text → Asked
+  Checks : SpecFile → Asked
   Lists : Target → Asked
   Prints : Target → Asked
   Runs : Target → ℕ → Asked
   Generates : ℕ → Asked
+  Reports : SpecFile → Asked
+  Packs : Text → Asked
 
 -- ---- what a command is given
 
@@ -39,6 +46,7 @@ pub record Arguments : Type 0 where
   pub base : Option Text
   pub steps : Option Text
   pub is_hex : Bool
+  pub is_packed : Bool
 
 abbrev pub arguments : List Part → Arguments
 arguments ps = record {
@@ -46,6 +54,7 @@ arguments ps = record {
   base = given_value (codes "base") ps;
   steps = given_value (codes "steps") ps;
   is_hex = is_given (codes "hex") ps;
+  is_packed = is_given (codes "packed") ps;
 }
 
 abbrev pub arguments_once : List Part → Option Arguments
@@ -77,15 +86,19 @@ fields_of [] = Some []
 fields_of (word ∷ rest) =
     option_and_then (λ f. option_map (λ fs. f ∷ fs) (fields_of rest)) (field_of word)
 
-abbrev pub target : Text → Text → Bool → ℕ → List Field → Target
+abbrev pub target : SpecFile → Text → Bool → ℕ → List Field → Target
 target spec image is_hex base context =
     record { spec = spec; image = image; base = base; is_hex = is_hex; context = context }
+
+-- The file of this name: a packed one where the option says so.
+abbrev pub spec_file : (is_packed : Bool) → Text → SpecFile
+spec_file is_packed name = if is_packed then PackedFile name else TextFile name
 
 -- SPEC IMAGE FIELD=VALUE ..
 abbrev pub target_of_words : Arguments → List Text → Option Target
 target_of_words s (spec ∷ image ∷ rest) =
-    option_and_then (λ base. option_map (target spec image s.is_hex base) (fields_of rest))
-    (number_or 0 s.base)
+    option_and_then (λ base. option_map (target (spec_file s.is_packed spec) image s.is_hex base)
+    (fields_of rest)) (number_or 0 s.base)
 target_of_words s _ = None
 
 abbrev pub target_of : Arguments → Option Target
@@ -95,6 +108,10 @@ target_of s = target_of_words s s.words
 abbrev pub only_word : List Text → Option Text
 only_word (word ∷ []) = Some word
 only_word _ = None
+
+-- SPEC, the only word.
+abbrev pub only_spec : Arguments → Option SpecFile
+only_spec s = option_map (spec_file s.is_packed) (only_word s.words)
 
 -- The largest number that `gen` takes.
 abbrev pub most_generated : ℕ
@@ -115,14 +132,19 @@ takes name = record { name = name; takes_value = true }
 abbrev pub flag : Text → OptionRule
 flag name = record { name = name; takes_value = false }
 
+-- Of a command over a specification.
+abbrev pub spec_options : List OptionRule
+spec_options = flag (codes "packed") ∷ []
+
+-- Of a command over an image.
 abbrev pub target_options : List OptionRule
-target_options = takes (codes "base") ∷ flag (codes "hex") ∷ []
+target_options = flag (codes "packed") ∷ takes (codes "base") ∷ flag (codes "hex") ∷ []
 
 abbrev pub run_options : List OptionRule
-run_options = takes (codes "base") ∷ flag (codes "hex") ∷ takes (codes "steps") ∷ []
+run_options = flag (codes "packed") ∷ takes (codes "base") ∷ flag (codes "hex") ∷ takes (codes "steps") ∷ []
 
 abbrev pub check_asked : Arguments → Option Asked
-check_asked s = option_map Checks (only_word s.words)
+check_asked s = option_map Checks (only_spec s)
 
 abbrev pub list_asked : Arguments → Option Asked
 list_asked s = option_map Lists (target_of s)
@@ -136,6 +158,12 @@ run_asked s = option_and_then (λ t. option_map (Runs t) (number_or 1 s.steps)) 
 abbrev pub gen_asked : Arguments → Option Asked
 gen_asked s = option_map Generates (size_of s)
 
+abbrev pub gaps_asked : Arguments → Option Asked
+gaps_asked s = option_map Reports (only_spec s)
+
+abbrev pub pack_asked : Arguments → Option Asked
+pack_asked s = option_map Packs (only_word s.words)
+
 -- A command: its name, its options, and what is asked by what it is given.
 pub record Command : Type 0 where
   pub name : Text
@@ -147,11 +175,13 @@ command name options asked = record { name = name; options = options; asked = as
 
 abbrev pub commands : List Command
 commands =
-    command (codes "check") [] check_asked
+    command (codes "check") spec_options check_asked
     ∷ command (codes "list") target_options list_asked
     ∷ command (codes "pcode") target_options pcode_asked
     ∷ command (codes "run") run_options run_asked
     ∷ command (codes "gen") [] gen_asked
+    ∷ command (codes "gaps") spec_options gaps_asked
+    ∷ command (codes "pack") [] pack_asked
     ∷ []
 
 abbrev pub command_named : Text → Option Command

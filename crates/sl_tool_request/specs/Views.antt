@@ -3,16 +3,22 @@ use Rattle.std.specs.Prelude.{map, option_map}
 use Rattle.sl_tool_request.specs.Requests as spec
 use Rattle.sl_tool_request.specs.declared.request.FieldValue.{FieldValue}
 use Rattle.sl_tool_request.specs.declared.request.Request.{Request}
-use Rattle.sl_tool_request.specs.declared.request.Request.TheVariants.{Check, List, Pcode, Run, Gen}
+use Rattle.sl_tool_request.specs.declared.request.Request.TheVariants.{Check, List, Pcode, Run, Gen, Gaps, Pack}
+use Rattle.sl_tool_request.specs.declared.request.SpecFile.{SpecFile}
+use Rattle.sl_tool_request.specs.declared.request.SpecFile.TheVariants.{Text, Packed}
 use Rattle.sl_tool_request.specs.declared.request.Target.{Target}
 use Rattle.sl_tool_request.specs.declared.request.Arguments.{Arguments}
 
 abbrev pub field : FieldValue → spec.Field
 field f = record { name = f.field.now; value = f.value }
 
+abbrev pub spec_file : SpecFile → spec.SpecFile
+spec_file (Text name) = spec.TextFile name.now
+spec_file (Packed name) = spec.PackedFile name.now
+
 abbrev pub target : Target → spec.Target
 target t = record {
-  spec = t.spec.now;
+  spec = spec_file t.spec;
   image = t.image.now;
   base = t.base;
   is_hex = t.is_hex;
@@ -20,11 +26,13 @@ target t = record {
 }
 
 abbrev pub request : Request → spec.Asked
-request (Check file) = spec.Checks file.now
+request (Check file) = spec.Checks (spec_file file)
 request (List t) = spec.Lists (target t)
 request (Pcode t) = spec.Prints (target t)
 request (Run t steps) = spec.Runs (target t) steps
 request (Gen size) = spec.Generates size
+request (Gaps file) = spec.Reports (spec_file file)
+request (Pack name) = spec.Packs name.now
 
 abbrev pub arguments : Arguments → spec.Arguments
 arguments s = record {
@@ -32,4 +40,5 @@ arguments s = record {
   base = option_map (λ w. w.now) s.base;
   steps = option_map (λ w. w.now) s.steps;
   is_hex = s.is_hex;
+  is_packed = s.is_packed;
 }

@@ -2,13 +2,15 @@
 
 ghost use Rattle.std.specs.Prelude.{◌≡◌, IfOk, map, option_map, string_bytes};
 ghost use Rattle.sl_tool_request.specs.Requests.{asked_by, check_asked, field_of, fields_of};
-ghost use Rattle.sl_tool_request.specs.Requests.{gen_asked};
-ghost use Rattle.sl_tool_request.specs.Requests.{list_asked, number_or, only_word, pcode_asked};
-ghost use Rattle.sl_tool_request.specs.Requests.{run_asked, size_of, target_of};
+ghost use Rattle.sl_tool_request.specs.Requests.{gaps_asked, gen_asked};
+ghost use Rattle.sl_tool_request.specs.Requests.{list_asked, number_or, only_spec, only_word};
+ghost use Rattle.sl_tool_request.specs.Requests.{pack_asked, pcode_asked, run_asked, size_of};
+ghost use Rattle.sl_tool_request.specs.Requests.{spec_file, target_of};
 ghost use Rattle.sl_tool_request.specs.Views.{field, request, arguments, target};
+ghost use Rattle.sl_tool_request.specs.Views.{spec_file as file_view};
 
 use crate::numbers::{number_of, value_of};
-use crate::request::{Arguments, FieldValue, Request, Target};
+use crate::request::{Arguments, FieldValue, Request, SpecFile, Target};
 use std::alloc::{AllocError, Global};
 
 /// The largest number that `gen` takes.
@@ -54,6 +56,17 @@ fn fields_of<'a>(
     Ok(Some(fields))
 }
 
+/// The file of this name: a packed one where the option says so.
+fn spec_file(is_packed: bool, name: &str) -> SpecFile<'_>
+    ensures { file_view result ≡ spec_file is_packed name.now }
+{
+    if is_packed {
+        SpecFile::Packed(name)
+    } else {
+        SpecFile::Text(name)
+    }
+}
+
 /// SPEC IMAGE FIELD=VALUE .., with the options over an image.
 fn target_of<'a>(alloc: Global, given: &Arguments<'a>) -> Result<Option<Target<'a>>, AllocError>
     ensures { IfOk result (λ r. option_map target r ≡ target_of (arguments given.now)) }
@@ -68,7 +81,7 @@ fn target_of<'a>(alloc: Global, given: &Arguments<'a>) -> Result<Option<Target<'
         return Ok(None);
     };
     Ok(Some(Target {
-        spec: *spec,
+        spec: spec_file(given.is_packed, *spec),
         image: *image,
         base,
         is_hex: given.is_hex,
@@ -84,6 +97,14 @@ fn only_word<'a>(given: &Arguments<'a>) -> Option<&'a str>
         [word] => Some(*word),
         _ => None,
     }
+}
+
+/// SPEC, the only word.
+fn only_spec<'a>(given: &Arguments<'a>) -> Option<SpecFile<'a>>
+    ensures { option_map file_view result ≡ only_spec (arguments given.now) }
+{
+    let name = only_word(given)?;
+    Some(spec_file(given.is_packed, name))
 }
 
 /// The size of the specification that `gen` makes.
@@ -115,7 +136,7 @@ fn run_asked<'a>(alloc: Global, given: &Arguments<'a>) -> Result<Option<Request<
 fn check_asked<'a>(given: &Arguments<'a>) -> Option<Request<'a>>
     ensures { option_map request result ≡ check_asked (arguments given.now) }
 {
-    let spec = only_word(given)?;
+    let spec = only_spec(given)?;
     Some(Request::Check(spec))
 }
 
@@ -147,6 +168,22 @@ fn gen_asked<'a>(given: &Arguments<'a>) -> Option<Request<'a>>
     Some(Request::Gen(size))
 }
 
+/// What `gaps` asks for.
+fn gaps_asked<'a>(given: &Arguments<'a>) -> Option<Request<'a>>
+    ensures { option_map request result ≡ gaps_asked (arguments given.now) }
+{
+    let spec = only_spec(given)?;
+    Some(Request::Gaps(spec))
+}
+
+/// What `pack` asks for.
+fn pack_asked<'a>(given: &Arguments<'a>) -> Option<Request<'a>>
+    ensures { option_map request result ≡ pack_asked (arguments given.now) }
+{
+    let name = only_word(given)?;
+    Some(Request::Pack(name))
+}
+
 /// What the command of this name asks for by what it is given; none where there is no such command,
 /// or where a word is too many, missing, or no number or field.
 pub fn asked_by<'a>(
@@ -162,6 +199,8 @@ pub fn asked_by<'a>(
         "pcode" => pcode_asked(alloc, given),
         "run" => run_asked(alloc, given),
         "gen" => Ok(gen_asked(given)),
+        "gaps" => Ok(gaps_asked(given)),
+        "pack" => Ok(pack_asked(given)),
         _ => Ok(None),
     }
 }

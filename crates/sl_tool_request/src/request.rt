@@ -7,11 +7,20 @@ pub struct FieldValue<'a> {
     pub value: i128,
 }
 
+/// The file of a specification, by its name.
+#[derive(Clone, Copy, Debug)]
+pub enum SpecFile<'a> {
+    /// The main file of its text.
+    Text(&'a str),
+    /// A packed file.
+    Packed(&'a str),
+}
+
 /// What is listed or run.
 #[derive(Debug, Drop)]
 pub struct Target<'a> {
     /// The file of the specification.
-    pub spec: &'a str,
+    pub spec: SpecFile<'a>,
     /// The file of the image.
     pub image: &'a str,
     /// The address of the image's first byte, in the default space.
@@ -26,7 +35,7 @@ pub struct Target<'a> {
 #[derive(Debug, Drop)]
 pub enum Request<'a> {
     /// The specification of this file is checked.
-    Check(&'a str),
+    Check(SpecFile<'a>),
     /// The image is listed.
     List(Target<'a>),
     /// The image is listed with the p-code of its instructions.
@@ -35,6 +44,10 @@ pub enum Request<'a> {
     Run(Target<'a>, u64),
     /// A specification of this size is generated, 1 to 30,000, and compiled, listed and run.
     Gen(u64),
+    /// What the specification of this file leaves unmatched is reported.
+    Gaps(SpecFile<'a>),
+    /// The specification with this main file is packed.
+    Pack(&'a str),
 }
 
 /// What a command is given, before any value is read: its positional words, and the values of its
@@ -45,4 +58,5 @@ pub struct Arguments<'a> {
     pub base: Option<&'a str>,
     pub steps: Option<&'a str>,
     pub is_hex: bool,
+    pub is_packed: bool,
 }

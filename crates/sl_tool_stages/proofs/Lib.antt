@@ -7,6 +7,8 @@ pub mod TokenLemmas
 pub mod SoundTexts
 pub mod NameLemmas
 pub mod ImageLemmas
+pub mod UnpackLemmas
 pub mod StageLemmas
 pub mod HaltLemmas
 pub mod ReadLemmas
+pub mod PackingLemmas

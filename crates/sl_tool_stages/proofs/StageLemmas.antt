@@ -3,7 +3,6 @@ use Rattle.std.proofs.Common.{◌≡◌, ℕ, ◌+◌, ◌^◌, ◌<◌, ◌≤�
 use Rattle.std.proofs.lemmas.Bool.{cases_lt}
 use Rattle.std.specs.Prelude.{IsSome}
 use Rattle.sl_ast.specs.Trees.{Item}
-use Rattle.sl_ast.specs.Unfolding.{firsts}
 use Rattle.sl_bind_compile.specs.Outcomes as outcome
 use Rattle.sl_bind_compile.specs.AtTokens.{at_tokens}
 use Rattle.sl_bind_compile.proofs.OutcomeLemmas.{compiles_one as outcome_one, some_compiles}
@@ -21,17 +20,22 @@ use Rattle.sl_parse_faults.specs.Causes.{IsFault, Reason}
 use Rattle.sl_parse_faults.specs.Laws.{IsSpelled}
 use Rattle.sl_parse_faults.proofs.Places.{any_have, faults_are_one, trees_have_none}
 use Rattle.sl_preproc.specs.Expanded.{expanded}
-use Rattle.sl_tool_request.specs.Requests.{Target}
+use Rattle.sl_tool_request.specs.Requests.{PackedFile, SpecFile, Target, TextFile}
+use Rattle.sl_store.proofs.StoreLaws.{file_not_cut, file_not_damaged, has_mark, one_specification, torn, verdicts}
+use Rattle.sl_store.specs.Laws.{Verdict, file_of, is_cut, is_damaged, not_packed}
+use Rattle.sl_store_bytes.proofs.VerdictLaws.{one_place}
+use Rattle.sl_store_format.specs.Packed.{IsPackable, pack}
 use Rattle.sl_base_surely.specs.Surely.{Surely}
 use Rattle.sl_base_surely.proofs.SurelyLemmas.{surely, surely_map}
 use Rattle.sl_spec.specs.declared.tables.Tables as spec
 use Rattle.sl_parse_terminals.specs.Symbols.{symbols_of}
-use Rattle.sl_tool_stages.specs.Places.{place_of_byte, place_of_token}
+use Rattle.sl_tool_stages.specs.Places.{indexes_in, place_of_byte, place_of_token}
 use Rattle.sl_tool_stages.specs.Problems.{refusal, refusal_at}
-use Rattle.sl_tool_stages.specs.Stage.{HasOneResult, HasSomeResult}
-use Rattle.sl_tool_stages.specs.Stages.{Compiles, Expands, Tokenizes, Parses, Reads, Fetches, Decodes, Fits, Images, Loads, Readies, Specifies, Starts, decoded, image_in, problem_of_fault, problem_of_reason, refusal_told, source_of, started}
-use Rattle.sl_tool_stages.specs.Values.{Source, Tokens, Tree, Compiled, Loaded, compiled, loaded, tokens, tree}
-use Rattle.sl_tool_stages.specs.declared.problem.Problem.TheVariants.{NoFile, TooLong}
+use Rattle.sl_tool_stages.specs.Stage.{HasOneResult, HasSomeResult, Then}
+use Rattle.sl_tool_stages.specs.Stages.{Compiles, Expands, Tokenizes, Parses, Unpacks, Reads, Fetches, Decodes, Fits, Images, Loads, Readies, Specifies, Starts, decoded, image_in, problem_of_fault, problem_of_reason, refusal_told, source_of, started, stored_tree}
+use Rattle.sl_tool_stages.specs.Stages.Reads.{of_packed, of_text}
+use Rattle.sl_tool_stages.specs.Values.{Source, Tokens, InText, Origin, Tree, Compiled, Loaded, compiled, loaded, tokens, tree}
+use Rattle.sl_tool_stages.specs.declared.problem.Problem.TheVariants.{Cut, Damaged, NoFile, NotPacked, TooLong}
 use Rattle.sl_tool_stages.specs.declared.refusal.Refusal.{Refusal}
 use Rattle.sl_tool_stages.proofs.Thens.{err_is, none_is, not_both, ok_is, some_is, then_one, then_some}
 
@@ -40,8 +44,8 @@ use Rattle.sl_tool_stages.proofs.Thens.{err_is, none_is, not_both, ok_is, some_i
 tokens_is : (k l : Tokens) → k.source ≡ l.source → k.tokens ≡ l.tokens → k ≡ l
 tokens_is k l e f = ap (λ (s : Source). tokens s k.tokens) e ∙ ap (λ (ts : List Token). tokens l.source ts) f
 
-tree_is : (t u : Tree) → t.tokens ≡ u.tokens → t.items ≡ u.items → t ≡ u
-tree_is t u e f = ap (λ (k : Tokens). tree k t.items) e ∙ ap (λ (xs : List Item). tree u.tokens xs) f
+tree_is : (t u : Tree) → t.origin ≡ u.origin → t.items ≡ u.items → t ≡ u
+tree_is t u e f = ap (λ (o : Origin). tree o t.items) e ∙ ap (λ (xs : List Item). tree u.origin xs) f
 
 loaded_is : (i j : Loaded) → i.compiled ≡ j.compiled → i.image ≡ j.image → i ≡ j
 loaded_is i j e f = ap (λ (c : Compiled). loaded c i.image) e ∙ ap (λ (x : Image). loaded j.compiled x) f
@@ -85,11 +89,41 @@ parses_one k (Err x) (Err y) h g =
     ∙ ap (λ (n : ℕ). refusal_at (place_of_token k n) (problem_of_reason g.0)) one.0 ∙ sym g.3)
 
 parses_by : (k : Tokens) → IsSpelled (symbols_of k.tokens) ⊎ ((reason : Reason) × (index : ℕ) × IsFault (symbols_of k.tokens) reason index) → (r : Result Tree Refusal) × Parses k r
-parses_by k (inl t) = (Ok (tree k t.0), (refl, sym t.2, t.1))
+parses_by k (inl t) = (Ok (tree (InText k) t.0), (refl, sym t.2, t.1))
 parses_by k (inr f) = (Err (refusal_at (place_of_token k f.1) (problem_of_reason f.0)), (f.0, f.1, f.2, refl))
 
 parses_some : (k : Tokens) → HasSomeResult Parses k
 parses_some k = surely (parses_by k (any_have (symbols_of k.tokens)))
+
+-- ---- packed files
+
+unpacks_one : (name : List ℕ) → HasOneResult (Unpacks name)
+unpacks_one name bytes (Ok t) (Ok u) h g = ap Ok (h.2 ∙ ap stored_tree (one_specification h.0 g.0 bytes h.1 g.1) ∙ sym g.2)
+unpacks_one name bytes (Ok t) (Err x) h (inl g) = absurd (g.0 (has_mark h.0 bytes h.1))
+unpacks_one name bytes (Ok t) (Err x) h (inr (inl g)) = absurd (file_not_cut h.0 bytes h.1 g.0)
+unpacks_one name bytes (Ok t) (Err x) h (inr (inr g)) = absurd (file_not_damaged h.0 bytes g.0 h.1 g.1)
+unpacks_one name bytes (Err x) (Ok u) (inl h) g = absurd (h.0 (has_mark g.0 bytes g.1))
+unpacks_one name bytes (Err x) (Ok u) (inr (inl h)) g = absurd (file_not_cut g.0 bytes g.1 h.0)
+unpacks_one name bytes (Err x) (Ok u) (inr (inr h)) g = absurd (file_not_damaged g.0 bytes h.0 g.1 h.1)
+unpacks_one name bytes (Err x) (Err y) (inl h) (inl g) = ap Err (h.1 ∙ sym g.1)
+unpacks_one name bytes (Err x) (Err y) (inl h) (inr (inl g)) = absurd (h.0 g.0.0)
+unpacks_one name bytes (Err x) (Err y) (inl h) (inr (inr g)) = absurd (h.0 g.1.0)
+unpacks_one name bytes (Err x) (Err y) (inr (inl h)) (inl g) = absurd (g.0 h.0.0)
+unpacks_one name bytes (Err x) (Err y) (inr (inl h)) (inr (inl g)) = ap Err (h.1 ∙ sym g.1)
+unpacks_one name bytes (Err x) (Err y) (inr (inl h)) (inr (inr g)) = absurd (torn bytes g.0 h.0 g.1)
+unpacks_one name bytes (Err x) (Err y) (inr (inr h)) (inl g) = absurd (g.0 h.1.0)
+unpacks_one name bytes (Err x) (Err y) (inr (inr h)) (inr (inl g)) = absurd (torn bytes h.0 g.0 h.1)
+unpacks_one name bytes (Err x) (Err y) (inr (inr h)) (inr (inr g)) =
+    ap Err (h.2 ∙ ap (λ (n : ℕ). refusal name 0 (Damaged n)) (one_place pack IsPackable bytes h.0 g.0 h.1.1 g.1.1) ∙ sym g.2)
+
+unpacks_by : (name bytes : List ℕ) → Verdict bytes → (r : Result Tree Refusal) × Unpacks name bytes r
+unpacks_by name bytes (not_packed h) = (Err (refusal name 0 NotPacked), inl (h, refl))
+unpacks_by name bytes (file_of p h) = (Ok (stored_tree p), (p, h, refl))
+unpacks_by name bytes (is_cut h) = (Err (refusal name 0 Cut), inr (inl (h, refl)))
+unpacks_by name bytes (is_damaged at h) = (Err (refusal name 0 (Damaged at)), inr (inr (at, h, refl)))
+
+unpacks_some : (name bytes : List ℕ) → HasSomeResult (Unpacks name) bytes
+unpacks_some name bytes = surely (unpacks_by name bytes (verdicts bytes))
 
 -- ---- 4: tables
 
@@ -102,12 +136,12 @@ compiles_one t (Ok b) (Ok c) h g =
 compiles_one t (Ok b) (Err x) h g = absurd (not_both g.0 b.tables (outcome_one t.items (Err g.0) (Ok b.tables) g.1 h.1))
 compiles_one t (Err x) (Ok b) h g = absurd (not_both h.0 b.tables (outcome_one t.items (Err h.0) (Ok b.tables) h.1 g.1))
 compiles_one t (Err x) (Err y) h g =
-    ap Err (h.2 ∙ ap (λ (w : outcome.Refusal). refusal_told t.tokens (at_tokens (firsts t.items) w))
+    ap Err (h.2 ∙ ap (λ (w : outcome.Refusal). refusal_told t.origin (at_tokens (indexes_in t.origin t.items) w))
     (err_is spec.Tables h.0 g.0 (outcome_one t.items (Err h.0) (Err g.0) h.1 g.1)) ∙ sym g.2)
 
 compiles_by : (t : Tree) → (r : outcome.Compilation) × outcome.Compiles t.items r → (r : Result Compiled Refusal) × Compiles t r
 compiles_by t (Ok b, h) = (Ok (compiled t b), (refl, h))
-compiles_by t (Err why, h) = (Err (refusal_told t.tokens (at_tokens (firsts t.items) why)), (why, h, refl))
+compiles_by t (Err why, h) = (Err (refusal_told t.origin (at_tokens (indexes_in t.origin t.items) why)), (why, h, refl))
 
 pub compiles_some : (t : Tree) → HasSomeResult Compiles t
 compiles_some t = surely_map (compiles_by t) (some_compiles t.items)
@@ -212,18 +246,30 @@ loads_some told t c = surely_map (loads_by told t c) (readies_some told t c.tabl
 -- ---- several stages
 
 pub reads_one : (folder : Folder) → HasOneResult (Reads (Some folder))
-reads_one folder = then_one _ _ (expands_one folder) (then_one _ _ tokenizes_one parses_one)
+reads_one folder (TextFile name) r q (of_text h) (of_text g) = then_one _ _ (expands_one folder) (then_one _ _ tokenizes_one parses_one) name r q h g
+reads_one folder (PackedFile name) r q (of_packed h) (of_packed g) = then_one _ _ (fetches_one folder) (unpacks_one name) name r q h g
 
-pub reads_some : (told : Option Folder) (name : List ℕ) → HasSomeResult (Reads told) name
-reads_some told name =
+text_some : (told : Option Folder) (name : List ℕ) → HasSomeResult (Then (Expands told) (Then Tokenizes Parses)) name
+text_some told name =
     then_some _ _ name (expands_some told name) (λ s h.
     then_some _ _ s (tokenizes_some s) (λ k i. parses_some k))
+
+packed_some : (told : Option Folder) (name : List ℕ) → HasSomeResult (Then (Fetches told) (Unpacks name)) name
+packed_some told name = then_some _ _ name (surely (fetches_by told name)) (λ bytes h. unpacks_some name bytes)
+
+pub reads_some : (told : Option Folder) (file : SpecFile) → HasSomeResult (Reads told) file
+reads_some told (TextFile name) =
+    surely_map (λ (p : (r : Result Tree Refusal) × Then (Expands told) (Then Tokenizes Parses) name r).
+    let q : (r : Result Tree Refusal) × Reads told (TextFile name) r = (p.0, of_text p.1) in q) (text_some told name)
+reads_some told (PackedFile name) =
+    surely_map (λ (p : (r : Result Tree Refusal) × Then (Fetches told) (Unpacks name) name r).
+    let q : (r : Result Tree Refusal) × Reads told (PackedFile name) r = (p.0, of_packed p.1) in q) (packed_some told name)
 
 pub specifies_one : (folder : Folder) → HasOneResult (Specifies (Some folder))
 specifies_one folder = then_one _ _ (reads_one folder) compiles_one
 
-pub specifies_some : (told : Option Folder) (name : List ℕ) → HasSomeResult (Specifies told) name
-specifies_some told name = then_some _ _ name (reads_some told name) (λ u h. compiles_some u)
+pub specifies_some : (told : Option Folder) (file : SpecFile) → HasSomeResult (Specifies told) file
+specifies_some told file = then_some _ _ file (reads_some told file) (λ u h. compiles_some u)
 
 -- ---- of a folder that is told
 

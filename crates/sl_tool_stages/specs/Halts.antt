@@ -9,9 +9,11 @@ use Rattle.sl_parse.specs.declared.parser.ParseError.{ParseError}
 use Rattle.sl_parse.specs.declared.parser.ParseError.TheVariants as parse
 use Rattle.sl_preproc.specs.declared.error.PreError.{PreError}
 use Rattle.sl_preproc.specs.declared.error.PreError.TheVariants as preproc
+use Rattle.sl_store.specs.declared.opening.UnpackError.{UnpackError}
+use Rattle.sl_store.specs.declared.opening.UnpackError.TheVariants as unpack
 use Rattle.sl_tool_stages.specs.Problems.{refusal}
 use Rattle.sl_tool_stages.specs.Stages.{refusal_told}
-use Rattle.sl_tool_stages.specs.Values.{Tokens}
+use Rattle.sl_tool_stages.specs.Values.{Origin}
 use Rattle.sl_tool_stages.specs.declared.halt.Halt.{Halt}
 use Rattle.sl_tool_stages.specs.declared.halt.Halt.TheVariants.{Refused, ReadFault, WriteFault, NoMemory}
 use Rattle.sl_tool_stages.specs.declared.problem.Problem.{Problem}
@@ -43,11 +45,18 @@ first_fault (parse.Nesting at) = Some (at, problem.Nesting)
 first_fault (parse.NotSupported feature at) = Some (at, problem.NotSupported feature)
 first_fault parse.NoMemory = None
 
+-- the problem of bytes that aren't a packed specification, unless memory ran out
+abbrev pub unopened : UnpackError → Option Problem
+unopened unpack.NotPacked = Some problem.NotPacked
+unopened unpack.Cut = Some problem.Cut
+unopened (unpack.Damaged at) = Some (problem.Damaged at)
+unopened unpack.NoMemory = None
+
 -- The halt tells why a specification is refused, unless memory ran out.
-abbrev pub TellsRefusal : Tokens → CompileError → Halt → Type 0
-TellsRefusal k error NoMemory = ⊤
-TellsRefusal k error ReadFault = ⊥
-TellsRefusal k error WriteFault = ⊥
-TellsRefusal k (compile.Flaw flaw token) (Refused x) = x ≡ refusal_told k (flawed flaw token)
-TellsRefusal k (compile.Ambiguous a) (Refused x) = x ≡ refusal_told k (ambiguous a)
-TellsRefusal k compile.NoMemory (Refused x) = ⊥
+abbrev pub TellsRefusal : Origin → CompileError → Halt → Type 0
+TellsRefusal o error NoMemory = ⊤
+TellsRefusal o error ReadFault = ⊥
+TellsRefusal o error WriteFault = ⊥
+TellsRefusal o (compile.Flaw flaw index) (Refused x) = x ≡ refusal_told o (flawed flaw index)
+TellsRefusal o (compile.Ambiguous a) (Refused x) = x ≡ refusal_told o (ambiguous a)
+TellsRefusal o compile.NoMemory (Refused x) = ⊥

@@ -7,6 +7,9 @@ pub mod Stages
 pub mod Outcomes
 pub mod SourceView
 pub mod TokensView
+pub mod OriginView
 pub mod StageViews
+pub mod Packing
+pub mod Packable
 pub mod Halts
 pub mod Loaded

@@ -9,7 +9,7 @@ use Rattle.sl_cube_sets.specs.declared.report.Apart.TheVariants.{Same, Two}
 use Rattle.sl_tool_stages.specs.Lines.{place_text, point_text}
 use Rattle.sl_tool_stages.specs.declared.problem.Conflict.{Conflict}
 use Rattle.sl_tool_stages.specs.declared.problem.Problem.{Problem}
-use Rattle.sl_tool_stages.specs.declared.problem.Problem.TheVariants.{NoFile, TooLong, IncludeDepth, UndefinedName, ReplaceDepth, BadDirective, Unbalanced, BadByte, OpenString, WideInteger, Syntax, Nesting, NotSupported, Rule, SizeClash, SizeUnfixed, InteriorEllipsis, TokensDiffer, Impossible, TooManyCubes, WindowTooLong, Ambiguous, BadHex, NoContextField, ValueOutOfRange}
+use Rattle.sl_tool_stages.specs.declared.problem.Problem.TheVariants.{NotPacked, Cut, Damaged, NoFile, TooLong, IncludeDepth, UndefinedName, ReplaceDepth, BadDirective, Unbalanced, BadByte, OpenString, WideInteger, Syntax, Nesting, NotSupported, Rule, SizeClash, SizeUnfixed, InteriorEllipsis, TokensDiffer, Impossible, TooManyCubes, WindowTooLong, Ambiguous, BadHex, NoContextField, ValueOutOfRange}
 use Rattle.sl_tool_stages.specs.declared.place.Place.{Place}
 use Rattle.sl_tool_stages.specs.declared.refusal.Refusal.{Refusal}
 use Rattle.sl_tool_stages.specs.declared.refusal.Subject.{Subject}
@@ -59,6 +59,9 @@ words_of Impossible = codes "impossible pattern"
 words_of (TooManyCubes count) = codes "too many cubes " ++ decimal count
 words_of (WindowTooLong count) = codes "window too long " ++ decimal count
 words_of (Ambiguous conflict) = conflict_words conflict
+words_of NotPacked = codes "not packed"
+words_of Cut = codes "cut"
+words_of (Damaged at) = codes "damaged at " ++ decimal at
 words_of BadHex = codes "bad hex"
 words_of NoContextField = codes "no such context field"
 words_of ValueOutOfRange = codes "value out of range"

@@ -1,7 +1,6 @@
 -- meaning: the stages from the name of a specification to what a command works on.
 use Rattle.std.specs.Prelude.{◌≡◌, ℕ, ◌^◌, ◌≤◌, ◌⊎◌, List, length, Option, Some, None, Bool, if◌then◌else◌, Result, Ok, Err, ⊤}
 use Rattle.sl_ast.specs.Spelling.{spell}
-use Rattle.sl_ast.specs.Unfolding.{firsts}
 use Rattle.sl_ast.specs.Validity.{AreItems}
 use Rattle.sl_bind_compile.specs.Ambiguity.{Ambiguity}
 use Rattle.sl_bind_compile.specs.Outcomes.{ambiguous, flawed}
@@ -25,17 +24,21 @@ use Rattle.sl_preproc.specs.Expanded.{Text, expanded}
 use Rattle.sl_preproc.specs.Expansion as preproc
 use Rattle.sl_preproc.specs.Sound.{IsSound}
 use Rattle.sl_tool_request.specs.Images.{image_of}
-use Rattle.sl_tool_request.specs.Requests.{Target}
+use Rattle.sl_tool_request.specs.Requests.{PackedFile, SpecFile, Target, TextFile}
 use Rattle.sl_spec.specs.declared.tables.Tables as spec
 use Rattle.sl_parse_terminals.specs.Symbols.{symbols_of}
 use Rattle.sl_step_run.specs.Running.{HasRoom}
-use Rattle.sl_tool_stages.specs.Places.{place_of_byte, place_of_some, place_of_token}
+use Rattle.sl_store.specs.Damage.{IsCut, IsDamagedAt}
+use Rattle.sl_store_bytes.specs.Verdicts.{HasMark}
+use Rattle.sl_store_format.specs.Packed.{Packed, mark}
+use Rattle.sl_store_write.specs.Packs.{IsFileOf}
+use Rattle.sl_tool_stages.specs.Places.{indexes_in, place_in, place_of_byte, place_of_token}
 use Rattle.sl_tool_stages.specs.Problems.{refusal, refusal_at, refusal_of_field}
 use Rattle.sl_tool_stages.specs.Stage.{Stage, Then}
-use Rattle.sl_tool_stages.specs.Values.{Source, Tokens, Tree, Compiled, Loaded, source}
+use Rattle.sl_tool_stages.specs.Values.{Source, Tokens, InText, Origin, Stored, Tree, Compiled, Loaded, source, tree}
 use Rattle.sl_tool_stages.specs.declared.problem.Conflict.{Conflict}
 use Rattle.sl_tool_stages.specs.declared.problem.Problem.{Problem}
-use Rattle.sl_tool_stages.specs.declared.problem.Problem.TheVariants.{NoFile, TooLong, IncludeDepth, UndefinedName, ReplaceDepth, BadDirective, Unbalanced, BadByte, OpenString, WideInteger, Syntax, Nesting, NotSupported, Rule, SizeClash, SizeUnfixed, InteriorEllipsis, TokensDiffer, Impossible, TooManyCubes, WindowTooLong, Ambiguous, BadHex, NoContextField, ValueOutOfRange}
+use Rattle.sl_tool_stages.specs.declared.problem.Problem.TheVariants.{NotPacked, Cut, Damaged, NoFile, TooLong, IncludeDepth, UndefinedName, ReplaceDepth, BadDirective, Unbalanced, BadByte, OpenString, WideInteger, Syntax, Nesting, NotSupported, Rule, SizeClash, SizeUnfixed, InteriorEllipsis, TokensDiffer, Impossible, TooManyCubes, WindowTooLong, Ambiguous, BadHex, NoContextField, ValueOutOfRange}
 use Rattle.sl_tool_stages.specs.declared.refusal.Refusal.{Refusal}
 
 -- ---- 1: the name of the main file to its expanded text
@@ -84,14 +87,34 @@ problem_of_reason (left_out form) = NotSupported form
 
 -- The tokens spell this tree, which has no fault, or they have a first fault.
 abbrev pub Parses : Stage Refusal Tokens Tree
-Parses k (Ok t) = (t.tokens ≡ k) × (symbols_of k.tokens ≡ spell t.items) × AreItems t.items
+Parses k (Ok t) = (t.origin ≡ InText k) × (symbols_of k.tokens ≡ spell t.items) × AreItems t.items
 Parses k (Err x) = (reason : Reason) × (index : ℕ) × IsFault (symbols_of k.tokens) reason index
     × (x ≡ refusal_at (place_of_token k index) (problem_of_reason reason))
 
--- ---- the text of a specification to its tree
+-- ---- the bytes of a packed file to the tree that they hold
 
-abbrev pub Reads : Option Folder → Stage Refusal (List ℕ) Tree
-Reads told = Then (Expands told) (Then Tokenizes Parses)
+-- the tree of a packed specification, whose items have their stored places
+abbrev pub stored_tree : Packed → Tree
+stored_tree p = tree (Stored p.files p.places) p.items
+
+-- The bytes of the file of this name are those of a packed specification; or the mark isn't at their front, or they are cut, or
+-- damaged at a byte.
+abbrev pub Unpacks : (name : List ℕ) → Stage Refusal (List ℕ) Tree
+Unpacks name bytes (Ok t) = (p : Packed) × IsFileOf p bytes × (t ≡ stored_tree p)
+Unpacks name bytes (Err x) = ((HasMark mark bytes → ⊥) × (x ≡ refusal name 0 NotPacked))
+    ⊎ ((IsCut bytes × (x ≡ refusal name 0 Cut)) ⊎ ((at : ℕ) × IsDamagedAt bytes at × (x ≡ refusal name 0 (Damaged at))))
+
+-- ---- the file of a specification to its tree
+
+-- The file of this name has these bytes, which aren't too many for a file; or there is no such file.
+abbrev pub Fetches : Option Folder → Stage Refusal (List ℕ) (List ℕ)
+Fetches told name (Ok bytes) = FolderHas told name bytes × (length bytes ≤ size_limit)
+Fetches told name (Err x) = (Lacks told name × (x ≡ refusal name 0 NoFile)) ⊎ (HoldsTooLong told name × (x ≡ refusal name 0 TooLong))
+
+-- The tree of a specification: that of the text that its main file expands to, or that of a packed file.
+pub data Reads (told : Option Folder) : SpecFile → Result Tree Refusal → Type 0 where
+  of_text : {name : List ℕ} {r : Result Tree Refusal} → Then (Expands told) (Then Tokenizes Parses) name r → Reads told (TextFile name) r
+  of_packed : {name : List ℕ} {r : Result Tree Refusal} → Then (Fetches told) (Unpacks name) name r → Reads told (PackedFile name) r
 
 -- ---- 4: the tree to its tables, which are sound
 
@@ -105,32 +128,28 @@ problem_of_flaw flaw.Impossible = Impossible
 problem_of_flaw (flaw.TooManyCubes count) = TooManyCubes count
 problem_of_flaw (flaw.WindowTooLong count) = WindowTooLong count
 
--- the conflict of a table that isn't settled, whose constructors are told by their first tokens
-abbrev pub conflict_of : Tokens → Ambiguity → Conflict
-conflict_of k a = record { table = a.table; other = place_of_some k a.second; both = a.both; apart = a.apart }
+-- the conflict of a table that isn't settled, whose constructors are told by the indexes of their items
+abbrev pub conflict_of : Origin → Ambiguity → Conflict
+conflict_of o a = record { table = a.table; other = place_in o a.second; both = a.both; apart = a.apart }
 
--- why a specification is refused, at the place of a token, or at the text's end where there is none
-abbrev pub refusal_told : Tokens → outcome.Refusal → Refusal
-refusal_told k (flawed flaw token) = refusal_at (place_of_some k token) (problem_of_flaw flaw)
-refusal_told k (ambiguous a) = refusal_at (place_of_some k a.first) (Ambiguous (conflict_of k a))
+-- why a specification is refused, at the place of an item that is told by its index, or at the text's end where there is none
+abbrev pub refusal_told : Origin → outcome.Refusal → Refusal
+refusal_told o (flawed flaw index) = refusal_at (place_in o index) (problem_of_flaw flaw)
+refusal_told o (ambiguous a) = refusal_at (place_in o a.first) (Ambiguous (conflict_of o a))
 
 -- The specification that the tree is keeps all rules and its tables are sound, or this is why it is refused.
 abbrev pub Compiles : Stage Refusal Tree Compiled
 Compiles t (Ok c) = (c.tree ≡ t) × outcome.Compiles t.items (Ok c.tables)
-Compiles t (Err x) = (why : outcome.Refusal) × outcome.Compiles t.items (Err why) × (x ≡ refusal_told t.tokens (at_tokens (firsts t.items) why))
+Compiles t (Err x) = (why : outcome.Refusal) × outcome.Compiles t.items (Err why)
+    × (x ≡ refusal_told t.origin (at_tokens (indexes_in t.origin t.items) why))
 
--- ---- the name of a specification to its tables
+-- ---- the file of a specification to its tables
 
--- The sound specification whose main file has this name.
-abbrev pub Specifies : Option Folder → Stage Refusal (List ℕ) Compiled
+-- The sound specification of this file.
+abbrev pub Specifies : Option Folder → Stage Refusal SpecFile Compiled
 Specifies told = Then (Reads told) Compiles
 
 -- ---- 5: the image beside it
-
--- The file of this name has these bytes, which aren't too many for a file; or there is no such file.
-abbrev pub Fetches : Option Folder → Stage Refusal (List ℕ) (List ℕ)
-Fetches told name (Ok bytes) = FolderHas told name bytes × (length bytes ≤ size_limit)
-Fetches told name (Err x) = (Lacks told name × (x ≡ refusal name 0 NoFile)) ⊎ (HoldsTooLong told name × (x ≡ refusal name 0 TooLong))
 
 -- the image that the bytes of a file are, or that they spell as hexadecimal text
 abbrev pub image_in : Bool → List ℕ → Option (List ℕ)

@@ -1,31 +1,35 @@
 //! The fourth stage: the tables that stand for the tree, which are sound.
 
 ghost use Rattle.std.specs.Prelude.{◌≡◌, IfOk};
-ghost use Rattle.sl_ast.specs.Views.{items_of};
+ghost use Rattle.sl_ast.specs.Views.{indexes_of, items_of};
 ghost use Rattle.sl_faithful_accepted.specs.Laws.{IsShort};
 ghost use Rattle.sl_tool_stages.specs.Halts.{TellsRefusal};
-ghost use Rattle.sl_tool_stages.specs.Places.{place_of_some};
+ghost use Rattle.sl_tool_stages.specs.OriginView.{origin_view};
+ghost use Rattle.sl_tool_stages.specs.Places.{indexes_in, place_in};
 ghost use Rattle.sl_tool_stages.specs.Problems.{refusal_at};
 ghost use Rattle.sl_tool_stages.specs.Stages.{conflict_of, problem_of_flaw};
-ghost use Rattle.sl_tool_stages.specs.TokensView.{tokens_view};
 
 use crate::halt::Halt;
+use crate::origin::Origin;
 use crate::place::Name;
 use crate::problem::{Conflict, Problem};
 use crate::refusal::{Refusal, Subject};
-use crate::tokens::Tokens;
 use crate::tree::Tree;
 use sl_bind_compile::{Ambiguity, CompileError, Compiled as Specification, Flaw, compile};
+use sl_store_text::pack_text;
+use sl_store_write::pack_parts;
 use std::alloc::{AllocError, Global};
 
-/// A specification with its tables, which are sound, beside its tokens. It has no more tokens than
-/// a file has bytes.
+/// A specification with its tables, which are sound, and where its items are. It is short: it has
+/// no more than 2^32 tokens.
 #[derive(Drop)]
 pub struct Compiled<'s, 'r> {
-    /// The tokens, by which places are told.
-    pub tokens: Tokens<'s, 'r>,
+    /// Where the items are, by which places are told.
+    pub origin: Origin<'s, 'r>,
     /// The tree, its tables, the sizes of its sections, and the sets of its constructors.
     pub specification: Specification<'s>,
+    pub ghost indexes: { indexes_of specification.bound.spec
+        ≡ indexes_in (origin_view origin) (items_of specification.bound.spec) },
     pub ghost short: { IsShort (items_of specification.bound.spec) },
 }
 
@@ -45,17 +49,17 @@ fn problem_of(flaw: Flaw) -> Problem
     }
 }
 
-/// The refusal for a flaw of the item with this first token.
+/// The refusal for a flaw of the item with this index.
 fn flawed(
     alloc: Global,
-    tokens: &Tokens<'_, '_>,
+    origin: &Origin<'_, '_>,
     flaw: Flaw,
-    token: Option<usize>,
+    index: Option<usize>,
 ) -> Result<Refusal, AllocError>
     ensures { IfOk result (λ x. x
-        ≡ refusal_at (place_of_some (tokens_view tokens.now) token) (problem_of_flaw flaw)) }
+        ≡ refusal_at (place_in (origin_view origin.now) index) (problem_of_flaw flaw)) }
 {
-    let place = tokens.place_of(alloc, token)?;
+    let place = origin.place_of(alloc, index)?;
     let subject = Subject::Line(place);
     let problem = problem_of(flaw);
     Ok(Refusal { subject, problem })
@@ -64,12 +68,12 @@ fn flawed(
 /// The conflict of a table that isn't settled.
 fn conflict(
     alloc: Global,
-    tokens: &Tokens<'_, '_>,
+    origin: &Origin<'_, '_>,
     told: &Ambiguity<'_>,
 ) -> Result<Conflict, AllocError>
-    ensures { IfOk result (λ x. x ≡ conflict_of (tokens_view tokens.now) told.now) }
+    ensures { IfOk result (λ x. x ≡ conflict_of (origin_view origin.now) told.now) }
 {
-    let other = tokens.place_of(alloc, told.second)?;
+    let other = origin.place_of(alloc, told.second)?;
     let table = Name::of_bytes(alloc, told.table)?;
     Ok(Conflict {
         table,
@@ -82,29 +86,29 @@ fn conflict(
 /// The refusal for a table that isn't settled.
 fn ambiguous(
     alloc: Global,
-    tokens: &Tokens<'_, '_>,
+    origin: &Origin<'_, '_>,
     told: &Ambiguity<'_>,
 ) -> Result<Refusal, AllocError>
-    ensures { IfOk result (λ x. x ≡ refusal_at (place_of_some (tokens_view tokens.now)
-        told.now.first) (Problem.Ambiguous (conflict_of (tokens_view tokens.now) told.now))) }
+    ensures { IfOk result (λ x. x ≡ refusal_at (place_in (origin_view origin.now)
+        told.now.first) (Problem.Ambiguous (conflict_of (origin_view origin.now) told.now))) }
 {
-    let place = tokens.place_of(alloc, told.first)?;
-    let conflict = conflict(alloc, tokens, told)?;
+    let place = origin.place_of(alloc, told.first)?;
+    let conflict = conflict(alloc, origin, told)?;
     let subject = Subject::Line(place);
     let problem = Problem::Ambiguous(conflict);
     Ok(Refusal { subject, problem })
 }
 
 /// Why there are no sound tables, with places.
-fn refused(alloc: Global, tokens: &Tokens<'_, '_>, error: CompileError<'_>) -> Halt
-    ensures { TellsRefusal (tokens_view tokens.now) error.entry result }
+fn refused(alloc: Global, origin: &Origin<'_, '_>, error: CompileError<'_>) -> Halt
+    ensures { TellsRefusal (origin_view origin.now) error.entry result }
 {
     match error {
-        CompileError::Flaw { flaw, token } => match flawed(alloc, tokens, flaw, token) {
+        CompileError::Flaw { flaw, token } => match flawed(alloc, origin, flaw, token) {
             Ok(refusal) => Halt::Refused(refusal),
             Err(_) => Halt::NoMemory,
         },
-        CompileError::Ambiguous(told) => match ambiguous(alloc, tokens, &told) {
+        CompileError::Ambiguous(told) => match ambiguous(alloc, origin, &told) {
             Ok(refusal) => Halt::Refused(refusal),
             Err(_) => Halt::NoMemory,
         },
@@ -118,6 +122,10 @@ impl<'s, 'r> Compiled<'s, 'r> {
     ghost use Rattle.sl_tool_stages.specs.Outcomes.{Gives};
     ghost use Rattle.sl_tool_stages.specs.Stages.{Compiles};
     ghost use Rattle.sl_tool_stages.specs.StageViews.{compiled_view, tree_view};
+    ghost use Rattle.std.specs.Prelude.{◌≡◌};
+    ghost use Rattle.sl_store_write.specs.Packs.{IsFileOf};
+    ghost use Rattle.sl_tool_stages.specs.Packable.{IsPackable};
+    ghost use Rattle.sl_tool_stages.specs.Packing.{packed_form_of};
 
     /// The tables that stand for the tree, where it keeps all rules and they are sound. It is
     /// refused at the line of the item that has a flaw, at the text's end for a flaw of no item, or
@@ -125,14 +133,40 @@ impl<'s, 'r> Compiled<'s, 'r> {
     pub fn read(alloc: Global, tree: Tree<'s, 'r>) -> Result<Self, Halt>
         ensures gives { Gives (Compiles (tree_view tree.entry)) compiled_view result }
         ensures compiled { IfOk result (λ c. IsCompiled c.specification) }
+        ensures packable { IsPackable tree.entry.origin tree.entry.spec
+            → IfOk result (λ c. IsPackable c.origin c.specification.bound.spec) }
     {
-        let tokens = tree.tokens;
+        let origin = tree.origin;
         match compile(alloc, tree.spec) {
             Ok(specification) => Ok(Compiled {
-                tokens,
+                origin,
                 specification,
             }),
-            Err(error) => Err(refused(alloc, &tokens, error)),
+            Err(error) => Err(refused(alloc, &origin, error)),
+        }
+    }
+
+    /// The packed file of the specification.
+    pub fn packed(&self, alloc: Global) -> Result<Vec<u8>, AllocError>
+        requires { IsPackable self.now.origin self.now.specification.bound.spec }
+        ensures { IfOk result (λ file. IsFileOf (packed_form_of (compiled_view self.now).tree)
+            file.items) }
+    {
+        let spec = &self.specification.bound.spec;
+        match &self.origin {
+            Origin::InText(tokens) => {
+                let text = &tokens.source.expanded;
+                pack_text(alloc, text, tokens.tokens.as_slice(), spec)
+            }
+            Origin::Stored(stored) => {
+                let places = stored.places.as_slice();
+                pack_parts(
+                    alloc,
+                    stored.files.as_slice(),
+                    places,
+                    spec.items.as_slice(),
+                )
+            }
         }
     }
 }

@@ -22,12 +22,14 @@
 #![tactic(auto)]
 
 mod compiled;
-mod fetched;
+mod fetching;
 mod halt;
 mod image;
 mod lines;
 mod loaded;
+mod origin;
 mod place;
+mod places;
 mod problem;
 mod refusal;
 mod source;
@@ -35,11 +37,14 @@ mod tokens;
 mod tree;
 
 pub use compiled::Compiled;
+pub use fetching::fetched;
 pub use halt::Halt;
 pub use image::has_room;
-pub use lines::push_counted;
+pub use lines::{push_counted, push_place, push_point};
 pub use loaded::{Image, Loaded};
+pub use origin::{Origin, Stored};
 pub use place::{Name, Place};
+pub use places::Places;
 pub use problem::{Conflict, Problem};
 pub use refusal::{Refusal, Subject};
 pub use source::Source;

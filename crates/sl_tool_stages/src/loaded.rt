@@ -7,7 +7,7 @@ ghost use Rattle.sl_tool_stages.specs.Outcomes.{Gives};
 ghost use Rattle.sl_tool_stages.specs.Stages.{Starts, problem_of_word};
 
 use crate::compiled::Compiled;
-use crate::fetched::fetched;
+use crate::fetching::fetched;
 use crate::halt::Halt;
 use crate::image::prepared;
 use crate::problem::Problem;

@@ -72,6 +72,12 @@ pub enum Problem {
     WindowTooLong(u32),
     /// Two constructors of a table that isn't settled.
     Ambiguous(Conflict),
+    /// A packed file has not the mark at its front.
+    NotPacked,
+    /// A packed file ends too early.
+    Cut,
+    /// The first byte after which no packed file goes on, counted from 0.
+    Damaged(u64),
     /// An image is to be hexadecimal text, and spells no bytes.
     BadHex,
     /// No field of the context has this name.
@@ -139,6 +145,9 @@ pub fn push_words(out: &mut Vec<u8>, problem: &Problem) -> Result<(), AllocError
         Problem::TooManyCubes(count) => push_counted(out, b"too many cubes ", u64::from(*count)),
         Problem::WindowTooLong(count) => push_counted(out, b"window too long ", u64::from(*count)),
         Problem::Ambiguous(conflict) => push_conflict(out, conflict),
+        Problem::NotPacked => out.extend_from_slice(b"not packed"),
+        Problem::Cut => out.extend_from_slice(b"cut"),
+        Problem::Damaged(at) => push_counted(out, b"damaged at ", *at),
         Problem::BadHex => out.extend_from_slice(b"bad hex"),
         Problem::NoContextField => out.extend_from_slice(b"no such context field"),
         Problem::ValueOutOfRange => out.extend_from_slice(b"value out of range"),

@@ -11,7 +11,7 @@ use Rattle.clap.specs.declared.parser.matches.ValueSource.{ValueSource}
 use Rattle.clap.specs.declared.parser.matches.ValueSource.TheVariants.{CommandLine, DefaultValue}
 use Rattle.sl_tool_request.specs.Requests.{Arguments, arguments}
 use Rattle.sl_tool_request.specs.Words.{Form, Given, OptionRule, Part, Positional, are_once, dashes, first_part, flag_part, form_of, given_value, is_given, named, option_part, other, parts_from, plain, positionals, rule_named, setting_part, value_part, word_part}
-use Rattle.sl_tool_words.specs.Matches.{arguments_in, is_hex_in, words_in}
+use Rattle.sl_tool_words.specs.Matches.{arguments_in, is_given_in, words_in}
 use Rattle.sl_tool_words.proofs.Rules.{apart, are_apart, built_option, kind, option_by, rules}
 use Rattle.sl_tool_words.proofs.TextLemmas.{equal_text, same_text, turned_round}
 use Rattle.sl_tool_words.proofs.Walks.{gate, is_clean, part_fault, part_used, run_parts}
@@ -435,11 +435,12 @@ pub record ReadsWell (os : List OptionRule) : Type 0 where
   pub base_value : kind os (codes "base") ≡ Some false → ⊥
   pub steps_value : kind os (codes "steps") ≡ Some false → ⊥
   pub hex_flag : kind os (codes "hex") ≡ Some true → ⊥
+  pub packed_flag : kind os (codes "packed") ≡ Some true → ⊥
 
 -- what is given, from its parts
-pub arguments_made : {w1 w2 : List Text} {b1 b2 s1 s2 : Option Text} {h1 h2 : Bool} → w1 ≡ w2 → b1 ≡ b2 → s1 ≡ s2 → h1 ≡ h2
-    → ◌≡◌ {A = Arguments} (record { words = w1; base = b1; steps = s1; is_hex = h1 }) (record { words = w2; base = b2; steps = s2; is_hex = h2 })
-arguments_made w b s h = λ i. record { words = w i; base = b i; steps = s i; is_hex = h i }
+pub arguments_made : {w1 w2 : List Text} {b1 b2 s1 s2 : Option Text} {h1 h2 p1 p2 : Bool} → w1 ≡ w2 → b1 ≡ b2 → s1 ≡ s2 → h1 ≡ h2 → p1 ≡ p2
+    → ◌≡◌ {A = Arguments} (record { words = w1; base = b1; steps = s1; is_hex = h1; is_packed = p1 }) (record { words = w2; base = b2; steps = s2; is_hex = h2; is_packed = p2 })
+arguments_made w b s h p = λ i. record { words = w i; base = b i; steps = s i; is_hex = h i; is_packed = p i }
 
 module _ (os : List OptionRule) (well : ReadsWell os) (ps : List Part) (fit : AllFit os ps) (once : are_once ps ≡ true) where
   abbrev end : List Row
@@ -471,22 +472,23 @@ module _ (os : List OptionRule) (well : ReadsWell os) (ps : List Part) (fit : Al
       ∙ ap (option_and_then (λ vs. slice_get vs 0)) (past_words id ∙ defaults_keep id os (used_all ps []) flags ∙ option_at_end id ps [] else_id apart_parts good)
       ∙ value_read os id ps no_flag fit
 
-  hex_values : Defaulted (cond (is_given (codes "hex") ps) (Some (codes "true" ∷ [])) None) (all_of (codes "hex") end)
-  hex_values =
-      subst (λ o. Defaulted o (all_of (codes "hex") end)) (option_at_end (codes "hex") ps [] refl apart_parts good ∙ flag_read os (codes "hex") ps well.hex_flag fit)
-      (subst (Defaulted (all_of (codes "hex") (used_all ps []))) (sym (past_words (codes "hex"))) (defaults_may (codes "hex") os (used_all ps [])))
+  flag_values : (id : Text) → bytes_eq (codes "WORDS") id ≡ false → (kind os id ≡ Some true → ⊥) → Defaulted (cond (is_given id ps) (Some (codes "true" ∷ [])) None) (all_of id end)
+  flag_values id else_id no_value =
+      subst (λ o. Defaulted o (all_of id end)) (option_at_end id ps [] else_id apart_parts good ∙ flag_read os id ps no_value fit)
+      (subst (Defaulted (all_of id (used_all ps []))) (sym (past_words id)) (defaults_may id os (used_all ps [])))
 
-  hex_of : (g : Bool) (o : Option (List Text)) → Defaulted (cond g (Some (codes "true" ∷ [])) None) o
+  flag_of : (g : Bool) (o : Option (List Text)) → Defaulted (cond g (Some (codes "true" ∷ [])) None) o
       → option_map_or (λ text. bytes_eq text (codes "true")) (option_and_then (λ vs. slice_get vs 0) o) false ≡ g
-  hex_of true o (inl e) = ap (λ o. option_map_or (λ text. bytes_eq text (codes "true")) (option_and_then (λ vs. slice_get vs 0) o) false) e
-  hex_of false o (inl e) = ap (λ o. option_map_or (λ text. bytes_eq text (codes "true")) (option_and_then (λ vs. slice_get vs 0) o) false) e
-  hex_of true o (inr e) = absurd (cc (e.0))
-  hex_of false o (inr e) = ap (λ o. option_map_or (λ text. bytes_eq text (codes "true")) (option_and_then (λ vs. slice_get vs 0) o) false) e.1
+  flag_of true o (inl e) = ap (λ o. option_map_or (λ text. bytes_eq text (codes "true")) (option_and_then (λ vs. slice_get vs 0) o) false) e
+  flag_of false o (inl e) = ap (λ o. option_map_or (λ text. bytes_eq text (codes "true")) (option_and_then (λ vs. slice_get vs 0) o) false) e
+  flag_of true o (inr e) = absurd (cc (e.0))
+  flag_of false o (inr e) = ap (λ o. option_map_or (λ text. bytes_eq text (codes "true")) (option_and_then (λ vs. slice_get vs 0) o) false) e.1
 
-  hex_read : is_hex_in end ≡ is_given (codes "hex") ps
-  hex_read = ap (λ o. option_map_or (λ text. bytes_eq text (codes "true")) o false) (first_text (codes "hex") end) ∙ hex_of (is_given (codes "hex") ps) (all_of (codes "hex") end) hex_values
+  given_read : (id : Text) → bytes_eq (codes "WORDS") id ≡ false → (kind os id ≡ Some true → ⊥) → is_given_in id end ≡ is_given id ps
+  given_read id else_id no_value =
+      ap (λ o. option_map_or (λ text. bytes_eq text (codes "true")) o false) (first_text id end) ∙ flag_of (is_given id ps) (all_of id end) (flag_values id else_id no_value)
 
   pub rows_read : arguments_in end ≡ arguments ps
   rows_read =
       arguments_made words_read (option_read (codes "base") refl well.base well.base_value) (option_read (codes "steps") refl well.steps well.steps_value)
-      hex_read
+      (given_read (codes "hex") refl well.hex_flag) (given_read (codes "packed") refl well.packed_flag)

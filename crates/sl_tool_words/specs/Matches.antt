@@ -10,10 +10,10 @@ use Rattle.sl_tool_request.specs.Words.{Text}
 abbrev pub words_in : List Row → List Text
 words_in rows = unwrap_or (all_of (codes "WORDS") rows) []
 
--- Whether the image is hexadecimal text.
-abbrev pub is_hex_in : List Row → Bool
-is_hex_in rows =
-    option_map_or (λ text. bytes_eq text (codes "true")) (first_of (codes "hex") rows) false
+-- Whether the option of this name is given, which takes no value.
+abbrev pub is_given_in : Text → List Row → Bool
+is_given_in name rows =
+    option_map_or (λ text. bytes_eq text (codes "true")) (first_of name rows) false
 
 -- What the rows of a command's matches say.
 abbrev pub arguments_in : List Row → Arguments
@@ -21,7 +21,8 @@ arguments_in rows = record {
   words = words_in rows;
   base = first_of (codes "base") rows;
   steps = first_of (codes "steps") rows;
-  is_hex = is_hex_in rows;
+  is_hex = is_given_in (codes "hex") rows;
+  is_packed = is_given_in (codes "packed") rows;
 }
 
 -- What is asked by the subcommand that a parse entered, if it entered one.

@@ -4,7 +4,7 @@ ghost use Rattle.std.specs.Prelude.{◌≡◌, IfOk, map};
 ghost use Rattle.clap.specs.Matches.{found_of};
 ghost use Rattle.clap.specs.Walk.{rows_of};
 ghost use Rattle.sl_tool_request.specs.Views.{arguments};
-ghost use Rattle.sl_tool_words.specs.Matches.{arguments_in, is_hex_in, words_in};
+ghost use Rattle.sl_tool_words.specs.Matches.{arguments_in, is_given_in, words_in};
 
 use clap::ArgMatches;
 use sl_tool_request::Arguments;
@@ -24,11 +24,11 @@ fn words_of<'a>(alloc: Global, matches: &ArgMatches<'a>) -> Result<Vec<&'a str>,
     }
 }
 
-/// Whether `--hex` is given: its text is `true` then, and else `false`.
-fn is_hex(matches: &ArgMatches<'_>) -> bool
-    ensures { result ≡ is_hex_in (rows_of (found_of matches.now)) }
+/// Whether an option without a value is given: its text is `true` then, and else `false`.
+fn is_given(matches: &ArgMatches<'_>, name: &str) -> bool
+    ensures { result ≡ is_given_in name.now (rows_of (found_of matches.now)) }
 {
-    match matches.get_str("hex") {
+    match matches.get_str(name) {
         Some(text) => text == "true",
         None => false,
     }
@@ -46,6 +46,7 @@ pub fn arguments_of<'a>(
         words,
         base: matches.get_str("base"),
         steps: matches.get_str("steps"),
-        is_hex: is_hex(matches),
+        is_hex: is_given(matches, "hex"),
+        is_packed: is_given(matches, "packed"),
     })
 }

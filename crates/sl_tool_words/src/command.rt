@@ -5,7 +5,7 @@ ghost use Rattle.clap.specs.Simple.{app_of, shape_of};
 ghost use Rattle.clap.specs.Walk.{rule_of};
 ghost use Rattle.clap.specs.declared.builder.command.Command.TheViews.{out-Command as fields_of};
 ghost use Rattle.sl_tool_words.specs.Layout.{app, leaf, long_rule, words_rule};
-ghost use Rattle.sl_tool_request.specs.Requests.{run_options, target_options};
+ghost use Rattle.sl_tool_request.specs.Requests.{run_options, spec_options, target_options};
 
 use clap::{Arg, ArgAction, Command};
 use std::alloc::{AllocError, Global};
@@ -35,12 +35,21 @@ fn bare<'a>(alloc: Global, name: &'a str) -> Result<Command<'a>, AllocError>
     Ok(command)
 }
 
+/// A command over a specification.
+fn over_spec<'a>(alloc: Global, name: &'a str) -> Result<Command<'a>, AllocError>
+    ensures shape { IfOk result (λ c. shape_of c ≡ leaf name.entry.now spec_options) }
+    ensures local { IfOk result (λ c. (fields_of c).has_globals ≡ false) }
+{
+    let command = bare(alloc, name)?.arg(option(alloc, "packed", ArgAction::SetTrue))?;
+    Ok(command)
+}
+
 /// A command over an image.
 fn over_image<'a>(alloc: Global, name: &'a str) -> Result<Command<'a>, AllocError>
     ensures shape { IfOk result (λ c. shape_of c ≡ leaf name.entry.now target_options) }
     ensures local { IfOk result (λ c. (fields_of c).has_globals ≡ false) }
 {
-    let command = bare(alloc, name)?
+    let command = over_spec(alloc, name)?
         .arg(option(alloc, "base", ArgAction::Set))?
         .arg(option(alloc, "hex", ArgAction::SetTrue))?;
     Ok(command)
@@ -62,10 +71,12 @@ pub fn sleigh<'a>(alloc: Global) -> Result<Command<'a>, AllocError>
     let command = Command::new(alloc, "sleigh")
         .disable_help_flag(true)
         .disable_help_subcommand(true)
-        .subcommand(bare(alloc, "check")?)?
+        .subcommand(over_spec(alloc, "check")?)?
         .subcommand(over_image(alloc, "list")?)?
         .subcommand(over_image(alloc, "pcode")?)?
         .subcommand(runner(alloc, "run")?)?
-        .subcommand(bare(alloc, "gen")?)?;
+        .subcommand(bare(alloc, "gen")?)?
+        .subcommand(over_spec(alloc, "gaps")?)?
+        .subcommand(bare(alloc, "pack")?)?;
     Ok(command)
 }

@@ -27,10 +27,10 @@ struct Row {
     count: u64,
 }
 
-const USAGE: &str =
-    "usage: sleigh check SPEC | list SPEC IMAGE | pcode SPEC IMAGE | run SPEC IMAGE | gen NUMBER\n";
+const USAGE: &str = "usage: sleigh check SPEC | list SPEC IMAGE | pcode SPEC IMAGE \
+    | run SPEC IMAGE | gen NUMBER | gaps SPEC | pack SPEC\n";
 
-static ROWS: [Row; 10] = [
+static ROWS: [Row; 11] = [
     Row {
         words: &[],
         image: b"",
@@ -97,6 +97,13 @@ static ROWS: [Row; 10] = [
         status: Status::Stopped,
         text: "steps 1\ncounter 0001\nA 00\nB 00\nC 00\nD 01\nfault no constructor\n",
         count: 1,
+    },
+    Row {
+        words: &["sleigh", "gaps", "s"],
+        image: b"",
+        status: Status::Done,
+        text: "instruction: gap 00000000000000000000000000000000 0000000000000000\nnot sure\n",
+        count: 0,
     },
     // Two sums an instruction.
     Row {

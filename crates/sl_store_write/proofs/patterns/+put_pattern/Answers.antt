@@ -1,7 +1,7 @@
 use Rattle.std.proofs.Common.{◌∷◌, []}
 use Rattle.sl_ast.specs.Views.{expression_of, pattern_of}
 use Rattle.sl_store_format.specs.Expressions.{write_expression}
-use Rattle.sl_store_format.specs.Patterns.{write_pattern}
+use Rattle.sl_store_format.specs.PatternBytes.{write_pattern}
 use Rattle.sl_store_bytes.specs.Lexemes.{write_bytes}
 use Rattle.sl_store_bytes.specs.Orders.{relation_code}
 use Rattle.sl_store_write.proofs.Levels.{level_bare, level_constraint, level_group, level_ellipsis, level_joined}

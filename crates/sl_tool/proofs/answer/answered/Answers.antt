@@ -12,3 +12,6 @@ returns-in-Generate-clause-unrun g c = λ still. let runs : ⊥ = subst (λ (q :
 
 pub returns-in-Check-clause-reads : goal.returns-in-Check-clause-reads
 returns-in-Check-clause-reads g c = λ fails. subst (λ (q : Request). ReadsFiles (Some (request q))) (sym c.in-Check.is) tt
+
+pub returns-in-Show-clause-reads : goal.returns-in-Show-clause-reads
+returns-in-Show-clause-reads g c = λ fails. subst (λ (q : Request). ReadsFiles (Some (request q))) (sym c.in-Show.is) tt

@@ -1,9 +1,10 @@
-use Rattle.std.proofs.Common.{ℕ, List, Some, None, Option, inl, map, ap, refl, sym, subst, ◌∙◌}
+use Rattle.std.proofs.Common.{◌≡◌, ℕ, List, Some, None, Option, inl, map, ap, refl, sym, subst, ◌∙◌}
 use Rattle.std.proofs.KnownBytes.{Appends-nil}
 use Rattle.std.specs.Prelude.{string_bytes}
 use Rattle.std.specs.Option.{option_map}
 use Rattle.sl_tool.specs.Answers.{Answers, AsksFor, UsesFilesFor}
 use Rattle.sl_tool.specs.Ends.{Ends, Means, ReadsFiles, RunsFor, RunsNothing}
+use Rattle.sl_tool.specs.Endings.{ended}
 use Rattle.sl_tool.specs.Ends.Means.{usage, answer}
 use Rattle.sl_tool.specs.Growth.{Grew}
 use Rattle.sl_tool.specs.Request.{Request, request_of}
@@ -15,7 +16,7 @@ use Rattle.sl_tool_stages.specs.Problems.{refusal_text}
 use Rattle.sl_tool_stages.specs.declared.halt.Halt.{Halt}
 use Rattle.sl_tool_stages.specs.declared.halt.Halt.TheVariants as halt
 use Rattle.sl_tool.proofs.AnsweredLemmas.{grew_none}
-use Rattle.sl_tool.proofs.EndLemmas.{ends_ended, ends_fault, ends_memory, ends_written, refused_uses, unread, unused, writes_at, written_after, written_reads}
+use Rattle.sl_tool.proofs.EndLemmas.{ended_whole, ends_ended, ends_fault, ends_memory, ends_written, refused_uses, unread, unused, whole_not, writes_at, written_after, written_reads}
 use Rattle.sl_tool.proofs.tool.run_tool.Goals as goal
 
 -- ---- memory ran out before the words were read
@@ -75,6 +76,17 @@ returns-in-Err-Refused-clause-ends g c =
     subst (λ (o : Option Request). Ends told o old new grew c.refused.result) (sym asked)
     (ends_written told (Some r) old new grew (refusal_text x) Refused c.refused.result tt means w.2
     (written_after old mid new (refusal_text x) Refused c.refused.result w.1 c.refused.ensures.whole))
+
+pub returns-in-Ok-answered-clause-files : goal.returns-in-Ok-answered-clause-files
+returns-in-Ok-answered-clause-files g c =
+    let files = c.args.files.now in
+    let after = c.answered.new.files in
+    let r = request c.in-Some.request in
+    let ending = c.in-Ok-answered.ending in
+    let asked = sym c.in-Ok.ensures ∙ ap (option_map request) c.in-Some.is in
+    let never = λ (e : c.ended.result ≡ ReadFault). whole_not (ended ending) ReadFault (ended_whole ending) (λ n. n) (sym c.ended.ensures ∙ e) in
+    subst (λ (o : Option Request). RunsFor g.F.Files.told g.F.Files.faults g.F.Files.asked o files after c.ended.result) (sym asked)
+    (refused_uses g.F.Files.told g.F.Files.faults g.F.Files.asked files after r c.ended.result never c.in-Ok-answered.ensures.files)
 
 pub returns-in-Err-Refused-clause-files : goal.returns-in-Err-Refused-clause-files
 returns-in-Err-Refused-clause-files g c =

@@ -1,0 +1,4 @@
+pub mod PackedForm
+pub mod Parsed
+pub mod Firsts
+pub mod Lines

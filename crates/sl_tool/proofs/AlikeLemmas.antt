@@ -1,0 +1,101 @@
+-- A packed specification is answered as the specification itself.
+use Rattle.std.proofs.Common.{◌≡◌, ℕ, ◌≤◌, List, length, Option, Some, Result, Ok, Err, refl, sym, ap, subst}
+use Rattle.sl_ast.specs.Trees.{Item}
+use Rattle.sl_outside.specs.Folder.{Folder, size_limit}
+use Rattle.sl_spec.specs.declared.tables.Tables as spec
+use Rattle.sl_list_instructions.specs.Listing.{Image}
+use Rattle.sl_store_format.specs.Packed.{Packed}
+use Rattle.sl_store_write.specs.Packs.{IsFileOf}
+use Rattle.sl_tool_request.specs.Requests.{PackedFile, SpecFile, Target, TextFile}
+use Rattle.sl_tool.specs.Answers.{Answers, Follows, Shows, counts_of, shows_of}
+use Rattle.sl_tool.specs.Endings.{Shown}
+use Rattle.sl_tool.specs.Laws.{PackedIsAlike, over}
+use Rattle.sl_tool.specs.Request.{CheckSpec, Generate, PackSpec, ReportGaps, Request, Show, ShowImage, Listing, Operations, Run}
+use Rattle.sl_tool_stages.specs.Packing.{packed_form_of}
+use Rattle.sl_tool_stages.specs.Stage.{HasOneResult, Stage, Then}
+use Rattle.sl_tool_stages.specs.Stage.Then.{goes, stops}
+use Rattle.sl_tool_stages.specs.Stages.{Loads, Specifies}
+use Rattle.sl_tool_stages.specs.Stages.Reads.{of_packed}
+use Rattle.sl_tool_stages.specs.Values.{Compiled, Loaded, Origin, InText, Stored, Tree, compiled, loaded, tree}
+use Rattle.sl_tool_stages.specs.declared.refusal.Refusal.{Refusal}
+use Rattle.sl_tool_stages.proofs.ReadLemmas.{specified}
+use Rattle.sl_tool_stages.proofs.StageLemmas.{specifies_one}
+use Rattle.sl_tool_stages.proofs.Thens.{not_both, ok_is}
+
+-- from two values that the first stage takes to values of which the second makes the same
+alike_then : {E A B C : Type 0} (S : Stage E A B) (T U : Stage E B C) (a b : A) (c d : B) → HasOneResult S → S a (Ok c) → S b (Ok d)
+    → ((x : Result C E) → T c x → U d x) → (x : Result C E) → Then S T a x → Then S U b x
+alike_then S T U a b c d one h k f x (stops {e = e} j) = absurd (not_both e c (one a _ _ j h))
+alike_then {E = E} {B = B} S T U a b c d one h k f x (goes {b = y} j t) = goes k (f x (subst (λ (z : B). T z x) (ok_is E y c (one a _ _ j h)) t))
+
+-- ---- where items are doesn't matter once the tables are there
+
+module _ (o q : Origin) (items : List Item) (b : spec.Tables) where
+  counts_same : (x : Result Shown Refusal) → Shows counts_of (compiled (tree o items) b) x → Shows counts_of (compiled (tree q items) b) x
+  counts_same (Ok s) h = h
+  counts_same (Err x) h = h
+
+  shows_same : (what : Show) (image : Image) (x : Result Shown Refusal) → Shows (shows_of what) (loaded (compiled (tree o items) b) image) x
+      → Shows (shows_of what) (loaded (compiled (tree q items) b) image) x
+  shows_same what image (Err x) h = h
+  shows_same Listing image (Ok s) h = h
+  shows_same Operations image (Ok s) h =
+      record { ending = h.ending; text = record { sizes = h.text.sizes; bound = h.text.bound; lists = h.text.lists }; ran = h.ran }
+  shows_same (Run steps) image (Ok s) h = record { sizes = h.sizes; bound = h.bound; stopped = h.stopped; ending = h.ending; runs = h.runs }
+
+  image_same : (told : Option Folder) (t : Target) (f g : SpecFile) (what : Show) (x : Result Shown Refusal)
+      → Then (Loads told (record t { spec = f })) (Shows (shows_of what)) (compiled (tree o items) b) x
+      → Then (Loads told (record t { spec = g })) (Shows (shows_of what)) (compiled (tree q items) b) x
+  image_same told t f g what x (stops j) = stops j
+  image_same told t f g what x (goes {b = l} j k) =
+      goes {b = loaded (compiled (tree q items) b) l.image} (refl, j.1)
+      (shows_same what l.image x (subst (λ (c : Compiled). Shows (shows_of what) (loaded c l.image) x) j.0 k))
+
+-- ---- the file of a specification
+
+form_items : (t : Tree) → (packed_form_of t).items ≡ t.items
+form_items t = by_origin t.origin
+  where
+    by_origin : (o : Origin) → (packed_form_of (tree o t.items)).items ≡ t.items
+    by_origin (InText k) = refl
+    by_origin (Stored files places) = refl
+
+module _ (folder : Folder) (main name bytes : List ℕ) (c : Compiled) (sound : Specifies (Some folder) (TextFile main) (Ok c))
+    (file : IsFileOf (packed_form_of c.tree) bytes) (small : length bytes ≤ size_limit) (there : folder name ≡ Some bytes) where
+  abbrev form : Packed
+  form = packed_form_of c.tree
+
+  abbrev opened_spec : Compiled
+  opened_spec = compiled (tree (Stored form.files form.places) c.tree.items) c.tables
+
+  opens : Specifies (Some folder) (PackedFile name) (Ok opened_spec)
+  opens =
+      let is : tree (Stored form.files form.places) c.tree.items ≡ tree (Stored form.files form.places) form.items =
+      ap (λ (xs : List Item). tree (Stored form.files form.places) xs) (sym (form_items c.tree)) in
+      goes {b = opened_spec.tree} (of_packed (goes (there, small) (form, file, is))) (refl, (specified (Some folder) (TextFile main) c sound).compiles)
+
+  forth : (r : Request) (x : Result Shown Refusal) → Answers (Some folder) (over (TextFile main) r) x → Answers (Some folder) (over (PackedFile name) r) x
+  forth (CheckSpec spec) x h =
+      alike_then (Specifies (Some folder)) (Shows counts_of) (Shows counts_of) _ _ c opened_spec (specifies_one folder) sound opens
+      (counts_same c.tree.origin (Stored form.files form.places) c.tree.items c.tables) x h
+  forth (ShowImage t what) x h =
+      alike_then (Specifies (Some folder)) _ _ _ _ c opened_spec (specifies_one folder) sound opens
+      (image_same c.tree.origin (Stored form.files form.places) c.tree.items c.tables (Some folder) t (TextFile main) (PackedFile name) what) x h
+  forth (ReportGaps spec) x h = h
+  forth (Generate size) x h = h
+  forth (PackSpec spec) x h = h
+
+  back : (r : Request) (x : Result Shown Refusal) → Answers (Some folder) (over (PackedFile name) r) x → Answers (Some folder) (over (TextFile main) r) x
+  back (CheckSpec spec) x h =
+      alike_then (Specifies (Some folder)) (Shows counts_of) (Shows counts_of) _ _ opened_spec c (specifies_one folder) opens sound
+      (counts_same (Stored form.files form.places) c.tree.origin c.tree.items c.tables) x h
+  back (ShowImage t what) x h =
+      alike_then (Specifies (Some folder)) _ _ _ _ opened_spec c (specifies_one folder) opens sound
+      (image_same (Stored form.files form.places) c.tree.origin c.tree.items c.tables (Some folder) t (PackedFile name) (TextFile main) what) x h
+  back (ReportGaps spec) x h = h
+  back (Generate size) x h = h
+  back (PackSpec spec) x h = h
+
+pub packed_alike : PackedIsAlike
+packed_alike folder main name bytes c r sound file small there x =
+    (forth folder main name bytes c sound file small there r x, back folder main name bytes c sound file small there r x)
