@@ -244,10 +244,27 @@ class Comparison:
         if len(commands) < 2:
             print("%s: README.md has no listing and run" % self.name)
             good = False
+        good = self.shows_gaps(readme) and good
         if self.with_runs and shown(readme, "processors/compare --reasons " + self.name) != self.told:
             print("%s: README.md doesn't show what `processors/compare --reasons %s` prints" % (self.name, self.name))
             good = False
         return good
+
+    def shows_gaps(self, readme):
+        """Whether the README has the command `gaps` of each description, with each line that it prints, but for tables that are complete."""
+        good = True
+        for spec in self.specs():
+            words = "gaps processors/%s/%s" % (self.name, spec)
+            told = [[line for line in lines or [] if line != "..." and not line.endswith(": complete")]
+                    for lines in (shown(readme, "./sleigh " + words), self.tool(words.split(), TOP)[1])]
+            if told[0] != told[1] or not told[0]:
+                print("%s: README.md doesn't show each gap, shadowed constructor and hole of %s" % (self.name, spec))
+                good = False
+        return good
+
+    def specs(self):
+        """The descriptions of the folder."""
+        return sorted(n for n in os.listdir(self.here) if n.endswith(".slaspec"))
 
     def end(self):
         """Prints the lines of counts; the status."""
@@ -261,10 +278,17 @@ class Comparison:
         for line in counts:
             self.told.append(line)
             print(line)
-        status, out = self.tool(["check", self.name + ".slaspec"])
-        if status != 0:
-            print("%s: status %d of check: %s" % (self.name, status, out))
-        return 0 if self.page() and self.good and status == 0 and self.differ == 0 and self.total > 0 else 1
+        return 0 if self.checked() and self.page() and self.good and self.differ == 0 and self.total > 0 else 1
+
+    def checked(self):
+        """Whether `check` says ok of each description of the folder."""
+        good = True
+        for spec in self.specs():
+            status, out = self.tool(["check", spec])
+            if status != 0:
+                print("%s: status %d of check %s: %s" % (self.name, status, spec, out))
+                good = False
+        return good
 
 
 def paired(ours, real):

@@ -1,6 +1,6 @@
 """compare.py PROGRAM [--no-run] [--reasons]: lists the image with PROGRAM and compares each line with what GNU objdump printed for i8086,
-which shows floating point and later instructions too, then runs the programs and compares with what unicorn, or libx86emu, ended with: the counter,
-the registers, the flags, the bytes of memory that changed and the ports. Ends with 0 exactly if all lines agree or are excepted for a reason
+which shows floating point and later instructions too, then runs the programs as the 8086 and as the 80186, and compares with what unicorn, or libx86emu,
+ended with: the counter, the registers, the flags, the bytes of memory that changed and the ports. Ends with 0 exactly if all lines agree or are excepted for a reason
 named here, and all runs agree."""
 import os
 import re
@@ -103,20 +103,27 @@ def main():
     c = Comparison(__file__)
     for name in ("codes", "random"):
         c.lines(name, name, 0, c.listing("i8086.slaspec", name), c.expected(name), judge)
-    runs = [(name, "unicorn", real) for name, real in c.ended("programs").items()]
-    runs += [(name, "libx86emu", real) for name, real in c.ended("interrupts").items()]
-    for name, by, real in runs if c.with_runs else []:
-        steps = int(real[0].split(" ")[1]) if by == "unicorn" else 28681
-        status, out = c.run("i8086.slaspec", name, steps)
+    # a count of CL above 31, a word at offset ffff and the least quotient of idiv are where the two differ
+    runs = [("80186", name, "unicorn", real) for name, real in c.ended("programs").items()]
+    runs += [("80186", name, "libx86emu", real) for name, real in c.ended("interrupts").items() if name != "thrown"]
+    runs += [("8086", name, "unicorn", real) for name, real in c.ended("programs").items() if name not in ("flags", "stream", "words", "least")]
+    runs += [("8086", name, "unicorn, mirrored segments", real) for name, real in c.ended("mirrored").items()]
+    runs += [("8086", name, "libx86emu", real) for name, real in c.ended("interrupts").items() if name != "least"]
+    runs += [("8086", name, "unicorn", real) for name, real in c.ended("ones").items()]
+    runs += [(processor, name, "unicorn, mirrored memory", real) for processor in ("80186", "8086") for name, real in c.ended("round").items()]
+    for processor, name, by, real in runs if c.with_runs else []:
+        # the emulator was given another program, which says in other words what the 8086 does in this one
+        ours = {"ones": "counts", "thrown": "least"}.get(name, name)
+        status, out = c.run("i%s.slaspec" % processor, ours, number(real[0].split(" ")[1]))
         found = dict(line.split(" ", 1) for line in out)
         lines = ["%s %s" % (line.split(" ")[0], found.get(line.split(" ")[0])) for line in real if not line.startswith(("ram[", "io["))]
         # what `interrupts` leaves on the stack has bits of the flags that are 1 here and 0 in libx86emu
-        memory = [line for line in out if line.startswith("ram[") and (by == "unicorn" or line < "ram[030000]")]
+        memory = [line for line in out if line.startswith("ram[") and (by != "libx86emu" or line < "ram[030000]")]
         memory += [line for line in out if line.startswith("io[")]
         wrong = paired(lines + memory, real)
         if status != 0 or len(real) < 1000:
             wrong.append(("status %d" % status, "status 0"))
-        c.ran(name, by, steps, wrong)
+        c.ran("%s (%s)" % (ours if ours == name else "%s as %s" % (ours, name), processor), by, number(real[0].split(" ")[1]), wrong)
     return c.end()
 
 

@@ -19,9 +19,6 @@ CLEAR = "objdump shows `clear` as a move of the register zero"
 UNFILLED = "pairs: a branch before a word that is no instruction, one beyond the described ones, or a branch or eret"
 ERET = 0x42000018
 BASE = 0x10000                                  # of the streams
-# Each runs until it comes to the branch to itself at its end: there the counter has to be.
-STEPS = {"mips32": {"stream1": 6457, "stream2": 6530, "stream3": 6539, "stream4": 6641},
-         "mips32_pairs": {"slots1": 6440, "slots2": 6460, "slots3": 6370, "slots4": 6289, "stream1": 6209, "stream2": 6270, "stream3": 6301, "stream4": 6386}}
 FOREIGN = re.compile(r"(.*\.[sdw](\.|$)|bc1|[sl][wd]c[123]$|[mc][ft]c[1234]$|c[0123]$|bc[0123]|m[ft]c2|jalx|movf$|movt$"
                      r"|[ls][wd]xc1|pref?x|sdbbp|deret)")
 # What pairs.s ends with: qemu-mips knows no run of given steps, so this is worked out by hand from the source.
@@ -85,8 +82,10 @@ def pairs(c, name, single):
 
 
 def stream(c, name, spec, real):
-    """A run until the branch to itself at the end, and all memory behind it."""
-    steps = STEPS[spec][name]
+    """A run until the branch to itself at the end, and all memory behind it. The steps are those that the emulator took, as the
+    description counts them."""
+    steps = next(number(line.split(" ")[2]) for line in real if line.startswith("steps %s " % spec))
+    real = [line for line in real if not line.startswith("steps ")]
     status, out = c.run(spec + ".slaspec", name, steps, BASE)
     found = dict(line.split(" ", 1) for line in out)
     ours = ["%s %s" % (r.split(" ")[0], found.get(r.split(" ")[0])) for r in real if not r.startswith("ram[")]

@@ -1,4 +1,5 @@
-/* x86run IMAGE LAST: runs the image on libx86emu from 0000:0000 until the jump to itself at LAST, and prints what compare.py compares. */
+/* x86run IMAGE LAST: runs the image on libx86emu from 0000:0000 until the jump to itself at LAST, which R_TSC counts once, and prints
+   what compare.py compares. */
 #include <stdio.h>
 #include <stdlib.h>
 #include <x86emu.h>
@@ -20,7 +21,7 @@ int main(int argc, char **argv) {
   x86emu_run(emu, X86EMU_RUN_LOOP | X86EMU_RUN_MAX_INSTR);
   unsigned at = emu->x86.R_CS * 16 + emu->x86.R_IP;
   if (at != last) return 1;
-  printf("counter %06x\n", at);
+  printf("steps %llu\ncounter %06x\n", (unsigned long long) emu->x86.R_TSC - 1, at);
   printf("AX %04x\nCX %04x\nDX %04x\nBX %04x\nSP %04x\nBP %04x\nSI %04x\nDI %04x\n", emu->x86.R_AX, emu->x86.R_CX, emu->x86.R_DX,
          emu->x86.R_BX, emu->x86.R_SP, emu->x86.R_BP, emu->x86.R_SI, emu->x86.R_DI);
   printf("ES %04x\nCS %04x\nSS %04x\nDS %04x\n", emu->x86.R_ES, emu->x86.R_CS, emu->x86.R_SS, emu->x86.R_DS);
