@@ -5,14 +5,17 @@ use std::test::Fail;
 
 /// What is printed of a request of each kind.
 static ASKED: [(&[&str], &str); 4] = [
-    (&["sleigh", "check", "--", "-s"], "Some(Check(\"-s\"))"),
+    (
+        &["sleigh", "check", "--", "-s"],
+        "Some(Check(Text(\"-s\")))",
+    ),
     (
         &["sleigh", "pcode", "s", "i", "a=1", "--hex"],
-        "Some(Pcode(Target { spec: \"s\", image: \"i\", base: 0, is_hex: true, context: [FieldValue { field: \"a\", value: 1 }] }))",
+        "Some(Pcode(Target { spec: Text(\"s\"), image: \"i\", base: 0, is_hex: true, context: [FieldValue { field: \"a\", value: 1 }] }))",
     ),
     (
         &["sleigh", "run", "--steps", "0", "--base=0xAb", "s", "i"],
-        "Some(Run(Target { spec: \"s\", image: \"i\", base: 171, is_hex: false, context: [] }, 0))",
+        "Some(Run(Target { spec: Text(\"s\"), image: \"i\", base: 171, is_hex: false, context: [] }, 0))",
     ),
     (&["sleigh", "list", "s"], "None"),
 ];
