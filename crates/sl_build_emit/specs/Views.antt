@@ -3,10 +3,11 @@ use Rattle.std.specs.Prelude.{ℕ, ℤ, pos, negsuc, Bool, is_some, List, Vec, O
 use Rattle.std.specs.Prelude.{◌+◌, [], ◌∷◌, if◌then◌else◌}
 use Rattle.std.specs.List.{list_any}
 use Rattle.std.specs.declared.alloc.Global.{Global}
+use Rattle.sl_faithful_code.specs.Bits.{bits_put}
 use Rattle.sl_faithful_code.specs.Operations.{Operation, operation_of}
-use Rattle.sl_faithful_code.specs.Statements.{bits_put, memory_put}
-use Rattle.sl_build_emit.specs.declared.bits.Bits.{Bits}
+use Rattle.sl_faithful_code.specs.Statements.{memory_put}
 use Rattle.sl_build_emit.specs.declared.bits.Memory.{Memory}
+use Rattle.sl_build_emit.specs.declared.insert.Bits.{Bits}
 use Rattle.sl_build_emit.specs.declared.reference.Number.{Number}
 use Rattle.sl_build_emit.specs.declared.reference.Number.TheVariants as n
 use Rattle.sl_build_emit.specs.declared.reference.Reference.{Reference, fold-Reference}
@@ -67,9 +68,9 @@ lists_of lists = map (λ v. operations_of v.items) lists
 abbrev pub put_into : (top t : ℕ) → Memory → Varnode → List Operation
 put_into top t at v = memory_put top t at.space.0 (reference_of at.pointer.now) at.width v
 
--- a value with other bits is put into a varnode, by the temporary values 2 and 3
-abbrev pub with_bits : (top : ℕ) → Bits → Varnode → List Operation
-with_bits top b to = bits_put top 2 b.size b.old b.new b.span.low b.span.count to
+-- a value with other bits is put into a varnode
+abbrev pub inserted : (top t : ℕ) → Bits → Varnode → List Operation
+inserted top t b to = bits_put top t b.size b.old b.new b.below b.span.low b.span.count to
 
 -- the label that a statement jumps to
 abbrev pub jumps_to : t.Tail → Option s.Label

@@ -1,23 +1,23 @@
 //! Values that are put into memory, and into bits.
 
-ghost use Rattle.std.specs.Prelude.{◌≡◌, ◌++◌, ◌∷◌, [], OnOk};
+ghost use Rattle.std.specs.Prelude.{◌≡◌, ◌++◌, false, OnOk};
 ghost use Rattle.sl_faithful_code.specs.Operations as o;
 ghost use Rattle.sl_faithful_code.specs.Statements as step;
-ghost use Rattle.sl_build_emit.specs.Views.{put_into, reference_of, references_of, with_bits};
+ghost use Rattle.sl_build_emit.specs.Views.{inserted, put_into, reference_of, references_of};
 ghost use Rattle.sl_meaning_sections.specs.References as reference;
 ghost use Rattle.sl_meaning_sections.specs.Values as meaning;
 ghost use Rattle.sl_build_template.specs.Placed as p;
-ghost use Rattle.sl_word.specs.declared.operation.Op2.TheVariants.{IntLeft, IntRight};
 
+use crate::insert::{Bits, insert};
 use crate::operations::Operations;
 use crate::reading::read_operand;
 use crate::reference::Reference;
 use crate::site::Site;
 use crate::varnodes::{at_temp, local};
-use sl_build_template::{above, all_but, amount, in_space, sized};
+use sl_build_template::{in_space, sized};
 use sl_pcode::Varnode;
 use sl_section_flat::Span;
-use sl_word::{Op1, Op2, Size, SpaceId};
+use sl_word::{Size, SpaceId};
 use std::alloc::AllocError;
 
 /// Memory at a pointer, which is read at `width`.
@@ -42,53 +42,6 @@ pub(crate) fn memory_put(
     out.store(at.space, pointer, v)
 }
 
-/// Bits of a value of `size` bytes, `old`, which get another value, `new`.
-#[derive(Clone, Copy)]
-struct Bits {
-    size: Size,
-    old: Varnode,
-    new: Varnode,
-    span: Span,
-}
-
-/// A value is moved up, and down again.
-fn moved(
-    out: &mut Operations,
-    to: Varnode,
-    from: Varnode,
-    up: Varnode,
-    down: Varnode,
-) -> Result<(), AllocError>
-    ensures { OnOk result (out.new ≡ out.old
-        ++ (o.binary IntLeft to from up ∷ o.binary IntRight to to down ∷ [])) }
-{
-    out.binary(Op2::IntLeft, to, from, up)?;
-    out.binary(Op2::IntRight, to, to, down)
-}
-
-/// The value with the new bits in their place. The temporary values 2 and 3 hold the new bits and
-/// the old ones.
-fn bits_put(
-    site: &Site<'_>,
-    out: &mut Operations,
-    bits: Bits,
-    to: Varnode,
-) -> Result<(), AllocError>
-    ensures { OnOk result (out.new ≡ out.old ++ with_bits site.now.top bits to) }
-{
-    let count = u64::from(bits.span.count);
-    let new = at_temp(site, 2, bits.size);
-    let field = at_temp(site, 3, bits.size);
-    let high = amount(above(bits.size, bits.span.low, count));
-    let rest = amount(all_but(bits.size, count));
-    out.unary(Op1::IntZext, new, bits.new)?;
-    moved(out, new, new, rest, high)?;
-    moved(out, field, bits.old, high, rest)?;
-    out.binary(Op2::IntLeft, field, field, amount(bits.span.low))?;
-    out.binary(Op2::IntSub, field, bits.old, field)?;
-    out.binary(Op2::IntAdd, to, field, new)
-}
-
 /// Bits are put into a local of a node.
 fn local_bits(
     site: &Site<'_>,
@@ -98,10 +51,10 @@ fn local_bits(
     bits: Bits,
 ) -> Result<(), AllocError>
     ensures { OnOk result (out.new ≡ out.old
-        ++ with_bits site.now.top bits (o.temporary (o.range_of node x) bits.size)) }
+        ++ inserted site.now.top 2 bits (o.temporary (o.range_of node x) bits.size)) }
 {
     let to = local(node, x, bits.size);
-    bits_put(site, out, bits, to)
+    insert(site, out, 2, bits, to)
 }
 
 /// Bits are put into memory.
@@ -112,11 +65,11 @@ fn memory_bits(
     bits: Bits,
 ) -> Result<(), AllocError>
     ensures { OnOk result (out.new ≡ out.old
-        ++ (with_bits site.now.top bits (o.at_temp site.now.top 2 bits.size)
+        ++ (inserted site.now.top 2 bits (o.at_temp site.now.top 2 bits.size)
         ++ put_into site.now.top 4 at.entry (o.at_temp site.now.top 2 bits.size))) }
 {
     let to = at_temp(site, 2, bits.size);
-    bits_put(site, out, bits, to)?;
+    insert(site, out, 2, bits, to)?;
     memory_put(site, out, 4, at, to)
 }
 
@@ -127,13 +80,14 @@ fn reference_bits(
     r: &Reference,
     bits: Bits,
 ) -> Result<(), AllocError>
+    requires { bits.below ≡ false }
     ensures { OnOk result (out.new ≡ out.old ++ step.reference_bits site.now.top
         (reference_of r.now) bits.size bits.old bits.new bits.span.low bits.span.count) }
 {
     match r {
         Reference::Storage(r) => {
             let to = in_space(r.space, r.offset, bits.size);
-            bits_put(site, out, bits, to)
+            insert(site, out, 2, bits, to)
         }
         Reference::Local(node, x, _) => local_bits(site, out, *node, *x, bits),
         Reference::Plain(_) => Ok(()),
@@ -176,6 +130,7 @@ fn reference_put_bits(
         size,
         old,
         new: v,
+        below: false,
         span,
     };
     reference_bits(site, out, r, bits)

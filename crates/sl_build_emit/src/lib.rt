@@ -2,7 +2,10 @@
 #![tactic(auto)]
 
 mod bits;
+mod extract;
 mod given;
+mod insert;
+mod masks;
 mod operations;
 mod parts;
 mod pieces;

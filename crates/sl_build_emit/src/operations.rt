@@ -6,8 +6,8 @@ ghost use Rattle.sl_build_emit.specs.Views.{operations_of};
 ghost use Rattle.sl_pcode.specs.declared.code.Code.TheVariants.{CallOther};
 
 use sl_build_template::amount;
-use sl_pcode::{Code, Op, Varnode};
-use sl_word::{Op1, Op2, SpaceId};
+use sl_pcode::{Code, Op, Place2, Varnode};
+use sl_word::{Op1, Op2, Size, SpaceId};
 use std::alloc::{AllocError, Global};
 use std::marker::Model;
 
@@ -76,6 +76,61 @@ fn binary_code(op: Op2) -> Code
     }
 }
 
+/// The constant 0.
+fn is_zero(v: Varnode) -> bool
+    ensures { result ≡ o.is_zero v }
+{
+    match v.place {
+        Place2::Const => v.offset == 0,
+        Place2::Unique => false,
+        Place2::In(_) => false,
+    }
+}
+
+/// Whether an operator of one operand leaves a value as it is.
+fn keeps(op: Op1, to: Size, a: Size) -> bool
+    ensures { result ≡ o.keeps op to.bytes a.bytes }
+{
+    match op {
+        Op1::IntZext | Op1::IntSext => to.bytes == a.bytes,
+        Op1::Copy | Op1::IntNegate | Op1::Int2Comp => false,
+        Op1::BoolNegate | Op1::PopCount | Op1::LzCount => false,
+    }
+}
+
+/// Whether 0 as the second operand of an operator leaves the first as it is.
+fn takes_nothing(op: Op2) -> bool
+    ensures { result ≡ o.takes_nothing op }
+{
+    match op {
+        Op2::IntAdd | Op2::IntLeft | Op2::IntRight | Op2::IntSright | Op2::Subpiece => true,
+        Op2::IntSub | Op2::IntMult => false,
+        Op2::IntDiv | Op2::IntRem | Op2::IntSdiv | Op2::IntSrem => false,
+        Op2::IntAnd | Op2::IntOr | Op2::IntXor => false,
+        Op2::IntEqual | Op2::IntNotEqual => false,
+        Op2::IntLess | Op2::IntLessEqual | Op2::IntSless | Op2::IntSlessEqual => false,
+        Op2::IntCarry | Op2::IntScarry | Op2::IntSborrow => false,
+        Op2::BoolAnd | Op2::BoolOr | Op2::BoolXor => false,
+    }
+}
+
+/// Whether an operator's value is that of its first operand.
+fn keeps_first(op: Op2, to: Size, a: Size, b: Varnode) -> bool
+    ensures { result ≡ o.keeps_first op to.bytes a.bytes b }
+{
+    takes_nothing(op) && (is_zero(b) && to.bytes == a.bytes)
+}
+
+/// Whether an operator's value is that of its second operand.
+fn keeps_second(op: Op2, to: Size, a: Varnode) -> bool
+    ensures { result ≡ o.keeps_second op to.bytes a }
+{
+    match op {
+        Op2::IntAdd => is_zero(a) && to.bytes == a.size.bytes,
+        _ => false,
+    }
+}
+
 impl Operations {
     pub(crate) fn new(alloc: Global) -> Operations
         ensures { result ≡ [] }
@@ -113,12 +168,31 @@ impl Operations {
         Ok(())
     }
 
-    pub(crate) fn unary(&mut self, op: Op1, to: Varnode, a: Varnode) -> Result<(), AllocError>
-        ensures { OnOk result (self.new ≡ self.old ++ o.unary op to a ∷ []) }
+    fn by_one(&mut self, op: Op1, to: Varnode, a: Varnode) -> Result<(), AllocError>
+        ensures { OnOk result (self.new ≡ self.old ++ o.by_one op to a ∷ []) }
     {
         self.put(unary_code(op), Some(to), &[a])
     }
 
+    fn by_two(&mut self, op: Op2, to: Varnode, a: Varnode, b: Varnode) -> Result<(), AllocError>
+        ensures { OnOk result (self.new ≡ self.old ++ o.by_two op to a b ∷ []) }
+    {
+        self.put(binary_code(op), Some(to), &[a, b])
+    }
+
+    /// The value of an operator: a COPY where that is the operand's own.
+    #[tactic(auto, unfolding(sl_faithful_code::specs::Operations::unary))]
+    pub(crate) fn unary(&mut self, op: Op1, to: Varnode, a: Varnode) -> Result<(), AllocError>
+        ensures { OnOk result (self.new ≡ self.old ++ o.unary op to a ∷ []) }
+    {
+        if keeps(op, to.size, a.size) {
+            return self.by_one(Op1::Copy, to, a);
+        }
+        self.by_one(op, to, a)
+    }
+
+    /// The value of an operator: a COPY where that is the value of one operand.
+    #[tactic(auto, unfolding(sl_faithful_code::specs::Operations::binary))]
     pub(crate) fn binary(
         &mut self,
         op: Op2,
@@ -128,7 +202,13 @@ impl Operations {
     ) -> Result<(), AllocError>
         ensures { OnOk result (self.new ≡ self.old ++ o.binary op to a b ∷ []) }
     {
-        self.put(binary_code(op), Some(to), &[a, b])
+        if keeps_first(op, to.size, a.size, b) {
+            return self.by_one(Op1::Copy, to, a);
+        }
+        if keeps_second(op, to.size, a) {
+            return self.by_one(Op1::Copy, to, b);
+        }
+        self.by_two(op, to, a, b)
     }
 
     pub(crate) fn load(

@@ -5,13 +5,16 @@ ghost use Rattle.sl_faithful_code.specs.Operations as o;
 ghost use Rattle.sl_build_emit.specs.Views.{frame_of, setting_of};
 ghost use Rattle.sl_build_template.specs.Placed as p;
 ghost use Rattle.sl_build_template.specs.Views.{piece_of, pieces_of};
+ghost use Rattle.sl_build_template.specs.declared.piece.Piece.TheVariants as variant;
 
 use crate::bits::operand_bits;
+use crate::extract::extract;
 use crate::given::{given_into, given_read};
+use crate::insert::{Bits, insert};
 use crate::operations::Operations;
 use crate::site::Site;
 use crate::slots::{operand_put, operand_stored, value};
-use sl_build_template::{Piece, Slot, amount};
+use sl_build_template::{Insert, Piece, Slot, amount};
 use sl_word::UserId;
 use std::alloc::AllocError;
 
@@ -33,6 +36,34 @@ fn user_call(
         inputs.push(input)?;
     }
     out.call(&inputs)
+}
+
+/// A value with other bits is put into a varnode. Templates have the temporary values up to 4; a
+/// greater number would be want of memory.
+fn inserted(
+    site: &Site<'_>,
+    out: &mut Operations,
+    t: u32,
+    bits: Insert,
+    to: Slot,
+) -> Result<(), AllocError>
+    ensures { OnOk result (out.new ≡ out.old ++ p.piece_code site.now.top (setting_of site.now)
+        (frame_of site.now) (piece_of (variant.Insert t bits to))) }
+{
+    if 4 < t {
+        return Err(AllocError);
+    }
+    let old = value(site, bits.old)?;
+    let new = value(site, bits.new)?;
+    let to = value(site, to)?;
+    let bits = Bits {
+        size: bits.size,
+        old,
+        new,
+        below: bits.below,
+        span: bits.span,
+    };
+    insert(site, out, t, bits, to)
 }
 
 /// A piece.
@@ -83,6 +114,12 @@ fn piece(site: &Site<'_>, out: &mut Operations, a: &Piece) -> Result<(), AllocEr
             let v = value(site, *v)?;
             operand_bits(site, out, *i, v, *span)
         }
+        Piece::Extract(t, from, span, to) => {
+            let from = value(site, *from)?;
+            let to = value(site, *to)?;
+            extract(site, out, *t, from, *span, to)
+        }
+        Piece::Insert(t, bits, to) => inserted(site, out, *t, *bits, *to),
     }
 }
 

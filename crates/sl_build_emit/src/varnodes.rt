@@ -45,7 +45,7 @@ pub(crate) fn at_temp(site: &Site<'_>, t: u32, n: Size) -> Varnode
 }
 
 /// The greatest number of `n` bytes, at most 8.
-fn greatest(n: Size) -> u64
+pub(crate) fn greatest(n: Size) -> u64
     requires { n.bytes ≤ 8 }
     ensures { result ≡ 256 ^ n.bytes - 1 }
 {

@@ -1,14 +1,15 @@
 -- The template of a section comes to its operations.
-use Rattle.std.proofs.Common.{◌≡◌, ℕ, ◌+◌, Bool, List, [], ◌∷◌, ◌++◌, append-nil, length, Option, Some, None, refl, sym, ap, ◌∙◌, arith, pos, negsuc}
+use Rattle.std.proofs.Common.{◌≡◌, ℕ, ◌+◌, Bool, false, List, [], ◌∷◌, ◌++◌, append-nil, length, Option, Some, None, refl, sym, ap, ◌∙◌, arith, pos, negsuc}
 use Rattle.std.specs.Prelude.{ℤ, if◌then◌else◌}
 use Rattle.std.proofs.Math.Path.{fun_ext}
+use Rattle.sl_faithful_code.specs.Bits.{bits_into, bits_put, is_below}
 use Rattle.sl_faithful_code.specs.Operations as o
 use Rattle.sl_faithful_code.specs.Operations.{Operation, amount, at_temp, in_space, range_of, temporary}
 use Rattle.sl_faithful_code.specs.Statements as step
 use Rattle.sl_faithful_code.specs.Statements.{memory_put, reference_set, relative, section_code, step_code, step_length, steps_code, target_of}
 use Rattle.sl_faithful_code.specs.Terms as term
 use Rattle.sl_faithful_code.specs.Terms.{code_before, number_leaf, operand, term_into, term_leaf, term_operand, terms_before, terms_operands}
-use Rattle.sl_section_equations.specs.Equations.{size_at}
+use Rattle.sl_section_equations.specs.Equations.{bit_bytes, size_at}
 use Rattle.sl_meaning_sections.specs.References.{Reference, Setting, local, memory, number, storage}
 use Rattle.sl_meaning_sections.specs.Statements.{is_label}
 use Rattle.sl_meaning_sections.specs.Values.{Frame, reference_at, symbol_size}
@@ -67,18 +68,16 @@ module _ (top : ℕ) (g : Setting) (f : Frame) where
   operand_set_is : (i : ℕ) (e : Term) → all (p.operand_set (form g f) i e) ≡ reference_set top g f (reference_at f.refs i) e
   operand_set_is i e = set_by_is i e (p.term_slot (form g f) 0 e) (opens top g f 0 e)
 
-  bits_put_is : (t : ℕ) (n : Size) (old v : Slot) (low count : ℕ) (out : Slot)
-      → all (p.bits_put t n old v low count out) ≡ step.bits_put top t n (value top g f old) (value top g f v) low count (value top g f out)
-  bits_put_is t n old v low count out = refl
-
   -- ---- assignments
 
   set_is : (a : Symbol) (e : Term) → all (p.set_pieces (form g f) a e) ≡ step.set_code top g f a e
   set_is (s.register space offset k) e = into_is top g f 0 e (slot.Fixed (in_space space offset (term.size_of g f e)))
   set_is (s.bit_range space offset k low count) e =
       joined top g f (p.term_before (form g f) 0 e) _ _ _ (before_is top g f 0 e)
-      (bits_put_is 1 (size_at k) (p.register space offset k) (p.term_value (form g f) 0 e) low count (p.register space offset k)
-      ∙ ap (λ v. step.bits_put top 1 (size_at k) (in_space space offset (size_at k)) v low count (in_space space offset (size_at k))) (value_is top g f 0 e))
+      (append-nil (put_register (value top g f (p.term_value (form g f) 0 e))) ∙ ap put_register (value_is top g f 0 e))
+    where
+      put_register : Varnode → List Operation
+      put_register v = bits_put top 1 (size_at k) (in_space space offset (size_at k)) v (is_below e count) low count (in_space space offset (size_at k))
   set_is (s.local x) e = into_is top g f 0 e (slot.Local x (term.size_of g f e))
   set_is (s.table i) e = operand_set_is i e
   set_is (s.attached i k) e = operand_set_is i e
@@ -93,9 +92,15 @@ module _ (top : ℕ) (g : Setting) (f : Frame) where
       step.symbol_before top g f 1 a (symbol_size g f a) ++ step.symbol_bits top g f a (symbol_size g f a) (step.symbol_operand top g f 1 a (symbol_size g f a)) v low count
 
   bits_are : (a : Symbol) (v : Slot) (low count : ℕ) → all (p.symbol_bits (form g f) a v low count) ≡ bits_of a (value top g f v) low count
-  bits_are (s.register space offset k) v low count = refl
-  bits_are (s.bit_range space offset k low' count') v low count = refl
-  bits_are (s.local x) v low count = refl
+  bits_are (s.register space offset k) v low count = append-nil _
+  bits_are (s.bit_range space offset k low' count') v low count =
+      let n = size_at (bit_bytes count') in
+      let whole = in_space space offset (size_at k) in
+      let first = bits_into top 1 whole low' count' (at_temp top 1 n) in
+      let second = bits_put top 2 n (at_temp top 1 n) (value top g f v) false low count (at_temp top 2 n) in
+      let third = bits_put top 4 (size_at k) whole (at_temp top 2 n) false low' count' whole in
+      ap (λ os. first ++ (second ++ os)) (append-nil third)
+  bits_are (s.local x) v low count = append-nil _
   bits_are (s.table i) v low count = append-nil _
   bits_are (s.attached i k) v low count = append-nil _
   bits_are (s.value i) v low count = append-nil _

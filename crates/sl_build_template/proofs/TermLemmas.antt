@@ -1,6 +1,7 @@
 -- The pieces of expressions come to their operations.
 use Rattle.std.proofs.Common.{◌≡◌, ℕ, ◌+◌, ◌-◌, ◌*◌, Bool, true, false, List, [], ◌∷◌, ◌++◌, append-nil, append_assoc, Option, Some, None, refl, sym, ap, ◌∙◌, pos, negsuc}
 use Rattle.std.specs.Prelude.{if◌then◌else◌, nat_le, unwrap_or}
+use Rattle.sl_faithful_code.specs.Bits.{bits_into}
 use Rattle.sl_faithful_code.specs.Operations as o
 use Rattle.sl_faithful_code.specs.Operations.{Operation, amount, at_temp, constant, in_space, range_of, temporary}
 use Rattle.sl_faithful_code.specs.Terms as term
@@ -133,21 +134,9 @@ module _ (top : ℕ) where
 
     -- ---- names and bits
 
-    bits_with : (t : ℕ) (from : Varnode) (n : Size) (low count : ℕ) (out : Varnode) → from.size ≡ n
-        → o.binary IntLeft (at_temp top t n) from (amount (8 * n.bytes - (low + count)))
-        ∷ o.binary IntRight (at_temp top t n) (at_temp top t n) (amount (8 * n.bytes - count))
-        ∷ o.binary Subpiece out (at_temp top t n) (amount 0) ∷ [] ≡ term.bits_into top t from low count out
-    bits_with t from n low count out e =
-        ap (λ (k : Size). o.binary IntLeft (at_temp top t k) from (amount (8 * k.bytes - (low + count)))
-        ∷ o.binary IntRight (at_temp top t k) (at_temp top t k) (amount (8 * k.bytes - count))
-        ∷ o.binary Subpiece out (at_temp top t k) (amount 0) ∷ []) (sym e)
-
-    pub bits_are : (t : ℕ) (v : Slot) (low count : ℕ) (out : Slot) → code (p.bits_into t v low count out) ≡ term.bits_into top t (value top g f v) low count (value top g f out)
-    bits_are t v low count out = bits_with t (value top g f v) (slot_size v) low count (value top g f out) (value_size v)
-
     name_into : (t : ℕ) (a : Symbol) (out : Slot) → code (p.symbol_into t a out) ≡ term.symbol_into top g f t a (value top g f out)
     name_into t (s.register space offset k) out = sym (copied_at (slot_size out) (value top g f out) (value_size out) (λ k. in_space space offset k))
-    name_into t (s.bit_range space offset k low count) out = bits_are t (p.register space offset k) low count out
+    name_into t (s.bit_range space offset k low count) out = append-nil _
     name_into t (s.local x) out = sym (copied_at (slot_size out) (value top g f out) (value_size out) (λ k. temporary (range_of f.node x) k))
     name_into t (s.table i) out = append-nil _
     name_into t (s.attached i k) out = append-nil _
@@ -179,7 +168,7 @@ module _ (top : ℕ) where
       into_is t (s.bits e low count x) out =
           joined (p.term_before (form g f) t e) _ (term.term_before top g f t e) _
           (before_by t e (p.term_slot (form g f) t e) _ (opens t e) (into_is t e (p.temp_of (form g f) t e)))
-          (bits_are t (p.term_value (form g f) t e) low count out ∙ ap (λ v. term.bits_into top t v low count (value top g f out)) (value_is t e))
+          (append-nil (bits_into top t (value top g f (p.term_value (form g f) t e)) low count (value top g f out)) ∙ ap (λ v. bits_into top t v low count (value top g f out)) (value_is t e))
       into_is t (s.load space n e x) out =
           joined (p.term_before (form g f) t e) _ (term.term_before top g f t e) _
           (before_by t e (p.term_slot (form g f) t e) _ (opens t e) (into_is t e (p.temp_of (form g f) t e)))

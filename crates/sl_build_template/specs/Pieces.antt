@@ -1,7 +1,8 @@
 -- view: a section as a template: its operations, with operands, locals and the places of labels left
 -- open.
-use Rattle.std.specs.Prelude.{ℕ, pos, ◌+◌, ◌-◌, ◌*◌, ◌%◌, ◌^◌, List, [], ◌∷◌, ◌++◌, Option}
+use Rattle.std.specs.Prelude.{ℕ, pos, ◌+◌, ◌%◌, ◌^◌, Bool, false, List, [], ◌∷◌, ◌++◌, Option}
 use Rattle.std.specs.Prelude.{Some, None, map, slice_index, unwrap_or}
+use Rattle.sl_faithful_code.specs.Bits.{is_below}
 use Rattle.sl_faithful_code.specs.Operations.{amount, constant, in_space}
 use Rattle.sl_section_equations.specs.Equations.{bit_bytes, size_at}
 use Rattle.sl_pcode.specs.declared.code.Code.{Code}
@@ -17,9 +18,8 @@ use Rattle.sl_build_template.specs.declared.slot.Slot.{Slot}
 use Rattle.sl_build_template.specs.declared.slot.Slot.TheVariants as slot
 use Rattle.sl_word.specs.Numbers.{residue}
 use Rattle.sl_word.specs.declared.operation.Op1.{Op1}
-use Rattle.sl_word.specs.declared.operation.Op1.TheVariants.{Copy, IntZext}
+use Rattle.sl_word.specs.declared.operation.Op1.TheVariants.{Copy}
 use Rattle.sl_word.specs.declared.operation.Op2.{Op2}
-use Rattle.sl_word.specs.declared.operation.Op2.TheVariants.{IntAdd, IntLeft, IntRight, IntSub}
 use Rattle.sl_word.specs.declared.operation.Op2.TheVariants.{Subpiece}
 use Rattle.sl_word.specs.declared.word.Size.{Size}
 
@@ -32,7 +32,8 @@ pub record Form : Type 0 where
 
 -- One operation, or what hangs on an operand: what is given is made ready to be read, or put into a
 -- varnode; a value is put where an operand stands (`put`), or was put there already if that is a
--- varnode (`stored`), or is put into bits of it.
+-- varnode (`stored`), or is put into bits of it; bits of what is read are put into a varnode
+-- (`extract`), and so is a value of so many bytes with bits of another in their place (`insert`).
 pub data Piece : Type 0 where
   read : Given → (t : ℕ) → Size → Piece
   into : Given → (t : ℕ) → (out : Slot) → Piece
@@ -46,6 +47,8 @@ pub data Piece : Type 0 where
   put : (i : ℕ) → (v : Slot) → Piece
   stored : (i : ℕ) → Size → Piece
   put_bits : (i : ℕ) → (v : Slot) → (low count : ℕ) → Piece
+  extract : (t : ℕ) → (from : Slot) → (low count : ℕ) → (out : Slot) → Piece
+  insert : (t : ℕ) → Size → (old v : Slot) → (below : Bool) → (low count : ℕ) → (out : Slot) → Piece
 
 -- What stands behind the pieces of a statement.
 pub data Tail : Type 0 where
@@ -97,16 +100,7 @@ symbol_slot t s.start n = Some (slot.Given Start t n)
 symbol_slot t s.next n = Some (slot.Given Next t n)
 symbol_slot t (s.integer v) n = Some (integer v n)
 
--- ---- names and bits that are read
-
--- `count` bits from bit `low` on of what is read
-abbrev pub bits_into : (t : ℕ) → (from : Slot) → (low count : ℕ) → (out : Slot) → List Piece
-bits_into t from low count out =
-    binary IntLeft (slot.Temporary t (slot_size from)) from
-    (number (8 * (slot_size from).bytes - (low + count)))
-    ∷ binary IntRight (slot.Temporary t (slot_size from)) (slot.Temporary t (slot_size from))
-    (number (8 * (slot_size from).bytes - count))
-    ∷ binary Subpiece out (slot.Temporary t (slot_size from)) (number 0) ∷ []
+-- ---- names that are read
 
 abbrev pub register : (space offset k : ℕ) → Slot
 register space offset k = slot.Fixed (in_space space offset (size_at k))
@@ -115,7 +109,7 @@ abbrev pub symbol_into : (t : ℕ) → Symbol → (out : Slot) → List Piece
 symbol_into t (s.register space offset k) out =
     unary Copy out (slot.Fixed (in_space space offset (slot_size out))) ∷ []
 symbol_into t (s.bit_range space offset k low count) out =
-    bits_into t (register space offset k) low count out
+    extract t (register space offset k) low count out ∷ []
 symbol_into t (s.local x) out = unary Copy out (slot.Local x (slot_size out)) ∷ []
 symbol_into t (s.table i) out = into (Operand i) t out ∷ []
 symbol_into t (s.attached i k) out = into (Operand i) t out ∷ []
@@ -128,27 +122,13 @@ abbrev pub two_pieces : Op2 → Order → (out a b : Slot) → Piece
 two_pieces f AsWritten out a b = binary f out a b
 two_pieces f Exchanged out a b = binary f out b a
 
--- a value with bits of another in their place
-abbrev pub bits_put : (t : ℕ) → Size → (old v : Slot) → (low count : ℕ) → (out : Slot) → List Piece
-bits_put t n old v low count out =
-    unary IntZext (slot.Temporary t n) v
-    ∷ binary IntLeft (slot.Temporary t n) (slot.Temporary t n) (number (8 * n.bytes - count))
-    ∷ binary IntRight (slot.Temporary t n) (slot.Temporary t n)
-    (number (8 * n.bytes - (low + count)))
-    ∷ binary IntLeft (slot.Temporary (t + 1) n) old (number (8 * n.bytes - (low + count)))
-    ∷ binary IntRight (slot.Temporary (t + 1) n) (slot.Temporary (t + 1) n)
-    (number (8 * n.bytes - count))
-    ∷ binary IntLeft (slot.Temporary (t + 1) n) (slot.Temporary (t + 1) n) (number low)
-    ∷ binary IntSub (slot.Temporary (t + 1) n) old (slot.Temporary (t + 1) n)
-    ∷ binary IntAdd out (slot.Temporary (t + 1) n) (slot.Temporary t n) ∷ []
-
 -- bits of a value are put into bits of a register, which are n bytes
 abbrev pub range_bits : (whole : Size) → (register : Slot) → (n : Size) → (low' count' : ℕ)
     → (v : Slot) → (low count : ℕ) → List Piece
 range_bits whole register n low' count' v low count =
-    bits_into 1 register low' count' (slot.Temporary 1 n)
-    ++ (bits_put 2 n (slot.Temporary 1 n) v low count (slot.Temporary 2 n)
-    ++ bits_put 4 whole register (slot.Temporary 2 n) low' count' register)
+    extract 1 register low' count' (slot.Temporary 1 n)
+    ∷ insert 2 n (slot.Temporary 1 n) v false low count (slot.Temporary 2 n)
+    ∷ insert 4 whole register (slot.Temporary 2 n) false low' count' register ∷ []
 
 -- an expression is put where an operand stands, by its slot, if it has one, and its pieces
 abbrev pub set_by : (i : ℕ) → Size → Option Slot → List Piece → List Piece
@@ -202,7 +182,7 @@ module _ (h : Form) where
     term_into t (s.dropped e n x) out = reads_or (term_slot t e) (term_into t e (temp_of t e))
         ++ binary Subpiece out (term_value t e) (number n) ∷ []
     term_into t (s.bits e low count x) out = reads_or (term_slot t e) (term_into t e (temp_of t e))
-        ++ bits_into t (term_value t e) low count out
+        ++ extract t (term_value t e) low count out ∷ []
     term_into t (s.load space n e x) out = reads_or (term_slot t e) (term_into t e (temp_of t e))
         ++ load out (space_in space) (term_value t e) ∷ []
     term_into t (s.one op e x) out = reads_or (term_slot t e) (term_into t e (temp_of t e))
@@ -231,8 +211,8 @@ module _ (h : Form) where
   set_pieces (s.register space offset k) e =
       term_into 0 e (slot.Fixed (in_space space offset (size_of e)))
   set_pieces (s.bit_range space offset k low count) e = term_before 0 e
-      ++ bits_put 1 (size_at k) (register space offset k) (term_value 0 e) low count
-      (register space offset k)
+      ++ insert 1 (size_at k) (register space offset k) (term_value 0 e) (is_below e count) low
+      count (register space offset k) ∷ []
   set_pieces (s.local x) e = term_into 0 e (slot.Local x (size_of e))
   set_pieces (s.table i) e = operand_set i e
   set_pieces (s.attached i k) e = operand_set i e
@@ -244,12 +224,14 @@ module _ (h : Form) where
   -- bits of a value are put where a name stands
   abbrev pub symbol_bits : Symbol → (v : Slot) → (low count : ℕ) → List Piece
   symbol_bits (s.register space offset k) v low count =
-      bits_put 2 (size_at k) (register space offset k) v low count (register space offset k)
+      insert 2 (size_at k) (register space offset k) v false low count
+      (register space offset k) ∷ []
   symbol_bits (s.bit_range space offset k low' count') v low count =
       range_bits (size_at k) (register space offset k) (size_at (bit_bytes count')) low' count'
       v low count
   symbol_bits (s.local x) v low count =
-      bits_put 2 (h.size x) (slot.Local x (h.size x)) v low count (slot.Local x (h.size x))
+      insert 2 (h.size x) (slot.Local x (h.size x)) v false low count
+      (slot.Local x (h.size x)) ∷ []
   symbol_bits (s.table i) v low count = put_bits i v low count ∷ []
   symbol_bits (s.attached i k) v low count = put_bits i v low count ∷ []
   symbol_bits (s.value i) v low count = put_bits i v low count ∷ []

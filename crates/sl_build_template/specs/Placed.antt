@@ -1,6 +1,7 @@
 -- view: the operations of a template at a node.
 use Rattle.std.specs.Prelude.{ℕ, ◌+◌, if◌then◌else◌, length, List, [], ◌∷◌, ◌++◌, Bool, false, map}
 use Rattle.std.specs.Prelude.{slice_get, unwrap_or}
+use Rattle.sl_faithful_code.specs.Bits.{bits_into, bits_put}
 use Rattle.sl_faithful_code.specs.Operations as o
 use Rattle.sl_faithful_code.specs.Operations.{Operation, amount, at_temp, in_space, range_of, temporary}
 use Rattle.sl_faithful_code.specs.Statements.{memory_put, reference_bits, relative, target_address}
@@ -111,6 +112,10 @@ module _ (top : ℕ) where
     piece_code (p.stored i n) = stored_code (reference_at f.refs i) n
     piece_code (p.put_bits i v low count) =
         bits_code (reference_at f.refs i) (value v) low count
+    piece_code (p.extract t from low count out) =
+        bits_into top t (value from) low count (value out)
+    piece_code (p.insert t n old v below low count out) =
+        bits_put top t n (value old) (value v) below low count (value out)
 
     abbrev pub pieces_code : List Piece → List Operation
     pieces_code [] = []

@@ -3,6 +3,7 @@
 #![tactic(auto)]
 
 mod form;
+mod known;
 mod piece;
 mod puts;
 mod sizes;
@@ -14,7 +15,7 @@ mod terms;
 mod varnodes;
 
 pub use form::Form;
-pub use piece::{Part, Piece, Tail};
+pub use piece::{Insert, Part, Piece, Tail};
 pub use sizes::{of_address, sized};
 pub use slot::{Given, Slot, slot_size};
 pub use steps::template;

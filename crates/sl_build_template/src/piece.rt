@@ -5,6 +5,17 @@ use sl_pcode::Code;
 use sl_section_flat::{Label, Span};
 use sl_word::{Op1, Op2, Size, SpaceId, UserId};
 
+/// A value of `size` bytes, `old`, in which bits are replaced by those of another, `new`.
+#[derive(Clone, Copy, Debug)]
+pub struct Insert {
+    pub size: Size,
+    pub old: Slot,
+    pub new: Slot,
+    /// The text says that `new` has no bits but those that are put.
+    pub below: bool,
+    pub span: Span,
+}
+
 /// One operation, or what hangs on what an operand stands for.
 #[derive(Drop)]
 pub enum Piece {
@@ -30,6 +41,11 @@ pub enum Piece {
     Stored(u32, Size),
     /// A value is put into bits of what the operand of this number stands for.
     PutBits(u32, Slot, Span),
+    /// Bits of the first are put into the second; the temporary value of this number is free.
+    Extract(u32, Slot, Span, Slot),
+    /// A value with other bits is put into a varnode; the temporary value of this number and the
+    /// next one are free.
+    Insert(u32, Insert, Slot),
 }
 
 /// What stands behind the pieces of a statement.

@@ -1,14 +1,15 @@
 //! Assignments, and jumps by their targets.
 
-ghost use Rattle.std.specs.Prelude.{◌≡◌, ◌++◌, ◌∷◌, [], IfOk, OnOk};
+ghost use Rattle.std.specs.Prelude.{◌≡◌, ◌++◌, ◌∷◌, [], false, IfOk, OnOk};
 ghost use Rattle.sl_section_equations.specs.Equations.{bit_bytes, size_at};
 ghost use Rattle.sl_section_flat.specs.Views.{symbol_of, term_of};
 ghost use Rattle.sl_build_template.specs.Pieces as p;
 ghost use Rattle.sl_build_template.specs.Views.{form_of, pieces_of};
 
 use crate::form::{Form, size_of};
-use crate::piece::Piece;
-use crate::puts::{bits_into, bits_put, put, register};
+use crate::known::is_below;
+use crate::piece::{Insert, Piece};
+use crate::puts::{put, register};
 use crate::sizes::{of_address, same_size, size_of_variable, sized};
 use crate::slot::{Given, Slot};
 use crate::terms::{term_into, term_slot, term_value};
@@ -56,8 +57,15 @@ pub(crate) fn set(
             term_into(alloc, form, out, 0, e, to)
         }
         Symbol::BitRange(r, span) => {
-            let v = term_value(alloc, form, out, 0, e)?;
-            bits_put(out, 1, same_size(r.size), register(r), v, span, register(r))
+            let new = term_value(alloc, form, out, 0, e)?;
+            let bits = Insert {
+                size: same_size(r.size),
+                old: register(r),
+                new,
+                below: is_below(e, span.count),
+                span,
+            };
+            put(out, Piece::Insert(1, bits, register(r)))
         }
         Symbol::Local(x) => {
             let to = Slot::Local(x, size_of(form, e));
@@ -80,6 +88,29 @@ fn span_size(span: Span) -> Size
     sized((span.count + 7) / 8)
 }
 
+/// Bits of `v` are put among those of `old`, of `n` bytes, of which nothing is known.
+fn put_insert(
+    out: &mut Vec<Piece>,
+    t: u32,
+    n: Size,
+    old: Slot,
+    v: Slot,
+    span: Span,
+    to: Slot,
+) -> Result<(), AllocError>
+    ensures { OnOk result (pieces_of out.new.items ≡ pieces_of out.old.items
+        ++ p.insert t n old v false span.low span.count to ∷ []) }
+{
+    let bits = Insert {
+        size: n,
+        old,
+        new: v,
+        below: false,
+        span,
+    };
+    put(out, Piece::Insert(t, bits, to))
+}
+
 /// Bits of a value are put into bits of a register, which are `n` bytes.
 fn range_bits(
     out: &mut Vec<Piece>,
@@ -95,9 +126,9 @@ fn range_bits(
 {
     let old = Slot::Temporary(1, n);
     let new = Slot::Temporary(2, n);
-    bits_into(out, 1, register, outer, old)?;
-    bits_put(out, 2, n, old, v, span, new)?;
-    bits_put(out, 4, whole, register, new, outer, register)
+    put(out, Piece::Extract(1, register, outer, old))?;
+    put_insert(out, 2, n, old, v, span, new)?;
+    put_insert(out, 4, whole, register, new, outer, register)
 }
 
 /// Bits of a value are put where a name stands.
@@ -113,7 +144,7 @@ fn symbol_bits(
 {
     match a {
         Symbol::Register(r) => {
-            bits_put(out, 2, same_size(r.size), register(r), v, span, register(r))
+            put_insert(out, 2, same_size(r.size), register(r), v, span, register(r))
         }
         Symbol::BitRange(r, outer) => {
             let n = span_size(outer);
@@ -121,7 +152,7 @@ fn symbol_bits(
         }
         Symbol::Local(x) => {
             let n = size_of_variable(form.sizes, x);
-            bits_put(out, 2, n, Slot::Local(x, n), v, span, Slot::Local(x, n))
+            put_insert(out, 2, n, Slot::Local(x, n), v, span, Slot::Local(x, n))
         }
         Symbol::Table(i) => put(out, Piece::PutBits(i, v, span)),
         Symbol::Attached(i, _) => put(out, Piece::PutBits(i, v, span)),

@@ -6,7 +6,7 @@ ghost use Rattle.sl_build_template.specs.Pieces as p;
 ghost use Rattle.sl_build_template.specs.Views.{pieces_of};
 
 use crate::piece::Piece;
-use crate::puts::{bits_into, put, register};
+use crate::puts::{put, register};
 use crate::slot::{Given, Slot, slot_size};
 use crate::varnodes::{constant, cut, in_space};
 use sl_section_flat::Symbol;
@@ -52,7 +52,7 @@ pub(crate) fn symbol_into(
             let from = Slot::Fixed(in_space(r.space, r.offset, slot_size(to)));
             put(out, Piece::Unary(Op1::Copy, to, from))
         }
-        Symbol::BitRange(r, span) => bits_into(out, t, register(r), span, to),
+        Symbol::BitRange(r, span) => put(out, Piece::Extract(t, register(r), span, to)),
         Symbol::Local(x) => {
             let from = Slot::Local(x, slot_size(to));
             put(out, Piece::Unary(Op1::Copy, to, from))

@@ -8,7 +8,7 @@ ghost use Rattle.sl_build_template.specs.Views.{form_of, pieces_of};
 
 use crate::form::{Form, size_of, space_in};
 use crate::piece::Piece;
-use crate::puts::{bits_into, number, put, put_ordered, put_reads};
+use crate::puts::{number, put, put_ordered, put_reads};
 use crate::sizes::size_of_variable;
 use crate::slot::Slot;
 use crate::symbols::{integer, symbol_into, symbol_slot};
@@ -78,7 +78,7 @@ pub(crate) fn term_into(
         }
         Term::Bits(e, span, _) => {
             let a = term_value(alloc, form, out, t, e)?;
-            bits_into(out, t, a, *span, to)
+            put(out, Piece::Extract(t, a, *span, to))
         }
         Term::Load(space, _, e, _) => {
             let a = term_value(alloc, form, out, t, e)?;

@@ -10,15 +10,11 @@ use Rattle.sl_meaning_sections.specs.References.{Locals, Setting, with_local}
 use Rattle.sl_meaning_sections.specs.Values as fault
 use Rattle.sl_meaning_sections.specs.Values.{Fault, ◌>>=◌}
 use Rattle.sl_pcode.specs.Effects.{effect_of}
-use Rattle.sl_pcode.specs.Machine as machine
-use Rattle.sl_pcode.specs.Machine.{Temporaries, Ending, Run, ended, whole, has_no_value, at_target, value_of, does, jump_run, op_does, run_from}
+use Rattle.sl_pcode.specs.Machine.{Temporaries, ended, whole, does, jump_run, op_does, run_from}
 use Rattle.sl_pcode.specs.Targets.{place_at}
 use Rattle.sl_pcode.specs.WellFormed.{IsFormed, IsWellFormedOp}
 use Rattle.sl_pcode.specs.declared.effect.Effect.{Effect}
-use Rattle.sl_pcode.specs.declared.effect.Effect.TheVariants.{Unary, Binary, Load, Store, Branch, CBranch, Call, Indirect, UserOp}
 use Rattle.sl_pcode.specs.declared.operation.Op.{Op}
-use Rattle.sl_pcode.specs.declared.varnode.Place2.{Place2}
-use Rattle.sl_pcode.specs.declared.varnode.Place2.TheVariants.{Const, Unique, In}
 use Rattle.sl_pcode.proofs.RunLaws.{jump_run-none, jump_run-taken, run_from-end, run_from-op}
 use Rattle.sl_pcode.proofs.StepLaws.{of_does}
 use Rattle.sl_word.specs.Memories.{Memory}

@@ -98,6 +98,10 @@ pub eight : (size_at 8).bytes ≡ 8
 unfolding size_at
 eight = refl
 
+pub four : (size_at 4).bytes ≡ 4
+unfolding size_at
+four = refl
+
 -- sign-extended from 8 bytes
 pub extended : (v n : ℕ) → v < 2 ^ 63 → residue n (signed_value 8 (residue 8 (negsuc v))) ≡ residue n (negsuc v)
 extended v n lt =

@@ -5,15 +5,19 @@ use Rattle.std.specs.List.{All}
 use Rattle.std.proofs.lemmas.Bool.{cases_lt}
 use Rattle.std.proofs.lemmas.Bool.Decides.{nat_tests}
 use Rattle.std.proofs.Math.Nat.{mod-eq_of_lt, mod-mod}
+use Rattle.sl_faithful_code.specs.Bits.{bits_put, is_below}
 use Rattle.sl_faithful_code.specs.Fits.{DirectFits, ReferenceFits, StepFits, StepsFit, SymbolFits, TargetFits, TermFits}
 use Rattle.sl_faithful_code.specs.Operations.{Operation, amount, at_temp, exit, exit_if, in_space, range_of, store_to, temporary}
 use Rattle.sl_faithful_code.specs.Runs.{Final, final_ending, leaves, stops}
-use Rattle.sl_faithful_code.specs.Statements.{bits_put, child_code, direct, label_at, memory_put, reference_bits, reference_set, relative, section_code, set_bits_code, set_code, step_code, step_length, steps_code, symbol_before, symbol_bits, symbol_operand, target_address, target_of}
+use Rattle.sl_faithful_code.specs.Statements.{child_code, direct, label_at, memory_put, reference_bits, reference_set, relative, section_code, set_bits_code, set_code, step_code, step_length, steps_code, symbol_before, symbol_bits, symbol_operand, target_address, target_of}
 use Rattle.sl_faithful_code.specs.Terms.{code_before, operand, read_into, read_leaf, size_of, term_before, term_operand, terms_operands}
 use Rattle.sl_faithful_code.proofs.Base.{Apart, At, HasAt, Holds, from, has_back, has_front, has_len, holds_same, holds_set, jumped, jumped_none, jumped_some, step, with_final, with_same}
-use Rattle.sl_faithful_code.proofs.Bits.{bits_put_land}
-use Rattle.sl_faithful_code.proofs.Bytes.{Same, low_stored, number_below, put_at, same_below, same_refl}
-use Rattle.sl_faithful_code.proofs.Terms.{Lands, at_place, lands_of_uses, operand_size, reference_uses, symbol_operand_size, symbol_uses, term_lands, term_uses, terms_stop}
+use Rattle.sl_faithful_code.proofs.Below.{below_value}
+use Rattle.sl_faithful_code.proofs.Bits.{Reads, bits_put_lands, is_loose, plain_value, put_value, put_value_is}
+use Rattle.sl_faithful_code.proofs.Operators.{left_true}
+use Rattle.sl_faithful_code.proofs.Bytes.{Same, low_stored, number_below, put_at, same_below, same_refl, same_trans}
+use Rattle.sl_faithful_code.proofs.Lands.{Lands, at_place, lands_of_uses, placed}
+use Rattle.sl_faithful_code.proofs.Terms.{operand_size, reference_uses, symbol_operand_size, symbol_uses, term_lands, term_uses, terms_stop}
 use Rattle.sl_section_equations.specs.Equations.{size_at}
 use Rattle.sl_meaning_sections.specs.References.{Locals, Reference, Setting, State, load, local, memory, number, put, put_bytes, read, storage, with_local}
 use Rattle.sl_meaning_sections.specs.Statements as mean
@@ -25,6 +29,7 @@ use Rattle.sl_pcode.specs.WellFormed.{IsWellFormedOp}
 use Rattle.sl_pcode.specs.declared.code.Code.TheVariants as kind
 use Rattle.sl_pcode.specs.declared.effect.Effect.TheVariants.{Store, Branch, CBranch, Call, Indirect}
 use Rattle.sl_pcode.specs.declared.operation.Op.{Op}
+use Rattle.sl_pcode.specs.declared.varnode.Place2.{Place2}
 use Rattle.sl_pcode.specs.declared.varnode.Place2.TheVariants.{Unique, In}
 use Rattle.sl_pcode.specs.declared.varnode.Varnode.{Varnode}
 use Rattle.sl_section_flat.specs.Sections as s
@@ -59,6 +64,11 @@ after_value (Err f) m next go = refl
 after_choice : (b : Bool) (x y : Outcome) (go : Rest) → after (if b then x else y) go ≡ (if b then after x go else after y go)
 after_choice true x y go = refl
 after_choice false x y go = refl
+
+-- what follows may be another that gives the same for the value that there is
+with_known : (r : Result ℕ Fault) (m : Memory) (go go' : ℕ → Final) → ((v : ℕ) → r ≡ Ok v → go v ≡ go' v) → with_final r m go ≡ with_final r m go'
+with_known (Ok v) m go go' same = same v refl
+with_known (Err f) m go go' same = refl
 
 -- a relative number leads where it is to lead
 pub target : (base p t : ℕ) → base + p < 2147483648 → base + t < 2147483648 → place_at (base + p) (relative p t) ≡ base + t
@@ -140,7 +150,7 @@ module _ (g : Setting) (code : List Op) (Local : (node x n : ℕ) → Type 0) wh
         let q = operand (read_leaf pointer width) (at_temp top t width) in
         let o = store_to space q a in
         let len : p + length (before ++ o ∷ []) ≡ p + length before + 1 = omega (arith, length-append before (o ∷ [])) in
-        reference_uses g code Local top lays pointer width t p left m l u (λ b. go (state (stored g.endian g.sizes m space b n v) l left)) fits holds (has_front g code p before (o ∷ []) has)
+        reference_uses g code Local top lays well pointer width t p left m l u (λ b. go (state (stored g.endian g.sizes m space b n v) l left)) fits holds (has_front g code p before (o ∷ []) has)
         (λ b u' same lt pointed.
         step g code (Store (amount space) q a) left (p + length before) m u' (has_back g code p before (o ∷ []) has).0
         ∙ (good_at most _ _ go len next).by left _ l u' le (holds_stored m l u' space (value_of g.endian g.sizes q m u') a.size.bytes (value_of g.endian g.sizes a m u') (holds_after t m l u u' same holds))
@@ -158,18 +168,18 @@ module _ (g : Setting) (code : List Op) (Local : (node x n : ℕ) → Type 0) wh
         → HasAt g code p (reference_set top g f r e) → Good most (p + length (reference_set top g f r e)) go
         → from g code left p m u ≡ with_final (value g f m l e) m (λ v. go (put g r (size_of g f e).bytes v (state m l left)))
     reference_set_run (storage space offset size) e most p left m l u go fits where_fits le holds has next =
-        term_lands g code Local top lays f well e (In (record { 0 = space })) offset 0 p left m l u _ fits holds has (storage_lands space offset (size_of g f e) 0 most left _ m l u go le holds next)
+        term_lands g code Local top lays well f e (In (record { 0 = space })) offset 0 p left m l u _ fits holds has (storage_lands space offset (size_of g f e) 0 most left _ m l u go le holds next)
     reference_set_run (local k x size) e most p left m l u go fits where_fits le holds has next =
-        term_lands g code Local top lays f well e Unique (range_of k x) 0 p left m l u _ fits holds has (local_lands k x (size_of g f e) 0 most left _ m l u go where_fits le holds next)
+        term_lands g code Local top lays well f e Unique (range_of k x) 0 p left m l u _ fits holds has (local_lands k x (size_of g f e) 0 most left _ m l u go where_fits le holds next)
     reference_set_run (number z) e most p left m l u go fits where_fits le holds has next =
-        term_uses g code Local top lays f well e 0 p left m l u (λ v. go (state m l left)) fits holds has (λ v u' same lt reads. next.by left m l u' le (holds_after 0 m l u u' same holds))
+        term_uses g code Local top lays well f e 0 p left m l u (λ v. go (state m l left)) fits holds has (λ v u' same lt reads. next.by left m l u' le (holds_after 0 m l u u' same holds))
     reference_set_run (memory space size pointer width) e most p left m l u go fits where_fits le holds has next =
         let before = term_before top g f 0 e in
         let a = term_operand top g f 0 e in
         let rest = memory_put top 1 space pointer width a in
         let len : p + length (before ++ rest) ≡ p + length before + length rest = omega (arith, length-append before rest) in
-        term_uses g code Local top lays f well e 0 p left m l u _ fits holds (has_front g code p before rest has)
-        (λ v u' same lt reads. memory_run 1 space pointer width a (size_of g f e).bytes v most left (p + length before) m l u' go where_fits (ap (λ (k : Size). k.bytes) (operand_size g code Local top lays f well e 0))
+        term_uses g code Local top lays well f e 0 p left m l u _ fits holds (has_front g code p before rest has)
+        (λ v u' same lt reads. memory_run 1 space pointer width a (size_of g f e).bytes v most left (p + length before) m l u' go where_fits (ap (λ (k : Size). k.bytes) (operand_size g code Local top lays well f e 0))
         (λ u'' same'. reads u'' (same_below _ _ u' u'' (omega arith) same')) le (holds_after 0 m l u u' same holds) (has_back g code p before rest has) (good_at most _ _ go len next))
 
     set_run : (a : Symbol) (e : Term) (most p left : ℕ) (m : Memory) (l : Locals) (u : Temporaries) (go : Rest) → TermFits Local g f e → SymbolFits Local g f a (size_of g f e).bytes → left ≤ most → Holds g.endian Local m l u
@@ -180,13 +190,20 @@ module _ (g : Setting) (code : List Op) (Local : (node x n : ℕ) → Type 0) wh
         let a = term_operand top g f 0 e in
         let n = size_at k in
         let old = in_space space offset n in
-        let rest = bits_put top 1 n old a low count old in
-        let size = ap (λ (k : Size). k.bytes) (operand_size g code Local top lays f well e 0) in
-        let len : p + length (before ++ rest) ≡ p + length before + 8 = omega (arith, length-append before rest) in
-        term_uses g code Local top lays f well e 0 p left m l u _ fits holds (has_front g code p before rest has)
-        (λ v u' same lt reads. bits_put_land g code Local top lays 1 n old a low count (In (record { 0 = space })) offset (p + length before) left m u' u' _ v (load g m space offset n.bytes) refl
-        (subst (λ w. w ≤ n.bytes) (sym size) where_fits.2) where_fits.0 (subst (λ w. v < 256 ^ w) (sym size) lt) (number_below g.endian _ n.bytes (λ i. holds.memory space _)) (reads u' (same_refl _ u')) (λ u'' same'. refl)
-        (has_back g code p before rest has) (same_refl _ u') (storage_lands space offset n 1 most left _ m l u' go le (holds_after 0 m l u u' same holds) (good_at most _ _ go len next)))
+        let rest = bits_put top 1 n old a (is_below e count) low count old in
+        let loose = is_loose (is_below e count) n a low count in
+        let y = load g m space offset n.bytes in
+        let y_low : y < 256 ^ n.bytes = number_below g.endian _ n.bytes (λ i. holds.memory space _) in
+        let size = ap (λ (k : Size). k.bytes) (operand_size g code Local top lays well f e 0) in
+        let len : p + length (before ++ rest) ≡ p + length before + length rest = omega (arith, length-append before rest) in
+        let put_there : ℕ → Final = λ z. go (state (stored g.endian g.sizes m space offset n.bytes z) l left) in
+        term_uses g code Local top lays well f e 0 p left m l u (λ v. put_there (put_value loose n.bytes low count y v)) fits holds (has_front g code p before rest has)
+        (λ v u' same lt reads. bits_put_lands g code well top 1 n old a (is_below e count) low count (In (record { 0 = space })) offset (p + length before) left m u' u' put_there v y refl
+        (subst (λ w. w ≤ n.bytes) (sym size) where_fits.2) where_fits.0 (subst (λ w. v < 256 ^ w) (sym size) lt) y_low (λ u'' same'. reads u'' (same_below _ _ u' u'' (omega arith) same')) (λ u'' same'. refl)
+        (same_refl _ u') (has_back g code p before rest has) (storage_lands space offset n 1 most left _ m l u' go le (holds_after 0 m l u u' same holds) (good_at most _ _ go len next)))
+        ∙ with_known (value g f m l e) m (λ v. put_there (put_value loose n.bytes low count y v)) (λ v. put_there (with_bits low count y v))
+        (λ v is. ap put_there (put_value_is loose n.bytes low count y v where_fits.0 y_low
+        (λ few. below_value g f m l e count v (left_true (is_below e count) _ few) is)))
     set_run (s.register space offset k) e most p left m l u go fits where_fits le holds has next = reference_set_run (storage space offset (size_at k)) e most p left m l u go fits where_fits le holds has next
     set_run (s.local x) e most p left m l u go fits where_fits le holds has next = reference_set_run (local f.node x (f.size x)) e most p left m l u go fits where_fits le holds has next
     set_run (s.table i) e most p left m l u go fits where_fits le holds has next = reference_set_run (reference_at f.refs i) e most p left m l u go fits where_fits le holds has next
@@ -198,39 +215,46 @@ module _ (g : Setting) (code : List Op) (Local : (node x n : ℕ) → Type 0) wh
 
     -- ---- bits that are assigned
 
+    -- nothing is said of the value
+    put_run : (t : ℕ) (n : Size) (old v : Varnode) (low count : ℕ) (place : Place2) (offset p left : ℕ) (m : Memory) (u u' : Temporaries) (go : ℕ → Final) (x y : ℕ) → old.size ≡ n → v.size.bytes ≤ n.bytes → low + count ≤ 8 * n.bytes
+        → x < 256 ^ v.size.bytes → y < 256 ^ n.bytes → Reads g code well top (top + t * 16) v m u' x → Reads g code well top (top + t * 16) old m u' y → Same (top + t * 16) u u' → HasAt g code p (bits_put top t n old v false low count (placed place offset n))
+        → Lands g code left (p + length (bits_put top t n old v false low count (placed place offset n))) (top + t * 16) (placed place offset n) m u go → from g code left p m u' ≡ go (with_bits low count y x)
+    put_run t n old v low count place offset p left m u u' go x y so sv fits hx hy reads_v reads_old same has lands =
+        bits_put_lands g code well top t n old v false low count place offset p left m u u' go x y so sv fits hx hy reads_v reads_old same has lands ∙ ap go (plain_value n.bytes low count y x)
+
     -- the old value and the new bits are read
     reference_bits_run : (r : Reference) (n : Size) (old b : Varnode) (low count x y most p left : ℕ) (m : Memory) (l : Locals) (u : Temporaries) (go : Rest) → ReferenceFits Local r n.bytes → old.size ≡ n → b.size.bytes ≤ n.bytes → low + count ≤ 8 * n.bytes
-        → x < 256 ^ b.size.bytes → y < 256 ^ n.bytes → value_of g.endian g.sizes b m u ≡ x → ((u' : Temporaries) → Same (top + 2 * 16) u u' → value_of g.endian g.sizes old m u' ≡ y) → left ≤ most → Holds g.endian Local m l u
+        → x < 256 ^ b.size.bytes → y < 256 ^ n.bytes → Reads g code well top (top + 2 * 16) b m u x → Reads g code well top (top + 2 * 16) old m u y → left ≤ most → Holds g.endian Local m l u
         → HasAt g code p (reference_bits top r n old b low count) → Good most (p + length (reference_bits top r n old b low count)) go
         → from g code left p m u ≡ go (put g r n.bytes (with_bits low count y x) (state m l left))
     reference_bits_run (storage space offset size) n old b low count x y most p left m l u go where_fits so sb fits hx hy rb ro le holds has next =
-        bits_put_land g code Local top lays 2 n old b low count (In (record { 0 = space })) offset p left m u u _ x y so sb fits hx hy rb ro has (same_refl _ u) (storage_lands space offset n 2 most left _ m l u go le holds next)
+        put_run 2 n old b low count (In (record { 0 = space })) offset p left m u u (λ v. go (state (stored g.endian g.sizes m space offset n.bytes v) l left)) x y so sb fits hx hy rb ro (same_refl _ u) has (storage_lands space offset n 2 most left _ m l u go le holds next)
     reference_bits_run (local k z size) n old b low count x y most p left m l u go where_fits so sb fits hx hy rb ro le holds has next =
-        bits_put_land g code Local top lays 2 n old b low count Unique (range_of k z) p left m u u _ x y so sb fits hx hy rb ro has (same_refl _ u) (local_lands k z n 2 most left _ m l u go where_fits le holds next)
+        put_run 2 n old b low count Unique (range_of k z) p left m u u (λ v. go (state m (with_local k z v l) left)) x y so sb fits hx hy rb ro (same_refl _ u) has (local_lands k z n 2 most left _ m l u go where_fits le holds next)
     reference_bits_run (number z) n old b low count x y most p left m l u go where_fits so sb fits hx hy rb ro le holds has next = nothing_run most left p m l u go le holds next
     reference_bits_run (memory space size pointer width) n old b low count x y most p left m l u go where_fits so sb fits hx hy rb ro le holds has next =
-        let ops = bits_put top 2 n old b low count (at_temp top 2 n) in
+        let ops = bits_put top 2 n old b false low count (at_temp top 2 n) in
         let rest = memory_put top 4 space pointer width (at_temp top 2 n) in
-        let len : p + length (ops ++ rest) ≡ p + 8 + length rest = omega (arith, length-append ops rest) in
-        bits_put_land g code Local top lays 2 n old b low count Unique (top + 2 * 16) p left m u u (λ v. go (state (stored g.endian g.sizes m space (read g m l pointer width.bytes) n.bytes v) l left)) x y so sb fits hx hy rb ro (has_front g code p ops rest has) (same_refl _ u)
-        (lands_of_uses g code left (p + 8) (top + 2 * 16) n m u _ (λ v u' same lt reads. memory_run 4 space pointer width (at_temp top 2 n) n.bytes v most left (p + 8) m l u' go where_fits refl
+        let len : p + length (ops ++ rest) ≡ p + length ops + length rest = omega (arith, length-append ops rest) in
+        put_run 2 n old b low count Unique (top + 2 * 16) p left m u u (λ v. go (state (stored g.endian g.sizes m space (read g m l pointer width.bytes) n.bytes v) l left)) x y so sb fits hx hy rb ro (same_refl _ u) (has_front g code p ops rest has)
+        (lands_of_uses g code left (p + length ops) (top + 2 * 16) n m u _ (λ v u' same lt reads. memory_run 4 space pointer width (at_temp top 2 n) n.bytes v most left (p + length ops) m l u' go where_fits refl
         (λ u'' same'. reads u'' (same_below _ _ u' u'' (omega arith) same')) le (holds_after 2 m l u u' same holds) (has_back g code p ops rest has) (good_at most _ _ go len next)))
 
     symbol_bits_run : (a : Symbol) (n : Size) (old b : Varnode) (low count x y most p left : ℕ) (m : Memory) (l : Locals) (u : Temporaries) (go : Rest) → SymbolFits Local g f a n.bytes → old.size ≡ n → b.size.bytes ≤ n.bytes → low + count ≤ 8 * n.bytes
-        → x < 256 ^ b.size.bytes → y < 256 ^ n.bytes → value_of g.endian g.sizes b m u ≡ x → ((u' : Temporaries) → Same (top + 2 * 16) u u' → value_of g.endian g.sizes old m u' ≡ y) → left ≤ most → Holds g.endian Local m l u
+        → x < 256 ^ b.size.bytes → y < 256 ^ n.bytes → Reads g code well top (top + 2 * 16) b m u x → Reads g code well top (top + 2 * 16) old m u y → left ≤ most → Holds g.endian Local m l u
         → HasAt g code p (symbol_bits top g f a n old b low count) → Good most (p + length (symbol_bits top g f a n old b low count)) go
         → from g code left p m u ≡ go (assigned g f a n.bytes (with_bits low count y x) (state m l left))
     symbol_bits_run (s.bit_range space offset k low' count') n old b low count x y most p left m l u go where_fits so sb fits hx hy rb ro le holds has next =
-        let ops = bits_put top 2 n old b low count (at_temp top 2 n) in
+        let ops = bits_put top 2 n old b false low count (at_temp top 2 n) in
         let reg = in_space space offset (size_at k) in
-        let rest = bits_put top 4 (size_at k) reg (at_temp top 2 n) low' count' reg in
-        let len : p + length (ops ++ rest) ≡ p + 8 + 8 = omega (arith, length-append ops rest) in
-        bits_put_land g code Local top lays 2 n old b low count Unique (top + 2 * 16) p left m u u
-        (λ v. go (state (stored g.endian g.sizes m space offset (size_at k).bytes (with_bits low' count' (load g m space offset (size_at k).bytes) v)) l left)) x y so sb fits hx hy rb ro (has_front g code p ops rest has) (same_refl _ u)
-        (lands_of_uses g code left (p + 8) (top + 2 * 16) n m u _ (λ v u' same lt reads.
-        bits_put_land g code Local top lays 4 (size_at k) reg (at_temp top 2 n) low' count' (In (record { 0 = space })) offset (p + 8) left m u' u' _ v (load g m space offset (size_at k).bytes) refl
-        where_fits.2 where_fits.0 lt (number_below g.endian _ (size_at k).bytes (λ i. holds.memory space _)) (reads u' (same_refl _ u')) (λ u'' same'. refl)
-        (has_back g code p ops rest has) (same_refl _ u') (storage_lands space offset (size_at k) 4 most left _ m l u' go le (holds_after 2 m l u u' same holds) (good_at most _ _ go len next))))
+        let rest = bits_put top 4 (size_at k) reg (at_temp top 2 n) false low' count' reg in
+        let len : p + length (ops ++ rest) ≡ p + length ops + length rest = omega (arith, length-append ops rest) in
+        put_run 2 n old b low count Unique (top + 2 * 16) p left m u u
+        (λ v. go (state (stored g.endian g.sizes m space offset (size_at k).bytes (with_bits low' count' (load g m space offset (size_at k).bytes) v)) l left)) x y so sb fits hx hy rb ro (same_refl _ u) (has_front g code p ops rest has)
+        (lands_of_uses g code left (p + length ops) (top + 2 * 16) n m u _ (λ v u' same lt reads.
+        put_run 4 (size_at k) reg (at_temp top 2 n) low' count' (In (record { 0 = space })) offset (p + length ops) left m u' u' (λ z. go (state (stored g.endian g.sizes m space offset (size_at k).bytes z) l left)) v (load g m space offset (size_at k).bytes) refl
+        where_fits.2 where_fits.0 lt (number_below g.endian _ (size_at k).bytes (λ i. holds.memory space _)) (λ u'' same'. reads u'' (same_below _ _ u' u'' (omega arith) same')) (λ u'' same'. refl)
+        (same_refl _ u') (has_back g code p ops rest has) (storage_lands space offset (size_at k) 4 most left _ m l u' go le (holds_after 2 m l u u' same holds) (good_at most _ _ go len next))))
     symbol_bits_run (s.register space offset k) n old b low count x y most p left m l u go where_fits so sb fits hx hy rb ro le holds has next = reference_bits_run (storage space offset (size_at k)) n old b low count x y most p left m l u go where_fits so sb fits hx hy rb ro le holds has next
     symbol_bits_run (s.local z) n old b low count x y most p left m l u go where_fits so sb fits hx hy rb ro le holds has next = reference_bits_run (local f.node z (f.size z)) n old b low count x y most p left m l u go where_fits so sb fits hx hy rb ro le holds has next
     symbol_bits_run (s.table i) n old b low count x y most p left m l u go where_fits so sb fits hx hy rb ro le holds has next = reference_bits_run (reference_at f.refs i) n old b low count x y most p left m l u go where_fits so sb fits hx hy rb ro le holds has next
@@ -251,15 +275,15 @@ module _ (g : Setting) (code : List Op) (Local : (node x n : ℕ) → Type 0) wh
         let old = symbol_operand top g f 1 a n in
         let rest = symbol_bits top g f a n old b low count in
         let back = has_back g code p ce (ca ++ rest) has in
-        let size = ap (λ (k : Size). k.bytes) (operand_size g code Local top lays f well e 0) in
+        let size = ap (λ (k : Size). k.bytes) (operand_size g code Local top lays well f e 0) in
         let len : p + length (ce ++ (ca ++ rest)) ≡ p + length ce + length ca + length rest = omega (arith, length-append ce (ca ++ rest), length-append ca rest) in
-        term_uses g code Local top lays f well e 0 p left m l u _ fits holds (has_front g code p ce _ has)
+        term_uses g code Local top lays well f e 0 p left m l u _ fits holds (has_front g code p ce _ has)
         (λ v u1 same1 lt1 reads1.
         let holds1 = holds_after 0 m l u u1 same1 holds in
-        symbol_uses g code Local top lays f well a n 1 (p + length ce) left m l u1 (λ y. go (assigned g f a n.bytes (with_bits low count y v) (state m l left))) where_fits holds1 (has_front g code _ ca rest back)
+        symbol_uses g code Local top lays well f a n 1 (p + length ce) left m l u1 (λ y. go (assigned g f a n.bytes (with_bits low count y v) (state m l left))) where_fits holds1 (has_front g code _ ca rest back)
         (λ y u2 same2 lt2 reads2.
-        symbol_bits_run a n old b low count v y most (p + length ce + length ca) left m l u2 go where_fits (symbol_operand_size g code Local top lays f well a n (top + 1 * 16)) (subst (λ w. w ≤ n.bytes) (sym size) narrower) inside
-        (subst (λ w. v < 256 ^ w) (sym size) lt1) lt2 (reads1 u2 (same_below _ _ u1 u2 (omega arith) same2)) (λ u'' same'. reads2 u'' (same_below _ _ u2 u'' (omega arith) same')) le (holds_after 1 m l u1 u2 same2 holds1)
+        symbol_bits_run a n old b low count v y most (p + length ce + length ca) left m l u2 go where_fits (symbol_operand_size g code Local top lays well f a n (top + 1 * 16)) (subst (λ w. w ≤ n.bytes) (sym size) narrower) inside
+        (subst (λ w. v < 256 ^ w) (sym size) lt1) lt2 (λ u'' same'. reads1 u'' (same_below _ _ u1 u'' (omega arith) (same_trans _ _ u1 u2 u'' (omega arith) same2 same'))) (λ u'' same'. reads2 u'' (same_below _ _ u2 u'' (omega arith) same')) le (holds_after 1 m l u1 u2 same2 holds1)
         (has_back g code _ ca rest back) (good_at most _ _ go len next)))
 
     -- ---- exits
@@ -281,7 +305,7 @@ module _ (g : Setting) (code : List Op) (Local : (node x n : ℕ) → Type 0) wh
         → HasAt g code p (term_before top g f 0 e ++ o ∷ []) → (At g code (p + length (term_before top g f 0 e)) (Indirect (term_operand top g f 0 e)))
         → from g code left p m u ≡ with_final (value g f m l e) m (λ v. leaves (v % 256 ^ slice_index g.sizes g.default) m)
     exit_run e o p left m l u fits holds has there =
-        term_uses g code Local top lays f well e 0 p left m l u _ fits holds (has_front g code p (term_before top g f 0 e) (o ∷ []) has)
+        term_uses g code Local top lays well f e 0 p left m l u _ fits holds (has_front g code p (term_before top g f 0 e) (o ∷ []) has)
         (λ v w same lt reads. step g code (Indirect (term_operand top g f 0 e)) left (p + length (term_before top g f 0 e)) m w there
         ∙ ap (λ q. leaves (q % 2 ^ 64 % 256 ^ slice_index g.sizes g.default) m) (reads w (same_refl _ w)) ∙ ap (λ q. leaves q m) (value_exit v))
 
@@ -322,14 +346,14 @@ module _ (g : Setting) (code : List Op) (Local : (node x n : ℕ) → Type 0) wh
           let o = store_to z q a in
           let k = (size_of g f e).bytes in
           let back = has_back g code (base + p) ce (cq ++ o ∷ []) has in
-          let size = ap (λ (k : Size). k.bytes) (operand_size g code Local top lays f well e 0) in
+          let size = ap (λ (k : Size). k.bytes) (operand_size g code Local top lays well f e 0) in
           let len : base + p + length (ce ++ (cq ++ o ∷ [])) ≡ base + p + length ce + length cq + 1 = omega (arith, length-append ce (cq ++ o ∷ []), length-append cq (o ∷ [])) in
           record {
             by = λ left m l u le holds.
-                term_uses g code Local top lays f well e 0 (base + p) left m l u (λ v. with_final (value g f m l pointer) m (λ b. Does ss (put_bytes g z b k v (state m l left)))) fits.0 holds (has_front g code (base + p) ce _ has)
+                term_uses g code Local top lays well f e 0 (base + p) left m l u (λ v. with_final (value g f m l pointer) m (λ b. Does ss (put_bytes g z b k v (state m l left)))) fits.0 holds (has_front g code (base + p) ce _ has)
                 (λ v w same lt reads.
                 let holds1 = holds_after 0 m l u w same holds in
-                term_uses g code Local top lays f well pointer 1 (base + p + length ce) left m l w (λ b. Does ss (put_bytes g z b k v (state m l left))) fits.1 holds1 (has_front g code _ cq _ back)
+                term_uses g code Local top lays well f pointer 1 (base + p + length ce) left m l w (λ b. Does ss (put_bytes g z b k v (state m l left))) fits.1 holds1 (has_front g code _ cq _ back)
                 (λ b w' same' lt' reads'.
                 step g code (Store (amount z) q a) left (base + p + length ce + length cq) m w' (has_back g code _ cq _ back).0
                 ∙ (good_at most _ _ (Does ss) len next).by left _ l w' le (holds_stored m l w' z (value_of g.endian g.sizes q m w') a.size.bytes (value_of g.endian g.sizes a m w') (holds_after 1 m l w w' same' holds1))
@@ -340,7 +364,7 @@ module _ (g : Setting) (code : List Op) (Local : (node x n : ℕ) → Type 0) wh
                 ∙ sym (after_value (value g f m l e) m (λ v. with_value (value g f m l pointer) m (λ b. steps_run g f leap does_child ss (put_bytes g z b k v (state m l left)))) go);
           }
       step_run (s.run_user op es) ss p fits has next = record {
-        by = λ left m l u le holds. terms_stop g code Local top lays f well (chain es) op (terms_operands top g f 0 (chain es)) 0 (base + p) left m l u fits holds has;
+        by = λ left m l u le holds. terms_stop g code Local top lays well f (chain es) op (terms_operands top g f 0 (chain es)) 0 (base + p) left m l u fits holds has;
       }
       step_run (s.build i) ss p fits has next =
           let r = child_right i (base + p) (Does ss) has next in
@@ -359,7 +383,7 @@ module _ (g : Setting) (code : List Op) (Local : (node x n : ℕ) → Type 0) wh
           let under : base + (p + length ce) < 2147483648 = omega arith in
           record {
             by = λ left m l u le holds.
-                term_uses g code Local top lays f well e 0 (base + p) left m l u (λ v. if v == 0 then Does ss (state m l left) else after (goes g f leap to (state m l left)) go) fits.0 holds (has_front g code (base + p) ce _ has)
+                term_uses g code Local top lays well f e 0 (base + p) left m l u (λ v. if v == 0 then Does ss (state m l left) else after (goes g f leap to (state m l left)) go) fits.0 holds (has_front g code (base + p) ce _ has)
                 (λ v w same lt reads.
                 let holds1 = holds_after 0 m l u w same holds in
                 step g code (CBranch d a) left (base + p + length ce) m w (has_back g code (base + p) ce (o ∷ []) has).0

@@ -1,24 +1,26 @@
 -- The operations of an expression leave its value.
-use Rattle.std.proofs.Common.{◌≡◌, ℕ, ◌+◌, ◌-◌, ◌*◌, ◌/◌, ◌%◌, ◌^◌, ◌<◌, ◌≤◌, Bool, true, false, List, [], ◌∷◌, ◌++◌, length, Option, Some, None, Ok, Err, refl, sym, ap, ◌∙◌, subst, arith, append_assoc, length-append, pos, negsuc}
+use Rattle.std.proofs.Common.{◌≡◌, ℕ, ◌+◌, ◌*◌, ◌/◌, ◌%◌, ◌^◌, ◌<◌, ◌≤◌, Bool, true, false, List, [], ◌∷◌, ◌++◌, length, Option, Some, None, Ok, Err, refl, sym, ap, ◌∙◌, subst, arith, append_assoc, length-append, pos, negsuc}
 use Rattle.std.specs.Prelude.{ℤ, if◌then◌else◌, nat_le, Result}
 use Rattle.std.specs.List.{All}
 use Rattle.std.proofs.lemmas.Nat.{mod_below}
-use Rattle.std.proofs.Math.Nat.{div-one, div-le_self, mod-eq_of_lt}
+use Rattle.std.proofs.Math.Nat.{div-one}
 use Rattle.sl_faithful_code.specs.Fits.{ReferenceFits, SymbolFits, TermFits, TermsFit}
-use Rattle.sl_faithful_code.specs.Operations.{amount, at_temp, binary, call_user, constant, effect, in_space, load_from, range_of, temporary, unary}
+use Rattle.sl_faithful_code.specs.Operations.{amount, at_temp, binary, call_user, constant, in_space, load_from, range_of, temporary, unary}
 use Rattle.sl_faithful_code.specs.Runs.{Final, stops}
-use Rattle.sl_faithful_code.specs.Terms.{bits_into, code_before, copied, operand, read_into, read_leaf, size_of, symbol_into, symbol_leaf, term_before, term_into, term_operand, terms_before, terms_operands, two_operands}
-use Rattle.sl_faithful_code.proofs.Base.{Apart, At, HasAt, Holds, formed_at, from, has_back, has_front, holds_same, step, with_bind, with_final}
-use Rattle.sl_faithful_code.proofs.Bytes.{Same, number_below, put_at, read_at, read_put, read_same, same_below, same_put, same_refl, same_trans}
-use Rattle.sl_faithful_code.proofs.Numbers.{bits_below, bits_read, eight, extended, no_value_same}
+use Rattle.sl_faithful_code.specs.Bits.{bits_into}
+use Rattle.sl_faithful_code.specs.Terms.{code_before, copied, operand, read_into, read_leaf, size_of, symbol_into, symbol_leaf, term_before, term_into, term_operand, terms_before, terms_operands, two_operands}
+use Rattle.sl_faithful_code.proofs.Base.{Apart, HasAt, Holds, from, has_back, has_front, holds_same, step, with_bind, with_final}
+use Rattle.sl_faithful_code.proofs.Bytes.{Same, number_below, read_same, same_below, same_refl, same_trans}
+use Rattle.sl_faithful_code.proofs.Numbers.{eight, extended}
+use Rattle.sl_faithful_code.proofs.Bits.{bits_land}
+use Rattle.sl_faithful_code.proofs.Lands.{Lands, Uses, at_place, lands_at, lands_of_uses, placed, put_run}
+use Rattle.sl_faithful_code.proofs.Operators.{Has, binary_goes, piece_goes, unary_goes}
 use Rattle.sl_section_equations.specs.Equations.{size_at}
 use Rattle.sl_meaning_sections.specs.References.{Locals, Reference, Setting, load, local, memory, number, read, storage}
-use Rattle.sl_meaning_sections.specs.Values.{◌>>=◌, Fault, Frame, applied, bits_of, calls_user_op, divides_by_zero, fault_in, fault_or, has_no_value, ordered, reference_at, space_of, symbol_value, value}
-use Rattle.sl_pcode.specs.Machine as machine
-use Rattle.sl_pcode.specs.Machine.{Ending, Temporaries, does, put, value_of}
+use Rattle.sl_meaning_sections.specs.Values.{◌>>=◌, Fault, Frame, applied, bits_of, calls_user_op, fault_in, fault_or, ordered, reference_at, space_of, symbol_value, value}
+use Rattle.sl_pcode.specs.Machine.{Temporaries, put, value_of}
 use Rattle.sl_pcode.specs.WellFormed.{IsWellFormedOp}
-use Rattle.sl_pcode.specs.declared.effect.Effect.{Effect}
-use Rattle.sl_pcode.specs.declared.effect.Effect.TheVariants.{Unary, Binary, Load, UserOp}
+use Rattle.sl_pcode.specs.declared.effect.Effect.TheVariants.{Load, UserOp}
 use Rattle.sl_pcode.specs.declared.operation.Op.{Op}
 use Rattle.sl_pcode.specs.declared.varnode.Place2.{Place2}
 use Rattle.sl_pcode.specs.declared.varnode.Place2.TheVariants.{Unique}
@@ -29,125 +31,50 @@ use Rattle.sl_section_flat.specs.declared.term.Order.{Order}
 use Rattle.sl_section_flat.specs.declared.term.Order.TheVariants.{AsWritten, Exchanged}
 use Rattle.sl_word.specs.Memories.{Memory}
 use Rattle.sl_word.specs.Numbers.{residue, signed_value}
-use Rattle.sl_word.specs.Operations.{TakesSizes1, TakesSizes2, value1, value2}
+use Rattle.sl_word.specs.Operations.{value1}
 use Rattle.sl_word.specs.declared.operation.Op1.{Op1}
 use Rattle.sl_word.specs.declared.operation.Op1.TheVariants as one
 use Rattle.sl_word.specs.declared.operation.Op2.{Op2}
 use Rattle.sl_word.specs.declared.operation.Op2.TheVariants as two
 use Rattle.sl_word.specs.declared.word.Size.{Size}
-use Rattle.sl_word.proofs.InRange.{residue_below, value1_below, value2_below}
+use Rattle.sl_word.proofs.InRange.{residue_below}
 use Rattle.sl_word.proofs.Powers.{bytes_pos}
 
--- an operator's operation has its effect
-pub unary_effect : (f : Op1) (out a : Varnode) → effect (unary f out a) ≡ Some (Unary f out a)
-unary_effect one.Copy out a = refl
-unary_effect one.IntNegate out a = refl
-unary_effect one.Int2Comp out a = refl
-unary_effect one.BoolNegate out a = refl
-unary_effect one.IntZext out a = refl
-unary_effect one.IntSext out a = refl
-unary_effect one.PopCount out a = refl
-unary_effect one.LzCount out a = refl
-
-pub binary_effect : (f : Op2) (out a b : Varnode) → effect (binary f out a b) ≡ Some (Binary f out a b)
-binary_effect two.IntAdd out a b = refl
-binary_effect two.IntSub out a b = refl
-binary_effect two.IntMult out a b = refl
-binary_effect two.IntDiv out a b = refl
-binary_effect two.IntRem out a b = refl
-binary_effect two.IntSdiv out a b = refl
-binary_effect two.IntSrem out a b = refl
-binary_effect two.IntLeft out a b = refl
-binary_effect two.IntRight out a b = refl
-binary_effect two.IntSright out a b = refl
-binary_effect two.IntAnd out a b = refl
-binary_effect two.IntOr out a b = refl
-binary_effect two.IntXor out a b = refl
-binary_effect two.IntEqual out a b = refl
-binary_effect two.IntNotEqual out a b = refl
-binary_effect two.IntLess out a b = refl
-binary_effect two.IntLessEqual out a b = refl
-binary_effect two.IntSless out a b = refl
-binary_effect two.IntSlessEqual out a b = refl
-binary_effect two.IntCarry out a b = refl
-binary_effect two.IntScarry out a b = refl
-binary_effect two.IntSborrow out a b = refl
-binary_effect two.BoolAnd out a b = refl
-binary_effect two.BoolOr out a b = refl
-binary_effect two.BoolXor out a b = refl
-binary_effect two.Subpiece out a b = refl
-
--- a varnode of this size
-abbrev pub placed : Place2 → (offset : ℕ) → Size → Varnode
-placed place offset n = record { place = place; offset = offset; size = n }
-
--- ---- a list, and what follows in it
-
 module _ (g : Setting) (code : List Op) where
-  -- from a place on, where a value is put into a varnode, the run ends so
-  abbrev pub Lands : (left q t : ℕ) → Varnode → Memory → Temporaries → (ℕ → Final) → Type 0
-  Lands left q t out m u go =
-      (v : ℕ) (u' : Temporaries) → Same t u u' → v < 256 ^ out.size.bytes → put g.endian g.sizes out v m u' (from g code left q) ≡ go v
-
-  -- from a place on, where a varnode has a value of n bytes, the run ends so
-  abbrev pub Uses : (left q t : ℕ) → Varnode → (n : ℕ) → Memory → Temporaries → (ℕ → Final) → Type 0
-  Uses left q t a n m u go =
-      (v : ℕ) (u' : Temporaries) → Same t u u' → v < 256 ^ n → ((u'' : Temporaries) → Same (t + 16) u' u'' → value_of g.endian g.sizes a m u'' ≡ v) → from g code left q m u' ≡ go v
-
-  -- an operation that puts a value into a varnode
-  pub put_run : (e : Effect) (out : Varnode) (x p left t : ℕ) (m : Memory) (u u' : Temporaries) (go : ℕ → Final) → At g code p e
-      → ((next : Memory → Temporaries → Final) (jump : ℕ → Final) (leave fault : Ending → Final) → does g.endian g.sizes e m u' next jump leave fault ≡ put g.endian g.sizes out x m u' next)
-      → x < 256 ^ out.size.bytes → Same t u u' → Lands left (p + 1) t out m u go → from g code left p m u' ≡ go x
-  put_run e out x p left t m u u' go has is lt same lands =
-      step g code e left p m u' has ∙ is _ _ _ _ ∙ lands x u' same lt
-
-  -- an operation that puts a value into a temporary; what follows is known of all temporary bytes that have it there
-  pub temp_run : (e : Effect) (o : ℕ) (n : Size) (x p left : ℕ) (m : Memory) (u : Temporaries) (end : Final) → At g code p e
-      → ((next : Memory → Temporaries → Final) (jump : ℕ → Final) (leave fault : Ending → Final) → does g.endian g.sizes e m u next jump leave fault ≡ put g.endian g.sizes (temporary o n) x m u next)
-      → x < 256 ^ n.bytes → ((u' : Temporaries) → Same o u u' → read_at g.endian u' o n.bytes ≡ x → from g code left (p + 1) m u' ≡ end) → from g code left p m u ≡ end
-  temp_run e o n x p left m u end has is lt follows =
-      step g code e left p m u has ∙ is _ _ _ _ ∙ follows (put_at g.endian u o n.bytes x) (same_put g.endian o n.bytes x u) (read_put g.endian o n.bytes x u lt)
-
-  -- what uses a temporary follows where a value is put there
-  pub lands_of_uses : (left q o : ℕ) (n : Size) (m : Memory) (u : Temporaries) (go : ℕ → Final) → Uses left q o (temporary o n) n.bytes m u go → Lands left q o (temporary o n) m u go
-  lands_of_uses left q o n m u go uses v u' same lt =
-      uses v (put_at g.endian u' o n.bytes v) (same_trans o o u u' _ (omega arith) same (same_put g.endian o n.bytes v u')) lt
-      (λ u'' same'. read_same g.endian (o + 16) o n.bytes (put_at g.endian u' o n.bytes v) u'' (omega (arith, n.at_most_16)) same' ∙ read_put g.endian o n.bytes v u' lt)
-
-  -- the same place
-  pub at_place : (left p q : ℕ) (m : Memory) (u : Temporaries) → p ≡ q → from g code left p m u ≡ from g code left q m u
-  at_place left p q m u e = ap (λ r. from g code left r m u) e
-
-  pub lands_at : (left q q' t : ℕ) (out : Varnode) (m : Memory) (u : Temporaries) (go : ℕ → Final) → q ≡ q' → Lands left q t out m u go → Lands left q' t out m u go
-  lands_at left q q' t out m u go e lands = subst (λ r. Lands left r t out m u go) e lands
-
-  module _ (Local : (node x n : ℕ) → Type 0) (top : ℕ) (lays : Apart Local top) where
+  module _ (Local : (node x n : ℕ) → Type 0) (top : ℕ) (lays : Apart Local top) (well : All (IsWellFormedOp g.sizes) code) where
     abbrev pub temp : ℕ → ℕ
     temp t = top + t * 16
 
+    -- an operation of one operand puts its value into a varnode
+    unary_put : (op : Op1) (a : Varnode) (place : Place2) (offset : ℕ) (n : Size) (x p left t : ℕ) (m : Memory) (u u' : Temporaries) (go : ℕ → Final) → value_of g.endian g.sizes a m u' ≡ x → x < 256 ^ a.size.bytes
+        → Has g code well p (unary op (placed place offset n) a) → Same t u u' → Lands g code left (p + 1) t (placed place offset n) m u go → from g code left p m u' ≡ go (value1 op a.size.bytes n.bytes x)
+    unary_put op a place offset n x p left t m u u' go ex hx has same lands =
+        unary_goes g code well op (placed place offset n) a x p left m u' go ex hx has (λ v lt. lands v u' same lt)
+
     -- ---- references
+
+    eight_low : (z : ℤ) → residue 8 z < 256 ^ (size_at 8).bytes
+    eight_low z = subst (λ k. residue 8 z < 256 ^ k) (sym eight) (residue_below 8 z)
 
     number_uses : (b : Bool) (z : ℤ) (n : Size) (t p left : ℕ) (m : Memory) (u : Temporaries) (go : ℕ → Final) → residue n.bytes (signed_value 8 (residue 8 z)) ≡ residue n.bytes z
         → let leaf : Option Varnode = if b then Some (constant (residue n.bytes z) n) else None in
         let ops = code_before leaf (copied leaf (at_temp top t n) (unary one.IntSext (at_temp top t n) (constant (residue 8 z) (size_at 8)) ∷ [])) in
-        HasAt g code p ops → Uses left (p + length ops) (temp t) (operand leaf (at_temp top t n)) n.bytes m u go → from g code left p m u ≡ go (residue n.bytes z)
+        HasAt g code p ops → Uses g code left (p + length ops) (temp t) (operand leaf (at_temp top t n)) n.bytes m u go → from g code left p m u ≡ go (residue n.bytes z)
     number_uses true z n t p left m u go is has uses =
-        at_place left p (p + 0) m u (omega arith) ∙ uses (residue n.bytes z) u (same_refl (temp t) u) (residue_below n.bytes z) (λ u'' same. refl)
+        at_place g code left p (p + 0) m u (omega arith) ∙ uses (residue n.bytes z) u (same_refl (temp t) u) (residue_below n.bytes z) (λ u'' same. refl)
     number_uses false z n t p left m u go is has uses =
-        put_run (Unary one.IntSext (at_temp top t n) (constant (residue 8 z) (size_at 8))) (at_temp top t n) (residue n.bytes z) p left (temp t) m u u go has.0
-        (λ next jump leave fault. ap (λ k. put g.endian g.sizes (at_temp top t n) (residue n.bytes (signed_value k (residue 8 z))) m u next) eight ∙ ap (λ x. put g.endian g.sizes (at_temp top t n) x m u next) is)
-        (residue_below n.bytes z) (same_refl (temp t) u) (lands_of_uses left (p + 1) (temp t) n m u go uses)
+        unary_put one.IntSext (constant (residue 8 z) (size_at 8)) Unique (temp t) n (residue 8 z) p left (temp t) m u u go refl (eight_low z) has.0 (same_refl (temp t) u) (lands_of_uses g code left (p + 1) (temp t) n m u go uses)
+        ∙ ap (λ k. go (residue n.bytes (signed_value k (residue 8 z)))) eight ∙ ap go is
 
     number_lands : (b : Bool) (z : ℤ) (place : Place2) (offset : ℕ) (n : Size) (t p left : ℕ) (m : Memory) (u : Temporaries) (go : ℕ → Final) → residue n.bytes (signed_value 8 (residue 8 z)) ≡ residue n.bytes z
         → let leaf : Option Varnode = if b then Some (constant (residue n.bytes z) n) else None in
         let ops = copied leaf (placed place offset n) (unary one.IntSext (placed place offset n) (constant (residue 8 z) (size_at 8)) ∷ []) in
-        HasAt g code p ops → Lands left (p + length ops) (temp t) (placed place offset n) m u go → from g code left p m u ≡ go (residue n.bytes z)
+        HasAt g code p ops → Lands g code left (p + length ops) (temp t) (placed place offset n) m u go → from g code left p m u ≡ go (residue n.bytes z)
     number_lands true z place offset n t p left m u go is has lands =
-        put_run (Unary one.Copy (placed place offset n) (constant (residue n.bytes z) n)) (placed place offset n) (residue n.bytes z) p left (temp t) m u u go has.0 (λ next jump leave fault. refl) (residue_below n.bytes z) (same_refl (temp t) u) lands
+        unary_put one.Copy (constant (residue n.bytes z) n) place offset n (residue n.bytes z) p left (temp t) m u u go refl (residue_below n.bytes z) has.0 (same_refl (temp t) u) lands
     number_lands false z place offset n t p left m u go is has lands =
-        put_run (Unary one.IntSext (placed place offset n) (constant (residue 8 z) (size_at 8))) (placed place offset n) (residue n.bytes z) p left (temp t) m u u go has.0
-        (λ next jump leave fault. ap (λ k. put g.endian g.sizes (placed place offset n) (residue n.bytes (signed_value k (residue 8 z))) m u next) eight ∙ ap (λ x. put g.endian g.sizes (placed place offset n) x m u next) is)
-        (residue_below n.bytes z) (same_refl (temp t) u) lands
+        unary_put one.IntSext (constant (residue 8 z) (size_at 8)) place offset n (residue 8 z) p left (temp t) m u u go refl (eight_low z) has.0 (same_refl (temp t) u) lands
+        ∙ ap (λ k. go (residue n.bytes (signed_value k (residue 8 z)))) eight ∙ ap go is
 
     loaded_below : (m : Memory) (space offset n : ℕ) → ((z o : ℕ) → m z o < 256) → load g m space offset n < 256 ^ n
     loaded_below m space offset n low = number_below g.endian _ n (λ i. low space _)
@@ -155,12 +82,12 @@ module _ (g : Setting) (code : List Op) where
     abbrev pub ReferenceUses : Reference → Size → Type 0
     ReferenceUses r n = (t p left : ℕ) (m : Memory) (l : Locals) (u : Temporaries) (go : ℕ → Final) → ReferenceFits Local r n.bytes → Holds g.endian Local m l u
         → HasAt g code p (code_before (read_leaf r n) (read_into top t r (at_temp top t n)))
-        → Uses left (p + length (code_before (read_leaf r n) (read_into top t r (at_temp top t n)))) (temp t) (operand (read_leaf r n) (at_temp top t n)) n.bytes m u go
+        → Uses g code left (p + length (code_before (read_leaf r n) (read_into top t r (at_temp top t n)))) (temp t) (operand (read_leaf r n) (at_temp top t n)) n.bytes m u go
         → from g code left p m u ≡ go (read g m l r n.bytes)
 
     memory_lands : (space : ℕ) (pointer : Reference) (width : Size) → ReferenceUses pointer width → (place : Place2) (offset : ℕ) (n : Size) (t p left : ℕ) (m : Memory) (l : Locals) (u : Temporaries) (go : ℕ → Final) → ReferenceFits Local pointer width.bytes → Holds g.endian Local m l u
         → let ops = code_before (read_leaf pointer width) (read_into top t pointer (at_temp top t width)) ++ load_from (placed place offset n) space (operand (read_leaf pointer width) (at_temp top t width)) ∷ [] in
-        HasAt g code p ops → Lands left (p + length ops) (temp t) (placed place offset n) m u go → from g code left p m u ≡ go (load g m space (read g m l pointer width.bytes) n.bytes)
+        HasAt g code p ops → Lands g code left (p + length ops) (temp t) (placed place offset n) m u go → from g code left p m u ≡ go (load g m space (read g m l pointer width.bytes) n.bytes)
     memory_lands space pointer width pointer_uses place offset n t p left m l u go fits holds has lands =
         let before = code_before (read_leaf pointer width) (read_into top t pointer (at_temp top t width)) in
         let a = operand (read_leaf pointer width) (at_temp top t width) in
@@ -168,78 +95,50 @@ module _ (g : Setting) (code : List Op) where
         let len : p + length (before ++ o ∷ []) ≡ p + length before + 1 = omega (arith, length-append before (o ∷ [])) in
         pointer_uses t p left m l u (λ v. go (load g m space v n.bytes)) fits holds (has_front g code p before (o ∷ []) has)
         (λ v u' same lt reads.
-        put_run (Load (placed place offset n) (amount space) a) (placed place offset n) (load g m space v n.bytes) (p + length before) left (temp t) m u u' go (has_back g code p before (o ∷ []) has).0
+        put_run g code (Load (placed place offset n) (amount space) a) (placed place offset n) (load g m space v n.bytes) (p + length before) left (temp t) m u u' go (has_back g code p before (o ∷ []) has).0
         (λ next jump leave fault. ap (λ x. put g.endian g.sizes (placed place offset n) (load g m space x n.bytes) m u' next) (reads u' (same_refl _ u')))
-        (loaded_below m space v n.bytes holds.memory) same (lands_at left _ _ (temp t) (placed place offset n) m u go len lands))
+        (loaded_below m space v n.bytes holds.memory) same (lands_at g code left _ _ (temp t) (placed place offset n) m u go len lands))
 
     pub reference_uses : (r : Reference) (n : Size) → ReferenceUses r n
     reference_uses (storage space offset size) n t p left m l u go fits holds has uses =
-        at_place left p (p + 0) m u (omega arith)
+        at_place g code left p (p + 0) m u (omega arith)
         ∙ uses (load g m space offset n.bytes) u (same_refl (temp t) u) (loaded_below m space offset n.bytes holds.memory) (λ u'' same. refl)
     reference_uses (local k x size) n t p left m l u go fits holds has uses =
         let b = lays.below k x n.bytes fits in
-        at_place left p (p + 0) m u (omega arith)
+        at_place g code left p (p + 0) m u (omega arith)
         ∙ uses (l k x) u (same_refl (temp t) u) (subst (λ v. v < 256 ^ n.bytes) (holds.at k x n.bytes fits) (number_below g.endian (λ i. u (range_of k x + i)) n.bytes (λ i. holds.low (range_of k x + i))))
         (λ u'' same. read_same g.endian (temp t + 16) (range_of k x) n.bytes u u'' (omega arith) same ∙ holds.at k x n.bytes fits)
     reference_uses (number (pos v)) n t p left m l u go fits holds has uses =
-        at_place left p (p + 0) m u (omega arith)
+        at_place g code left p (p + 0) m u (omega arith)
         ∙ uses (residue n.bytes (pos v)) u (same_refl (temp t) u) (residue_below n.bytes (pos v)) (λ u'' same. refl)
     reference_uses (number (negsuc v)) n t p left m l u go fits holds has uses =
         number_uses (nat_le n.bytes 8) (negsuc v) n t p left m u go (extended v n.bytes fits) has uses
     reference_uses (memory space size pointer width) n t p left m l u go fits holds has uses =
-        memory_lands space pointer width (λ t p left m l u go. reference_uses pointer width t p left m l u go) Unique (temp t) n t p left m l u go fits holds has (lands_of_uses left _ (temp t) n m u go uses)
+        memory_lands space pointer width (λ t p left m l u go. reference_uses pointer width t p left m l u go) Unique (temp t) n t p left m l u go fits holds has (lands_of_uses g code left _ (temp t) n m u go uses)
 
     pub reference_lands : (r : Reference) (place : Place2) (offset : ℕ) (n : Size) (t p left : ℕ) (m : Memory) (l : Locals) (u : Temporaries) (go : ℕ → Final) → ReferenceFits Local r n.bytes → Holds g.endian Local m l u
-        → HasAt g code p (read_into top t r (placed place offset n)) → Lands left (p + length (read_into top t r (placed place offset n))) (temp t) (placed place offset n) m u go
+        → HasAt g code p (read_into top t r (placed place offset n)) → Lands g code left (p + length (read_into top t r (placed place offset n))) (temp t) (placed place offset n) m u go
         → from g code left p m u ≡ go (read g m l r n.bytes)
     reference_lands (storage space o size) place offset n t p left m l u go fits holds has lands =
-        put_run (Unary one.Copy (placed place offset n) (in_space space o n)) (placed place offset n) (load g m space o n.bytes) p left (temp t) m u u go has.0 (λ next jump leave fault. refl) (loaded_below m space o n.bytes holds.memory) (same_refl (temp t) u) lands
+        unary_put one.Copy (in_space space o n) place offset n (load g m space o n.bytes) p left (temp t) m u u go refl (loaded_below m space o n.bytes holds.memory) has.0 (same_refl (temp t) u) lands
     reference_lands (local k x size) place offset n t p left m l u go fits holds has lands =
-        put_run (Unary one.Copy (placed place offset n) (temporary (range_of k x) n)) (placed place offset n) (l k x) p left (temp t) m u u go has.0
-        (λ next jump leave fault. ap (λ v. put g.endian g.sizes (placed place offset n) v m u next) (holds.at k x n.bytes fits))
-        (subst (λ v. v < 256 ^ n.bytes) (holds.at k x n.bytes fits) (number_below g.endian (λ i. u (range_of k x + i)) n.bytes (λ i. holds.low (range_of k x + i)))) (same_refl (temp t) u) lands
+        unary_put one.Copy (temporary (range_of k x) n) place offset n (l k x) p left (temp t) m u u go (holds.at k x n.bytes fits)
+        (subst (λ v. v < 256 ^ n.bytes) (holds.at k x n.bytes fits) (number_below g.endian (λ i. u (range_of k x + i)) n.bytes (λ i. holds.low (range_of k x + i)))) has.0 (same_refl (temp t) u) lands
     reference_lands (number (pos v)) place offset n t p left m l u go fits holds has lands =
-        put_run (Unary one.Copy (placed place offset n) (constant (residue n.bytes (pos v)) n)) (placed place offset n) (residue n.bytes (pos v)) p left (temp t) m u u go has.0 (λ next jump leave fault. refl) (residue_below n.bytes (pos v)) (same_refl (temp t) u) lands
+        unary_put one.Copy (constant (residue n.bytes (pos v)) n) place offset n (residue n.bytes (pos v)) p left (temp t) m u u go refl (residue_below n.bytes (pos v)) has.0 (same_refl (temp t) u) lands
     reference_lands (number (negsuc v)) place offset n t p left m l u go fits holds has lands =
         number_lands (nat_le n.bytes 8) (negsuc v) place offset n t p left m u go (extended v n.bytes fits) has lands
     reference_lands (memory space size pointer width) place offset n t p left m l u go fits holds has lands =
         memory_lands space pointer width (reference_uses pointer width) place offset n t p left m l u go fits holds has lands
 
-    -- ---- bits
-
-    -- what is read has this value as long as what lies below stays
-    pub bits_land : (a : Varnode) (low count t : ℕ) (place : Place2) (offset : ℕ) (n : Size) (p left : ℕ) (m : Memory) (u u' : Temporaries) (go : ℕ → Final) (v : ℕ) → low + count ≤ 8 * a.size.bytes → count ≤ 8 * n.bytes → value_of g.endian g.sizes a m u' ≡ v
-        → HasAt g code p (bits_into top t a low count (placed place offset n)) → Same (temp t) u u' → Lands left (p + 3) (temp t) (placed place offset n) m u go → from g code left p m u' ≡ go (bits_of low count v)
-    bits_land a low count t place offset n p left m u u' go v fits few is has same lands =
-        let w = a.size.bytes in
-        let up : ℕ = 8 * w - (low + count) in
-        let down : ℕ = 8 * w - count in
-        let x : ℕ = (v * 2 ^ up) % 256 ^ w in
-        let y : ℕ = x / 2 ^ down in
-        let tmp = at_temp top t a.size in
-        let out = placed place offset n in
-        let x_low : x < 256 ^ w = mod_below (v * 2 ^ up) (256 ^ w) (bytes_pos w) in
-        let y_is : y ≡ bits_of low count v = bits_read w v low count fits in
-        let y_low : y < 256 ^ w = let d = div-le_self x (2 ^ down) in omega arith in
-        let b_low = bits_below n.bytes v low count few in
-        let last : y / 1 % 256 ^ n.bytes ≡ bits_of low count v = ap (λ q. q % 256 ^ n.bytes) (div-one y ∙ y_is) ∙ mod-eq_of_lt b_low in
-        temp_run (Binary two.IntLeft tmp a (amount up)) (temp t) a.size x p left m u' _ has.0
-        (λ next jump leave fault. ap (λ q. put g.endian g.sizes tmp ((q * 2 ^ up) % 256 ^ w) m u' next) is) x_low
-        (λ u1 same1 read1. temp_run (Binary two.IntRight tmp tmp (amount down)) (temp t) a.size y (p + 1) left m u1 _ has.1.0
-        (λ next jump leave fault. ap (λ q. put g.endian g.sizes tmp (q / 2 ^ down) m u1 next) read1) y_low
-        (λ u2 same2 read2. put_run (Binary two.Subpiece out tmp (amount 0)) out (bits_of low count v) (p + 1 + 1) left (temp t) m u u2 go has.1.1.0
-        (λ next jump leave fault. ap (λ q. put g.endian g.sizes out (q / 1 % 256 ^ n.bytes) m u2 next) read2 ∙ ap (λ q. put g.endian g.sizes out q m u2 next) last)
-        b_low (same_trans (temp t) (temp t) u u1 u2 (omega arith) (same_trans (temp t) (temp t) u u' u1 (omega arith) same same1) same2)
-        (lands_at left (p + 3) (p + 1 + 1 + 1) (temp t) out m u go (omega arith) lands)))
-
     -- ---- names, expressions
 
-    module _ (f : Frame) (well : All (IsWellFormedOp g.sizes) code) where
+    module _ (f : Frame) where
       pub symbol_lands : (a : Symbol) (place : Place2) (offset : ℕ) (n : Size) (t p left : ℕ) (m : Memory) (l : Locals) (u : Temporaries) (go : ℕ → Final) → SymbolFits Local g f a n.bytes → Holds g.endian Local m l u
-          → HasAt g code p (symbol_into top g f t a (placed place offset n)) → Lands left (p + length (symbol_into top g f t a (placed place offset n))) (temp t) (placed place offset n) m u go
+          → HasAt g code p (symbol_into top g f t a (placed place offset n)) → Lands g code left (p + length (symbol_into top g f t a (placed place offset n))) (temp t) (placed place offset n) m u go
           → from g code left p m u ≡ go (symbol_value g f m l a n.bytes)
       symbol_lands (s.bit_range space o k low count) place offset n t p left m l u go fits holds has lands =
-          bits_land (in_space space o (size_at k)) low count t place offset n p left m u u go (load g m space o (size_at k).bytes) fits.0 fits.1 refl has (same_refl (temp t) u) lands
+          bits_land g code well top (in_space space o (size_at k)) low count t place offset n p left m u u go (load g m space o (size_at k).bytes) fits.0 fits.1 (loaded_below m space o (size_at k).bytes holds.memory) (λ u'' same'. refl) (same_refl (temp t) u) has lands
       symbol_lands (s.register space o k) place offset n t p left m l u go fits holds has lands = reference_lands (storage space o (size_at k)) place offset n t p left m l u go fits holds has lands
       symbol_lands (s.local x) place offset n t p left m l u go fits holds has lands = reference_lands (local f.node x (f.size x)) place offset n t p left m l u go fits holds has lands
       symbol_lands (s.table i) place offset n t p left m l u go fits holds has lands = reference_lands (reference_at f.refs i) place offset n t p left m l u go fits holds has lands
@@ -251,10 +150,10 @@ module _ (g : Setting) (code : List Op) where
 
       pub symbol_uses : (a : Symbol) (n : Size) (t p left : ℕ) (m : Memory) (l : Locals) (u : Temporaries) (go : ℕ → Final) → SymbolFits Local g f a n.bytes → Holds g.endian Local m l u
           → HasAt g code p (code_before (symbol_leaf g f a n) (symbol_into top g f t a (at_temp top t n)))
-          → Uses left (p + length (code_before (symbol_leaf g f a n) (symbol_into top g f t a (at_temp top t n)))) (temp t) (operand (symbol_leaf g f a n) (at_temp top t n)) n.bytes m u go
+          → Uses g code left (p + length (code_before (symbol_leaf g f a n) (symbol_into top g f t a (at_temp top t n)))) (temp t) (operand (symbol_leaf g f a n) (at_temp top t n)) n.bytes m u go
           → from g code left p m u ≡ go (symbol_value g f m l a n.bytes)
       symbol_uses (s.bit_range space o k low count) n t p left m l u go fits holds has uses =
-          symbol_lands (s.bit_range space o k low count) Unique (temp t) n t p left m l u go fits holds has (lands_of_uses left _ (temp t) n m u go uses)
+          symbol_lands (s.bit_range space o k low count) Unique (temp t) n t p left m l u go fits holds has (lands_of_uses g code left _ (temp t) n m u go uses)
       symbol_uses (s.register space o k) n t p left m l u go fits holds has uses = reference_uses (storage space o (size_at k)) n t p left m l u go fits holds has uses
       symbol_uses (s.local x) n t p left m l u go fits holds has uses = reference_uses (local f.node x (f.size x)) n t p left m l u go fits holds has uses
       symbol_uses (s.table i) n t p left m l u go fits holds has uses = reference_uses (reference_at f.refs i) n t p left m l u go fits holds has uses
@@ -266,29 +165,29 @@ module _ (g : Setting) (code : List Op) where
 
       abbrev pub TermLands : Term → Type 0
       TermLands e = (place : Place2) (offset t p left : ℕ) (m : Memory) (l : Locals) (u : Temporaries) (go : ℕ → Final) → TermFits Local g f e → Holds g.endian Local m l u
-          → HasAt g code p (term_into top g f t e (placed place offset (size_of g f e))) → Lands left (p + length (term_into top g f t e (placed place offset (size_of g f e)))) (temp t) (placed place offset (size_of g f e)) m u go
+          → HasAt g code p (term_into top g f t e (placed place offset (size_of g f e))) → Lands g code left (p + length (term_into top g f t e (placed place offset (size_of g f e)))) (temp t) (placed place offset (size_of g f e)) m u go
           → from g code left p m u ≡ with_final (value g f m l e) m go
 
       abbrev pub TermUses : Term → Type 0
       TermUses e = (t p left : ℕ) (m : Memory) (l : Locals) (u : Temporaries) (go : ℕ → Final) → TermFits Local g f e → Holds g.endian Local m l u
-          → HasAt g code p (term_before top g f t e) → Uses left (p + length (term_before top g f t e)) (temp t) (term_operand top g f t e) (size_of g f e).bytes m u go
+          → HasAt g code p (term_before top g f t e) → Uses g code left (p + length (term_before top g f t e)) (temp t) (term_operand top g f t e) (size_of g f e).bytes m u go
           → from g code left p m u ≡ with_final (value g f m l e) m go
 
       -- what has a varnode of its own is read there, anything else from a temporary
       pub uses_of_lands : (e : Term) → TermLands e → TermUses e
       uses_of_lands (s.number v x) ih t p left m l u go fits holds has uses =
-          at_place left p (p + 0) m u (omega arith) ∙ uses (v % 256 ^ (f.size x).bytes) u (same_refl (temp t) u) (mod_below v (256 ^ (f.size x).bytes) (bytes_pos (f.size x).bytes)) (λ u'' same. refl)
+          at_place g code left p (p + 0) m u (omega arith) ∙ uses (v % 256 ^ (f.size x).bytes) u (same_refl (temp t) u) (mod_below v (256 ^ (f.size x).bytes) (bytes_pos (f.size x).bytes)) (λ u'' same. refl)
       uses_of_lands (s.sized v k x) ih t p left m l u go fits holds has uses =
-          at_place left p (p + 0) m u (omega arith) ∙ uses (v % 256 ^ (f.size x).bytes) u (same_refl (temp t) u) (mod_below v (256 ^ (f.size x).bytes) (bytes_pos (f.size x).bytes)) (λ u'' same. refl)
+          at_place g code left p (p + 0) m u (omega arith) ∙ uses (v % 256 ^ (f.size x).bytes) u (same_refl (temp t) u) (mod_below v (256 ^ (f.size x).bytes) (bytes_pos (f.size x).bytes)) (λ u'' same. refl)
       uses_of_lands (s.name a x) ih t p left m l u go fits holds has uses = symbol_uses a (f.size x) t p left m l u go fits holds has uses
       uses_of_lands (s.paren e x) ih t p left m l u go fits holds has uses = uses_of_lands e ih t p left m l u go fits holds has uses
-      uses_of_lands (s.kept e k x) ih t p left m l u go fits holds has uses = ih Unique (temp t) t p left m l u go fits holds has (lands_of_uses left _ (temp t) (f.size x) m u go uses)
-      uses_of_lands (s.dropped e k x) ih t p left m l u go fits holds has uses = ih Unique (temp t) t p left m l u go fits holds has (lands_of_uses left _ (temp t) (f.size x) m u go uses)
-      uses_of_lands (s.bits e low count x) ih t p left m l u go fits holds has uses = ih Unique (temp t) t p left m l u go fits holds has (lands_of_uses left _ (temp t) (f.size x) m u go uses)
-      uses_of_lands (s.load space k e x) ih t p left m l u go fits holds has uses = ih Unique (temp t) t p left m l u go fits holds has (lands_of_uses left _ (temp t) (f.size x) m u go uses)
-      uses_of_lands (s.one op e x) ih t p left m l u go fits holds has uses = ih Unique (temp t) t p left m l u go fits holds has (lands_of_uses left _ (temp t) (f.size x) m u go uses)
-      uses_of_lands (s.two op order a b x) ih t p left m l u go fits holds has uses = ih Unique (temp t) t p left m l u go fits holds has (lands_of_uses left _ (temp t) (f.size x) m u go uses)
-      uses_of_lands (s.user op es x) ih t p left m l u go fits holds has uses = ih Unique (temp t) t p left m l u go fits holds has (lands_of_uses left _ (temp t) (f.size x) m u go uses)
+      uses_of_lands (s.kept e k x) ih t p left m l u go fits holds has uses = ih Unique (temp t) t p left m l u go fits holds has (lands_of_uses g code left _ (temp t) (f.size x) m u go uses)
+      uses_of_lands (s.dropped e k x) ih t p left m l u go fits holds has uses = ih Unique (temp t) t p left m l u go fits holds has (lands_of_uses g code left _ (temp t) (f.size x) m u go uses)
+      uses_of_lands (s.bits e low count x) ih t p left m l u go fits holds has uses = ih Unique (temp t) t p left m l u go fits holds has (lands_of_uses g code left _ (temp t) (f.size x) m u go uses)
+      uses_of_lands (s.load space k e x) ih t p left m l u go fits holds has uses = ih Unique (temp t) t p left m l u go fits holds has (lands_of_uses g code left _ (temp t) (f.size x) m u go uses)
+      uses_of_lands (s.one op e x) ih t p left m l u go fits holds has uses = ih Unique (temp t) t p left m l u go fits holds has (lands_of_uses g code left _ (temp t) (f.size x) m u go uses)
+      uses_of_lands (s.two op order a b x) ih t p left m l u go fits holds has uses = ih Unique (temp t) t p left m l u go fits holds has (lands_of_uses g code left _ (temp t) (f.size x) m u go uses)
+      uses_of_lands (s.user op es x) ih t p left m l u go fits holds has uses = ih Unique (temp t) t p left m l u go fits holds has (lands_of_uses g code left _ (temp t) (f.size x) m u go uses)
 
       -- ---- the size of what is read
 
@@ -329,51 +228,38 @@ module _ (g : Setting) (code : List Op) where
 
       -- ---- operators
 
-      value2_low : (op : Op2) (sa sb out b x y : ℕ) → 1 ≤ out → TakesSizes2 op sa sb out b → x < 256 ^ sa → y < 256 ^ sb → value2 op sa out x y < 256 ^ out
-      value2_low two.Subpiece sa sb out b x y one sizes hx hy = mod_below (x / 256 ^ y) (256 ^ out) (bytes_pos out)
-      value2_low op sa sb out b x y one sizes hx hy = value2_below op sa sb out x y one sizes hx hy
-
       binary_run : (op : Op2) (a b : Varnode) (place : Place2) (offset : ℕ) (n : Size) (x y q left t : ℕ) (m : Memory) (u u' : Temporaries) (go : ℕ → Final)
           → value_of g.endian g.sizes a m u' ≡ x → value_of g.endian g.sizes b m u' ≡ y → x < 256 ^ a.size.bytes → y < 256 ^ b.size.bytes
-          → At g code q (Binary op (placed place offset n) a b) → Same (temp t) u u' → Lands left (q + 1) (temp t) (placed place offset n) m u go
+          → Has g code well q (binary op (placed place offset n) a b) → Same (temp t) u u' → Lands g code left (q + 1) (temp t) (placed place offset n) m u go
           → from g code left q m u' ≡ with_final (applied op a.size.bytes n.bytes x y) m go
       binary_run op a b place offset n x y q left t m u u' go ex ey hx hy has same lands =
-          let out = placed place offset n in
-          let formed = formed_at g code (Binary op out a b) q well has in
-          let next = from g code left (q + 1) in
-          step g code (Binary op out a b) left q m u' has
-          ∙ ap (λ w. if machine.has_no_value op w then stops divides_by_zero m else put g.endian g.sizes out (value2 op a.size.bytes n.bytes (value_of g.endian g.sizes a m u') w) m u' next) ey
-          ∙ ap (λ w. if machine.has_no_value op y then stops divides_by_zero m else put g.endian g.sizes out (value2 op a.size.bytes n.bytes w y) m u' next) ex
-          ∙ ap (λ c. if c then stops divides_by_zero m else put g.endian g.sizes out (value2 op a.size.bytes n.bytes x y) m u' next) (no_value_same op y)
-          ∙ chosen (has_no_value op y) (value2 op a.size.bytes n.bytes x y) (value2_low op a.size.bytes b.size.bytes n.bytes b.offset x y n.some formed.0 hx hy)
-        where
-          chosen : (c : Bool) (w : ℕ) → w < 256 ^ n.bytes → (if c then stops divides_by_zero m else put g.endian g.sizes (placed place offset n) w m u' (from g code left (q + 1))) ≡ with_final (if c then Err divides_by_zero else Ok w) m go
-          chosen true w lt = refl
-          chosen false w lt = lands w u' same lt
+          binary_goes g code well op (placed place offset n) a b x y q left m u' go ex ey hx hy has (λ v lt. lands v u' same lt)
 
       ordered_run : (op : Op2) (order : Order) (a b : Varnode) (na nb : Size) (place : Place2) (offset : ℕ) (n : Size) (x y q left t : ℕ) (m : Memory) (u u' : Temporaries) (go : ℕ → Final)
           → a.size ≡ na → b.size ≡ nb → value_of g.endian g.sizes a m u' ≡ x → value_of g.endian g.sizes b m u' ≡ y → x < 256 ^ na.bytes → y < 256 ^ nb.bytes
-          → HasAt g code q (two_operands op order (placed place offset n) a b ∷ []) → Same (temp t) u u' → Lands left (q + 1) (temp t) (placed place offset n) m u go
+          → HasAt g code q (two_operands op order (placed place offset n) a b ∷ []) → Same (temp t) u u' → Lands g code left (q + 1) (temp t) (placed place offset n) m u go
           → from g code left q m u' ≡ with_final (ordered op order na.bytes nb.bytes n.bytes x y) m go
       ordered_run op AsWritten a b na nb place offset n x y q left t m u u' go sa sb ex ey hx hy has same lands =
-          binary_run op a b place offset n x y q left t m u u' go ex ey (subst (λ (k : Size). x < 256 ^ k.bytes) (sym sa) hx) (subst (λ (k : Size). y < 256 ^ k.bytes) (sym sb) hy) (has.0 ∙ ap Some (binary_effect op (placed place offset n) a b)) same lands
+          binary_run op a b place offset n x y q left t m u u' go ex ey (subst (λ (k : Size). x < 256 ^ k.bytes) (sym sa) hx) (subst (λ (k : Size). y < 256 ^ k.bytes) (sym sb) hy) has.0 same lands
           ∙ ap (λ (k : Size). with_final (applied op k.bytes n.bytes x y) m go) sa
       ordered_run op Exchanged a b na nb place offset n x y q left t m u u' go sa sb ex ey hx hy has same lands =
-          binary_run op b a place offset n y x q left t m u u' go ey ex (subst (λ (k : Size). y < 256 ^ k.bytes) (sym sb) hy) (subst (λ (k : Size). x < 256 ^ k.bytes) (sym sa) hx) (has.0 ∙ ap Some (binary_effect op (placed place offset n) b a)) same lands
+          binary_run op b a place offset n y x q left t m u u' go ey ex (subst (λ (k : Size). y < 256 ^ k.bytes) (sym sb) hy) (subst (λ (k : Size). x < 256 ^ k.bytes) (sym sa) hx) has.0 same lands
           ∙ ap (λ (k : Size). with_final (applied op k.bytes n.bytes y x) m go) sb
 
       unary_run : (op : Op1) (a : Varnode) (na : Size) (place : Place2) (offset : ℕ) (n : Size) (x q left t : ℕ) (m : Memory) (u u' : Temporaries) (go : ℕ → Final)
           → a.size ≡ na → value_of g.endian g.sizes a m u' ≡ x → x < 256 ^ na.bytes
-          → HasAt g code q (unary op (placed place offset n) a ∷ []) → Same (temp t) u u' → Lands left (q + 1) (temp t) (placed place offset n) m u go
+          → HasAt g code q (unary op (placed place offset n) a ∷ []) → Same (temp t) u u' → Lands g code left (q + 1) (temp t) (placed place offset n) m u go
           → from g code left q m u' ≡ go (value1 op na.bytes n.bytes x)
       unary_run op a na place offset n x q left t m u u' go sa ex hx has same lands =
-          let out = placed place offset n in
-          let there : At g code q (Unary op out a) = has.0 ∙ ap Some (unary_effect op out a) in
-          let formed = formed_at g code (Unary op out a) q well there in
-          let sizes : TakesSizes1 op na.bytes n.bytes = subst (λ (k : Size). TakesSizes1 op k.bytes n.bytes) sa formed in
-          put_run (Unary op out a) out (value1 op na.bytes n.bytes x) q left (temp t) m u u' go there
-          (λ next jump leave fault. ap (λ w. put g.endian g.sizes out (value1 op a.size.bytes n.bytes w) m u' next) ex ∙ ap (λ (k : Size). put g.endian g.sizes out (value1 op k.bytes n.bytes x) m u' next) sa)
-          (value1_below op na.bytes n.bytes x na.at_most_16 n.some sizes hx) same lands
+          unary_put op a place offset n x q left (temp t) m u u' go ex (subst (λ (k : Size). x < 256 ^ k.bytes) (sym sa) hx) has.0 same lands
+          ∙ ap (λ (k : Size). go (value1 op k.bytes n.bytes x)) sa
+
+      piece_run : (e : Term) (t k : ℕ) (place : Place2) (offset : ℕ) (n : Size) (x q left : ℕ) (m : Memory) (u u' : Temporaries) (go : ℕ → Final)
+          → value_of g.endian g.sizes (term_operand top g f t e) m u' ≡ x → x < 256 ^ (size_of g f e).bytes
+          → HasAt g code q (binary two.Subpiece (placed place offset n) (term_operand top g f t e) (amount k) ∷ []) → Same (temp t) u u' → Lands g code left (q + 1) (temp t) (placed place offset n) m u go
+          → from g code left q m u' ≡ go (x / 256 ^ k % 256 ^ n.bytes)
+      piece_run e t k place offset n x q left m u u' go ex hx has same lands =
+          piece_goes g code well (placed place offset n) (term_operand top g f t e) x k q left m u' go ex (subst (λ (k : Size). x < 256 ^ k.bytes) (sym (operand_size e t)) hx) has.0 (λ v lt. lands v u' same lt)
 
       -- ---- all expressions
 
@@ -384,11 +270,11 @@ module _ (g : Setting) (code : List Op) where
       mutual
         pub term_lands : (e : Term) → TermLands e
         term_lands (s.number v x) place offset t p left m l u go fits holds has lands =
-            put_run (Unary one.Copy (placed place offset (f.size x)) (constant (v % 256 ^ (f.size x).bytes) (f.size x))) (placed place offset (f.size x)) (v % 256 ^ (f.size x).bytes) p left (temp t) m u u go has.0
-            (λ next jump leave fault. refl) (mod_below v (256 ^ (f.size x).bytes) (bytes_pos (f.size x).bytes)) (same_refl (temp t) u) lands
+            unary_put one.Copy (constant (v % 256 ^ (f.size x).bytes) (f.size x)) place offset (f.size x) (v % 256 ^ (f.size x).bytes) p left (temp t) m u u go refl
+            (mod_below v (256 ^ (f.size x).bytes) (bytes_pos (f.size x).bytes)) has.0 (same_refl (temp t) u) lands
         term_lands (s.sized v k x) place offset t p left m l u go fits holds has lands =
-            put_run (Unary one.Copy (placed place offset (f.size x)) (constant (v % 256 ^ (f.size x).bytes) (f.size x))) (placed place offset (f.size x)) (v % 256 ^ (f.size x).bytes) p left (temp t) m u u go has.0
-            (λ next jump leave fault. refl) (mod_below v (256 ^ (f.size x).bytes) (bytes_pos (f.size x).bytes)) (same_refl (temp t) u) lands
+            unary_put one.Copy (constant (v % 256 ^ (f.size x).bytes) (f.size x)) place offset (f.size x) (v % 256 ^ (f.size x).bytes) p left (temp t) m u u go refl
+            (mod_below v (256 ^ (f.size x).bytes) (bytes_pos (f.size x).bytes)) has.0 (same_refl (temp t) u) lands
         term_lands (s.name a x) place offset t p left m l u go fits holds has lands = symbol_lands a place offset (f.size x) t p left m l u go fits holds has lands
         term_lands (s.paren e x) place offset t p left m l u go fits holds has lands = term_lands e place offset t p left m l u go fits holds has lands
         term_lands (s.kept e k x) place offset t p left m l u go fits holds has lands =
@@ -399,9 +285,8 @@ module _ (g : Setting) (code : List Op) where
             let o = binary two.Subpiece out a (amount 0) in
             let len : p + length (before ++ o ∷ []) ≡ p + length before + 1 = omega (arith, length-append before (o ∷ [])) in
             uses_of_lands e (term_lands e) t p left m l u (λ v. go (v % 256 ^ n.bytes)) fits holds (has_front g code p before (o ∷ []) has)
-            (λ v u' same lt reads. put_run (Binary two.Subpiece out a (amount 0)) out (v % 256 ^ n.bytes) (p + length before) left (temp t) m u u' go (has_back g code p before (o ∷ []) has).0
-            (λ next jump leave fault. ap (λ q. put g.endian g.sizes out (q / 1 % 256 ^ n.bytes) m u' next) (reads u' (same_refl _ u')) ∙ ap (λ q. put g.endian g.sizes out (q % 256 ^ n.bytes) m u' next) (div-one v))
-            (mod_below v (256 ^ n.bytes) (bytes_pos n.bytes)) same (lands_at left _ _ (temp t) out m u go len lands))
+            (λ v u' same lt reads. piece_run e t 0 place offset n v (p + length before) left m u u' go (reads u' (same_refl _ u')) lt (has_back g code p before (o ∷ []) has) same (lands_at g code left _ _ (temp t) out m u go len lands)
+            ∙ ap (λ q. go (q % 256 ^ n.bytes)) (div-one v))
             ∙ sym (with_bind (value g f m l e) (λ v. Ok (v % 256 ^ n.bytes)) m go)
         term_lands (s.dropped e k x) place offset t p left m l u go fits holds has lands =
             let before = term_before top g f t e in
@@ -411,9 +296,7 @@ module _ (g : Setting) (code : List Op) where
             let o = binary two.Subpiece out a (amount k) in
             let len : p + length (before ++ o ∷ []) ≡ p + length before + 1 = omega (arith, length-append before (o ∷ [])) in
             uses_of_lands e (term_lands e) t p left m l u (λ v. go (v / 256 ^ k % 256 ^ n.bytes)) fits holds (has_front g code p before (o ∷ []) has)
-            (λ v u' same lt reads. put_run (Binary two.Subpiece out a (amount k)) out (v / 256 ^ k % 256 ^ n.bytes) (p + length before) left (temp t) m u u' go (has_back g code p before (o ∷ []) has).0
-            (λ next jump leave fault. ap (λ q. put g.endian g.sizes out (q / 256 ^ k % 256 ^ n.bytes) m u' next) (reads u' (same_refl _ u')))
-            (mod_below (v / 256 ^ k) (256 ^ n.bytes) (bytes_pos n.bytes)) same (lands_at left _ _ (temp t) out m u go len lands))
+            (λ v u' same lt reads. piece_run e t k place offset n v (p + length before) left m u u' go (reads u' (same_refl _ u')) lt (has_back g code p before (o ∷ []) has) same (lands_at g code left _ _ (temp t) out m u go len lands))
             ∙ sym (with_bind (value g f m l e) (λ v. Ok (v / 256 ^ k % 256 ^ n.bytes)) m go)
         term_lands (s.bits e low count x) place offset t p left m l u go fits holds has lands =
             let before = term_before top g f t e in
@@ -421,10 +304,10 @@ module _ (g : Setting) (code : List Op) where
             let n = f.size x in
             let out = placed place offset n in
             let ops = bits_into top t a low count out in
-            let len : p + length (before ++ ops) ≡ p + length before + 3 = omega (arith, length-append before ops) in
+            let len : p + length (before ++ ops) ≡ p + length before + length ops = omega (arith, length-append before ops) in
             let within : low + count ≤ 8 * a.size.bytes = subst (λ (k : Size). low + count ≤ 8 * k.bytes) (sym (operand_size e t)) fits.1 in
             uses_of_lands e (term_lands e) t p left m l u (λ v. go (bits_of low count v)) fits.0 holds (has_front g code p before ops has)
-            (λ v u' same lt reads. bits_land a low count t place offset n (p + length before) left m u u' go v within fits.2 (reads u' (same_refl _ u')) (has_back g code p before ops has) same (lands_at left _ _ (temp t) out m u go len lands))
+            (λ v u' same lt reads. bits_land g code well top a low count t place offset n (p + length before) left m u u' go v within fits.2 (subst (λ (k : Size). v < 256 ^ k.bytes) (sym (operand_size e t)) lt) reads same (has_back g code p before ops has) (lands_at g code left _ _ (temp t) out m u go len lands))
             ∙ sym (with_bind (value g f m l e) (λ v. Ok (bits_of low count v)) m go)
         term_lands (s.load space k e x) place offset t p left m l u go fits holds has lands =
             let before = term_before top g f t e in
@@ -435,9 +318,9 @@ module _ (g : Setting) (code : List Op) where
             let o = load_from out z a in
             let len : p + length (before ++ o ∷ []) ≡ p + length before + 1 = omega (arith, length-append before (o ∷ [])) in
             uses_of_lands e (term_lands e) t p left m l u (λ v. go (load g m z v n.bytes)) fits holds (has_front g code p before (o ∷ []) has)
-            (λ v u' same lt reads. put_run (Load out (amount z) a) out (load g m z v n.bytes) (p + length before) left (temp t) m u u' go (has_back g code p before (o ∷ []) has).0
+            (λ v u' same lt reads. put_run g code (Load out (amount z) a) out (load g m z v n.bytes) (p + length before) left (temp t) m u u' go (has_back g code p before (o ∷ []) has).0
             (λ next jump leave fault. ap (λ q. put g.endian g.sizes out (load g m z q n.bytes) m u' next) (reads u' (same_refl _ u')))
-            (loaded_below m z v n.bytes holds.memory) same (lands_at left _ _ (temp t) out m u go len lands))
+            (loaded_below m z v n.bytes holds.memory) same (lands_at g code left _ _ (temp t) out m u go len lands))
             ∙ sym (with_bind (value g f m l e) (λ v. Ok (load g m z v n.bytes)) m go)
         term_lands (s.one op e x) place offset t p left m l u go fits holds has lands =
             let before = term_before top g f t e in
@@ -447,7 +330,7 @@ module _ (g : Setting) (code : List Op) where
             let o = unary op out a in
             let len : p + length (before ++ o ∷ []) ≡ p + length before + 1 = omega (arith, length-append before (o ∷ [])) in
             uses_of_lands e (term_lands e) t p left m l u (λ v. go (value1 op (size_of g f e).bytes n.bytes v)) fits holds (has_front g code p before (o ∷ []) has)
-            (λ v u' same lt reads. unary_run op a (size_of g f e) place offset n v (p + length before) left t m u u' go (operand_size e t) (reads u' (same_refl _ u')) lt (has_back g code p before (o ∷ []) has) same (lands_at left _ _ (temp t) out m u go len lands))
+            (λ v u' same lt reads. unary_run op a (size_of g f e) place offset n v (p + length before) left t m u u' go (operand_size e t) (reads u' (same_refl _ u')) lt (has_back g code p before (o ∷ []) has) same (lands_at g code left _ _ (temp t) out m u go len lands))
             ∙ sym (with_bind (value g f m l e) (λ v. Ok (value1 op (size_of g f e).bytes n.bytes v)) m go)
         term_lands (s.two op order a b x) place offset t p left m l u go fits holds has lands =
             let ca = term_before top g f t a in
@@ -467,7 +350,7 @@ module _ (g : Setting) (code : List Op) where
             uses_of_lands b (term_lands b) (t + 1) (p + length ca) left m l w (λ y. with_final (ordered op order na.bytes nb.bytes n.bytes v y) m go) fits.1 (holds_same g.endian Local top lays (temp t) m l u w (omega arith) same holds) (has_front g code _ cb _ back)
             (λ y w' same' lt' reads'.
             ordered_run op order va vb na nb place offset n v y (p + length ca + length cb) left t m u w' go (operand_size a t) (operand_size b (t + 1)) (reads w' (same_below _ _ w w' (omega arith) same')) (reads' w' (same_refl _ w')) lt lt' (has_back g code _ cb _ back)
-            (same_trans (temp t) (temp (t + 1)) u w w' (omega arith) same same') (lands_at left _ _ (temp t) out m u go len lands))
+            (same_trans (temp t) (temp (t + 1)) u w w' (omega arith) same same') (lands_at g code left _ _ (temp t) out m u go len lands))
             ∙ sym (with_bind (value g f m l b) (λ y. ordered op order na.bytes nb.bytes n.bytes v y) m go))
             ∙ sym (with_bind (value g f m l a) (λ v. value g f m l b >>= (λ w. ordered op order na.bytes nb.bytes n.bytes v w)) m go)
         term_lands (s.user op es x) place offset t p left m l u go fits holds has lands = terms_stop es op (terms_operands top g f t es) t p left m l u fits holds has

@@ -1,3 +1,4 @@
+pub mod Bits
 pub mod Fits
 pub mod Fitting
 pub mod Nodes

@@ -1,5 +1,6 @@
 -- law: operations by their parts, and where locals and temporary values lie.
-use Rattle.std.specs.Prelude.{ℕ, ◌+◌, ◌*◌, List, [], ◌∷◌, Option, Some, None}
+use Rattle.std.specs.Prelude.{ℕ, ◌+◌, ◌*◌, ◌==◌, ◌&&◌, Bool, true, false, if◌then◌else◌}
+use Rattle.std.specs.Prelude.{List, [], ◌∷◌, Option, Some, None}
 use Rattle.sl_section_equations.specs.Equations.{size_at}
 use Rattle.sl_pcode.specs.Codes.{kind_of}
 use Rattle.sl_pcode.specs.Effects.{effect_by}
@@ -7,6 +8,7 @@ use Rattle.sl_pcode.specs.declared.code.Code.{Code}
 use Rattle.sl_pcode.specs.declared.code.Code.TheVariants as code
 use Rattle.sl_pcode.specs.declared.effect.Effect.{Effect}
 use Rattle.sl_pcode.specs.declared.operation.Op.{Op}
+use Rattle.sl_pcode.specs.declared.varnode.Place2.{Place2}
 use Rattle.sl_pcode.specs.declared.varnode.Place2.TheVariants.{Const, Unique, In}
 use Rattle.sl_pcode.specs.declared.varnode.Varnode.{Varnode}
 use Rattle.sl_word.specs.declared.operation.Op1.{Op1}
@@ -82,11 +84,53 @@ binary_code two.BoolOr = code.BoolOr
 binary_code two.BoolXor = code.BoolXor
 binary_code two.Subpiece = code.Subpiece
 
-abbrev pub unary : Op1 → (out a : Varnode) → Operation
-unary f out a = record { code = unary_code f; out = Some out; inputs = a ∷ [] }
+-- an operation of this operator
+abbrev pub by_one : Op1 → (out a : Varnode) → Operation
+by_one f out a = record { code = unary_code f; out = Some out; inputs = a ∷ [] }
 
-abbrev pub binary : Op2 → (out a b : Varnode) → Operation
-binary f out a b = record { code = binary_code f; out = Some out; inputs = a ∷ b ∷ [] }
+abbrev pub by_two : Op2 → (out a b : Varnode) → Operation
+by_two f out a b = record { code = binary_code f; out = Some out; inputs = a ∷ b ∷ [] }
+
+-- the constant 0
+abbrev pub is_zero_at : Place2 → (offset : ℕ) → Bool
+is_zero_at Const offset = offset == 0
+is_zero_at _ offset = false
+
+abbrev pub is_zero : Varnode → Bool
+is_zero v = is_zero_at v.place v.offset
+
+-- A value that isn't extended is the value itself.
+abbrev pub keeps : Op1 → (out a : ℕ) → Bool
+keeps one.IntZext out a = out == a
+keeps one.IntSext out a = out == a
+keeps _ out a = false
+
+-- the operators of which 0 as the second operand leaves the first as it is: a sum, shifts, and
+-- bytes that are dropped
+abbrev pub takes_nothing : Op2 → Bool
+takes_nothing two.IntAdd = true
+takes_nothing two.IntLeft = true
+takes_nothing two.IntRight = true
+takes_nothing two.IntSright = true
+takes_nothing two.Subpiece = true
+takes_nothing _ = false
+
+abbrev pub keeps_first : Op2 → (out a : ℕ) → (b : Varnode) → Bool
+keeps_first f out a b = takes_nothing f && (is_zero b && (out == a))
+
+abbrev pub keeps_second : Op2 → (out : ℕ) → (a : Varnode) → Bool
+keeps_second two.IntAdd out a = is_zero a && (out == a.size.bytes)
+keeps_second _ out a = false
+
+-- the operation that gives an operator's value: a COPY where that is the operand's own
+unfoldable pub unary : Op1 → (out a : Varnode) → Operation
+unary f out a = by_one (if keeps f out.size.bytes a.size.bytes then one.Copy else f) out a
+
+unfoldable pub binary : Op2 → (out a b : Varnode) → Operation
+binary f out a b =
+    if keeps_first f out.size.bytes a.size.bytes b then by_one one.Copy out a
+    else if keeps_second f out.size.bytes a then by_one one.Copy out b
+    else by_two f out a b
 
 abbrev pub load_from : (out : Varnode) → (space : ℕ) → (pointer : Varnode) → Operation
 load_from out space pointer =

@@ -1,8 +1,9 @@
 -- law: the operations of statements and of sections.
-use Rattle.std.specs.Prelude.{ℕ, ◌+◌, ◌-◌, ◌*◌, ◌%◌, ◌^◌, if◌then◌else◌, length}
+use Rattle.std.specs.Prelude.{ℕ, ◌+◌, ◌-◌, ◌%◌, ◌^◌, false, if◌then◌else◌, length}
 use Rattle.std.specs.Prelude.{List, [], ◌∷◌, ◌++◌, slice_get, slice_index, unwrap_or}
-use Rattle.sl_faithful_code.specs.Operations.{Operation, amount, at_temp, binary, call_user, exit, exit_if}
-use Rattle.sl_faithful_code.specs.Operations.{in_space, range_of, store_to, temporary, unary}
+use Rattle.sl_faithful_code.specs.Bits.{bits_put, is_below}
+use Rattle.sl_faithful_code.specs.Operations.{Operation, amount, at_temp, call_user, exit, exit_if}
+use Rattle.sl_faithful_code.specs.Operations.{in_space, range_of, store_to, temporary}
 use Rattle.sl_faithful_code.specs.Terms.{code_before, operand, read_into, read_leaf, size_of, symbol_into}
 use Rattle.sl_faithful_code.specs.Terms.{symbol_leaf, term_before, term_into, term_operand, terms_before}
 use Rattle.sl_faithful_code.specs.Terms.{terms_operands}
@@ -17,8 +18,6 @@ use Rattle.sl_section_flat.specs.Sections as s
 use Rattle.sl_section_flat.specs.Sections.{Direct, Label, Step, Symbol, Term}
 use Rattle.sl_section_flat.specs.Chains.{chain}
 use Rattle.sl_word.specs.Numbers.{residue}
-use Rattle.sl_word.specs.declared.operation.Op1.TheVariants.{IntZext}
-use Rattle.sl_word.specs.declared.operation.Op2.TheVariants.{IntAdd, IntLeft, IntRight, IntSub}
 use Rattle.sl_word.specs.declared.word.Size.{Size}
 
 -- the distance from a place of the list to another, in two's complement of four bytes
@@ -26,22 +25,6 @@ abbrev pub relative : (from to : ℕ) → ℕ
 relative from to = (to + 4294967296 - from) % 4294967296
 
 module _ (top : ℕ) where
-  -- a value of n bytes with bits of another in their place: the new ones are moved up to the top
-  -- and down to their place, the old ones taken away
-  abbrev pub bits_put : (t : ℕ) → Size → (old v : Varnode) → (low count : ℕ) → (out : Varnode)
-      → List Operation
-  bits_put t n old v low count out =
-      unary IntZext (at_temp top t n) v
-      ∷ binary IntLeft (at_temp top t n) (at_temp top t n) (amount (8 * n.bytes - count))
-      ∷ binary IntRight (at_temp top t n) (at_temp top t n)
-      (amount (8 * n.bytes - (low + count)))
-      ∷ binary IntLeft (at_temp top (t + 1) n) old (amount (8 * n.bytes - (low + count)))
-      ∷ binary IntRight (at_temp top (t + 1) n) (at_temp top (t + 1) n)
-      (amount (8 * n.bytes - count))
-      ∷ binary IntLeft (at_temp top (t + 1) n) (at_temp top (t + 1) n) (amount low)
-      ∷ binary IntSub (at_temp top (t + 1) n) old (at_temp top (t + 1) n)
-      ∷ binary IntAdd out (at_temp top (t + 1) n) (at_temp top t n) ∷ []
-
   -- a value is put into memory at a pointer
   abbrev pub memory_put : (t : ℕ) → (space : ℕ) → (pointer : Reference) → (width : Size)
       → Varnode → List Operation
@@ -53,12 +36,12 @@ module _ (top : ℕ) where
   abbrev pub reference_bits : Reference → Size → (old v : Varnode) → (low count : ℕ)
       → List Operation
   reference_bits (storage space offset size) n old v low count =
-      bits_put 2 n old v low count (in_space space offset n)
+      bits_put top 2 n old v false low count (in_space space offset n)
   reference_bits (local node x size) n old v low count =
-      bits_put 2 n old v low count (temporary (range_of node x) n)
+      bits_put top 2 n old v false low count (temporary (range_of node x) n)
   reference_bits (number z) n old v low count = []
   reference_bits (memory space size pointer width) n old v low count =
-      bits_put 2 n old v low count (at_temp top 2 n)
+      bits_put top 2 n old v false low count (at_temp top 2 n)
       ++ memory_put 4 space pointer width (at_temp top 2 n)
 
   module _ (g : Setting) (f : Frame) where
@@ -74,8 +57,8 @@ module _ (top : ℕ) where
 
     abbrev pub set_code : Symbol → Term → List Operation
     set_code (s.bit_range space offset k low count) e = term_before top g f 0 e
-        ++ bits_put 1 (size_at k) (in_space space offset (size_at k)) (term_operand top g f 0 e)
-        low count (in_space space offset (size_at k))
+        ++ bits_put top 1 (size_at k) (in_space space offset (size_at k)) (term_operand top g f 0 e)
+        (is_below e count) low count (in_space space offset (size_at k))
     set_code a e = reference_set (meant g f a) e
 
     abbrev pub symbol_operand : (t : ℕ) → Symbol → Size → Varnode
@@ -87,9 +70,9 @@ module _ (top : ℕ) where
 
     abbrev pub symbol_bits : Symbol → Size → (old v : Varnode) → (low count : ℕ) → List Operation
     symbol_bits (s.bit_range space offset k low' count') n old v low count =
-        bits_put 2 n old v low count (at_temp top 2 n)
-        ++ bits_put 4 (size_at k) (in_space space offset (size_at k)) (at_temp top 2 n) low' count'
-        (in_space space offset (size_at k))
+        bits_put top 2 n old v false low count (at_temp top 2 n)
+        ++ bits_put top 4 (size_at k) (in_space space offset (size_at k)) (at_temp top 2 n) false low'
+        count' (in_space space offset (size_at k))
     symbol_bits a n old v low count = reference_bits (meant g f a) n old v low count
 
     abbrev pub set_bits_code : Symbol → (low count : ℕ) → Term → List Operation

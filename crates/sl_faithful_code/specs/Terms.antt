@@ -1,7 +1,8 @@
 -- law: the operations of expressions. What is a varnode already, as a register or a number, has
 -- none; the value of anything else is put where its reader wants it.
-use Rattle.std.specs.Prelude.{ℕ, ℤ, pos, negsuc, ◌+◌, ◌-◌, ◌*◌, ◌%◌, ◌^◌, nat_le}
+use Rattle.std.specs.Prelude.{ℕ, ℤ, pos, negsuc, ◌+◌, ◌%◌, ◌^◌, nat_le}
 use Rattle.std.specs.Prelude.{if◌then◌else◌, List, [], ◌∷◌, ◌++◌, Option, Some, None}
+use Rattle.sl_faithful_code.specs.Bits.{bits_into}
 use Rattle.sl_faithful_code.specs.Operations.{Operation, amount, at_temp, binary, call_user, constant}
 use Rattle.sl_faithful_code.specs.Operations.{in_space, load_from, range_of, temporary, unary}
 use Rattle.sl_section_equations.specs.Equations.{size_at}
@@ -15,7 +16,7 @@ use Rattle.sl_section_flat.specs.declared.term.Order.TheVariants.{AsWritten, Exc
 use Rattle.sl_word.specs.Numbers.{residue}
 use Rattle.sl_word.specs.declared.operation.Op1.TheVariants.{Copy, IntSext}
 use Rattle.sl_word.specs.declared.operation.Op2.{Op2}
-use Rattle.sl_word.specs.declared.operation.Op2.TheVariants.{IntLeft, IntRight, Subpiece}
+use Rattle.sl_word.specs.declared.operation.Op2.TheVariants.{Subpiece}
 use Rattle.sl_word.specs.declared.word.Size.{Size}
 
 -- ---- what is read: a varnode, or a temporary that operations before fill
@@ -81,20 +82,10 @@ module _ (top : ℕ) where
       code_before (read_leaf pointer width) (read_into t pointer (at_temp top t width))
       ++ load_from out space (operand (read_leaf pointer width) (at_temp top t width)) ∷ []
 
-  -- `count` bits from bit `low` on of what is read: moved up to the top, and down again
-  abbrev pub bits_into : (t : ℕ) → (from : Varnode) → (low count : ℕ) → (out : Varnode)
-      → List Operation
-  bits_into t from low count out =
-      binary IntLeft (at_temp top t from.size) from
-      (amount (8 * from.size.bytes - (low + count)))
-      ∷ binary IntRight (at_temp top t from.size) (at_temp top t from.size)
-      (amount (8 * from.size.bytes - count))
-      ∷ binary Subpiece out (at_temp top t from.size) (amount 0) ∷ []
-
   module _ (g : Setting) (f : Frame) where
     abbrev pub symbol_into : (t : ℕ) → Symbol → (out : Varnode) → List Operation
     symbol_into t (s.bit_range space offset k low count) out =
-        bits_into t (in_space space offset (size_at k)) low count out
+        bits_into top t (in_space space offset (size_at k)) low count out
     symbol_into t a out = read_into t (meant g f a) out
 
     -- where a value is put to be read
@@ -125,7 +116,7 @@ module _ (top : ℕ) where
           ++ binary Subpiece out (term_operand t e) (amount n) ∷ []
       term_into t (s.bits e low count x) out =
           code_before (term_leaf g f e) (term_into t e (temp_of t e))
-          ++ bits_into t (term_operand t e) low count out
+          ++ bits_into top t (term_operand t e) low count out
       term_into t (s.load space n e x) out =
           code_before (term_leaf g f e) (term_into t e (temp_of t e))
           ++ load_from out (space_of g space) (term_operand t e) ∷ []

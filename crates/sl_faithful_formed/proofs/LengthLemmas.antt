@@ -1,10 +1,12 @@
 -- The list of an instruction has at most 4,096 operations for each part of its sections.
 use Rattle.std.proofs.Common.{◌≡◌, ℕ, zero, suc, ◌+◌, ◌*◌, ◌≤◌, List, [], ◌∷◌, ◌++◌, length, Option, Some, None, refl, ap, arith, length-append, pos}
-use Rattle.std.specs.Prelude.{slice_get, unwrap_or}
+use Rattle.std.specs.Prelude.{Bool, true, false, ◌%◌, ◌^◌, ◌==◌, ◌&&◌, if◌then◌else◌, nat_le, nat_lt, slice_get, unwrap_or}
+use Rattle.sl_faithful_code.specs.Bits as bits
+use Rattle.sl_faithful_code.specs.Bits.{bits_into, bits_put, clear, cleared, bits_by_mask, bits_by_shifts, clear_above, has_mask, has_more, is_below, join, lower, mask, number_at, number_put, ones, others, put_by_mask, put_by_shifts, raise, raised, shorten, shortened, taken, value_put, widen, widened}
 use Rattle.sl_faithful_code.specs.Nodes.{children_code, node_code}
-use Rattle.sl_faithful_code.specs.Operations.{Operation, amount, at_temp, binary, call_user, exit, exit_if, in_space, load_from, range_of, store_to, temporary, unary}
-use Rattle.sl_faithful_code.specs.Statements.{bits_put, direct, label_at, memory_put, reference_bits, reference_set, set_bits_code, set_code, step_code, step_length, steps_code, store_code, symbol_before, symbol_bits, symbol_operand}
-use Rattle.sl_faithful_code.specs.Terms.{bits_into, code_before, copied, number_leaf, operand, read_into, read_leaf, size_of, symbol_into, symbol_leaf, temp_of, term_before, term_into, term_leaf, term_operand, terms_before, terms_operands, two_operands}
+use Rattle.sl_faithful_code.specs.Operations.{Operation, amount, at_temp, binary, call_user, constant, exit, exit_if, in_space, load_from, range_of, store_to, temporary, unary}
+use Rattle.sl_faithful_code.specs.Statements.{direct, label_at, memory_put, reference_bits, reference_set, set_bits_code, set_code, step_code, step_length, steps_code, store_code, symbol_before, symbol_bits, symbol_operand}
+use Rattle.sl_faithful_code.specs.Terms.{code_before, copied, number_leaf, operand, read_into, read_leaf, size_of, symbol_into, symbol_leaf, temp_of, term_before, term_into, term_leaf, term_operand, terms_before, terms_operands, two_operands}
 use Rattle.sl_section_equations.specs.Equations.{size_at}
 use Rattle.sl_meaning_sections.specs.Nodes.{Node, Operands, child, cut_to, export_reference, exported, frame_of, given, no_operands, node, reference_of, references_of, term_reference}
 use Rattle.sl_meaning_sections.specs.References.{Reference, Setting, local, memory, number, storage}
@@ -15,6 +17,7 @@ use Rattle.sl_section_flat.specs.Sections as s
 use Rattle.sl_section_flat.specs.Sections.{Export, Label, Step, Symbol, Term, Terms}
 use Rattle.sl_section_flat.specs.Chains.{chain}
 use Rattle.sl_faithful_formed.specs.Lengths.{AreDistinct, AreTrees, IsNone, IsPlain, IsTree, ListsAreShort, built, node_count, node_parts, operands_count, operands_parts, step_built, step_parts, steps_parts, term_parts, terms_parts}
+use Rattle.sl_word.specs.declared.operation.Op1.TheVariants as one
 use Rattle.sl_word.specs.declared.operation.Op2.TheVariants as two
 use Rattle.sl_word.specs.declared.word.Size.{Size}
 
@@ -99,8 +102,6 @@ module _ (g : Setting) where
     references_pointers (child n os) trees zero = let h = reference_pointers n trees.0 in omega arith
     references_pointers (child n os) trees (suc i) = let h = references_pointers os trees.1 i in omega arith
 
--- ---- expressions
-
 before_length : (leaf : Option Varnode) (os : List Operation) → length (code_before leaf os) ≤ length os
 before_length None os = omega arith
 before_length (Some v) os = omega arith
@@ -109,7 +110,64 @@ copied_length : (leaf : Option Varnode) (out : Varnode) (o : Operation) → leng
 copied_length None out o = omega arith
 copied_length (Some v) out o = omega arith
 
+-- ---- bits
+
+chosen_length : (c : Bool) (a b : List Operation) (n : ℕ) → length a ≤ n → length b ≤ n → length (if c then a else b) ≤ n
+chosen_length true a b n h k = h
+chosen_length false a b n h k = k
+
+taken_length : (c : Bool) (o : Operation) → length (taken c o) ≤ 1
+taken_length true o = omega arith
+taken_length false o = omega arith
+
 module _ (top : ℕ) where
+  bits_length : (t : ℕ) (from : Varnode) (low count : ℕ) (out : Varnode) → length (bits_into top t from low count out) ≤ 3
+  unfolding bits_into
+  bits_length t from low count out =
+      let down = taken_length (nat_lt 0 low) (binary two.IntRight (at_temp top t from.size) from (amount low)) in
+      let a = bits.lowered top t from low in
+      let cut = taken_length (nat_lt out.size.bytes a.size.bytes) (binary two.Subpiece (at_temp top t out.size) a (amount 0)) in
+      let clears = clear_above top t a count out in
+      let drops = binary two.Subpiece out a (amount 0) ∷ [] in
+      let all = length-append (lower top t from low) clears in
+      let most = length-append (shorten top t a out.size) (binary two.IntAnd out (shortened top t a out.size) (constant (ones count) out.size) ∷ []) in
+      let some = length-append (lower top t from low) drops in
+      chosen_length (has_mask from.size low count && nat_le out.size.bytes from.size.bytes) (bits_by_mask top t from low count out) (bits_by_shifts top t from low count out) 3
+      (chosen_length (nat_lt (low + count) (8 * from.size.bytes) && nat_lt count (8 * out.size.bytes)) (lower top t from low ++ clears) _ 3 (omega (arith, down, cut, all, most))
+      (chosen_length (nat_lt out.size.bytes from.size.bytes) (lower top t from low ++ drops) (binary two.IntRight out from (amount low) ∷ []) 3 (omega (arith, down, some)) (omega arith)))
+      (omega arith)
+
+  number_put_length : (t : ℕ) (n : Size) (old : Varnode) (low count k : ℕ) (out : Varnode) → length (number_put top t n old low count k out) ≤ 8
+  number_put_length t n old low count k out =
+      chosen_length (k == 0) (binary two.IntAnd out old (others n low count) ∷ []) _ 8 (omega arith)
+      (chosen_length (k == mask low count) (binary two.IntOr out old (constant k n) ∷ []) (join top t n old (constant k n) low count out) 8 (omega arith) (omega arith))
+
+  value_put_length : (t : ℕ) (n : Size) (old v : Varnode) (below : Bool) (low count : ℕ) (out : Varnode) → length (value_put top t n old v below low count out) ≤ 8
+  value_put_length t n old v below low count out =
+      let more = has_more n v below low count in
+      let a = widened top t n v in
+      let b = cleared top more t n a in
+      let last = join top t n old (raised top t n b low) low count out in
+      let first = taken_length (nat_lt v.size.bytes n.bytes) (unary one.IntZext (at_temp top t n) v) in
+      let second = taken_length more (binary two.IntAnd (at_temp top t n) a (constant (ones count) n)) in
+      let third = taken_length (nat_lt 0 low) (binary two.IntLeft (at_temp top t n) b (amount low)) in
+      let all = length-append (widen top t n v) (clear top more t n a count ++ (raise top t n b low ++ last)) in
+      let most = length-append (clear top more t n a count) (raise top t n b low ++ last) in
+      let some = length-append (raise top t n b low) last in
+      omega (arith, first, second, third, all, most, some)
+
+  masked_length : (k : Option ℕ) (t : ℕ) (n : Size) (old v : Varnode) (below : Bool) (low count : ℕ) (out : Varnode) → length (put_by_mask top k t n old v below low count out) ≤ 8
+  masked_length (Some k) t n old v below low count out = number_put_length t n old low count (k % 2 ^ count * 2 ^ low) out
+  masked_length None t n old v below low count out = value_put_length t n old v below low count out
+
+  bits_put_length : (t : ℕ) (n : Size) (old v : Varnode) (below : Bool) (low count : ℕ) (out : Varnode) → length (bits_put top t n old v below low count out) ≤ 8
+  unfolding bits_put
+  bits_put_length t n old v below low count out =
+      chosen_length (has_mask n low count) (put_by_mask top (number_at v.place v.offset) t n old v below low count out) (put_by_shifts top t n old v low count out) 8
+      (masked_length (number_at v.place v.offset) t n old v below low count out) (omega arith)
+
+  -- ---- expressions
+
   reference_length : (r : Reference) (t : ℕ) (out : Varnode) → length (read_into top t r out) ≤ pointers r + 1
   reference_length (storage space offset size) t out = omega arith
   reference_length (local k x size) t out = omega arith
@@ -134,19 +192,20 @@ module _ (top : ℕ) where
       omega (arith, h, h', len)
 
   reference_bits_length : (r : Reference) (n : Size) (old v : Varnode) (low count : ℕ) → length (reference_bits top r n old v low count) ≤ pointers r + 9
-  reference_bits_length (storage space offset size) n old v low count = omega arith
-  reference_bits_length (local k x size) n old v low count = omega arith
+  reference_bits_length (storage space offset size) n old v low count = let h = bits_put_length 2 n old v false low count (in_space space offset n) in omega (arith, h)
+  reference_bits_length (local k x size) n old v low count = let h = bits_put_length 2 n old v false low count (temporary (range_of k x) n) in omega (arith, h)
   reference_bits_length (number z) n old v low count = omega arith
   reference_bits_length (memory space size pointer width) n old v low count =
-      let put = bits_put top 2 n old v low count (at_temp top 2 n) in
+      let put = bits_put top 2 n old v false low count (at_temp top 2 n) in
       let rest = memory_put top 4 space pointer width (at_temp top 2 n) in
       let h = memory_put_length 4 space pointer width (at_temp top 2 n) in
-      let len : length (put ++ rest) ≡ 8 + length rest = length-append put rest in
-      omega (arith, h, len)
+      let k = bits_put_length 2 n old v false low count (at_temp top 2 n) in
+      let len = length-append put rest in
+      omega (arith, h, k, len)
 
   module _ (g : Setting) (f : Frame) (refs : (i : ℕ) → pointers (reference_at f.refs i) ≤ 1024) where
     symbol_length : (a : Symbol) (t : ℕ) (out : Varnode) → length (symbol_into top g f t a out) ≤ 1025
-    symbol_length (s.bit_range space offset k low count) t out = omega arith
+    symbol_length (s.bit_range space offset k low count) t out = let h = bits_length t (in_space space offset (size_at k)) low count out in omega (arith, h)
     symbol_length (s.register space offset k) t out = omega arith
     symbol_length (s.local x) t out = omega arith
     symbol_length (s.table i) t out = let h = reference_length (reference_at f.refs i) t out in let few = refs i in omega (arith, h, few)
@@ -176,8 +235,9 @@ module _ (top : ℕ) where
           omega (arith, h, h', len)
       term_length (s.bits e low count x) t out =
           let h = term_length e t (temp_of top g f t e) in let h' = before e t in
+          let k = bits_length t (term_operand top g f t e) low count out in
           let len = length-append (term_before top g f t e) (bits_into top t (term_operand top g f t e) low count out) in
-          omega (arith, h, h', len)
+          omega (arith, h, h', k, len)
       term_length (s.load space k e x) t out =
           let h = term_length e t (temp_of top g f t e) in let h' = before e t in
           let len = length-append (term_before top g f t e) (load_from out (space_of g space) (term_operand top g f t e) ∷ []) in
@@ -226,9 +286,10 @@ module _ (top : ℕ) where
     set_length (s.bit_range space offset k low count) e =
         let h = term_before_length e 0 in
         let whole = in_space space offset (size_at k) in
-        let put = bits_put top 1 (size_at k) whole (term_operand top g f 0 e) low count whole in
-        let len : length (term_before top g f 0 e ++ put) ≡ length (term_before top g f 0 e) + 8 = length-append (term_before top g f 0 e) put in
-        omega (arith, h, len)
+        let put = bits_put top 1 (size_at k) whole (term_operand top g f 0 e) (is_below e count) low count whole in
+        let most = bits_put_length 1 (size_at k) whole (term_operand top g f 0 e) (is_below e count) low count whole in
+        let len = length-append (term_before top g f 0 e) put in
+        omega (arith, h, most, len)
     set_length (s.register space offset n) e = reference_set_length (storage space offset (size_at n)) e (omega arith)
     set_length (s.local x) e = reference_set_length (local f.node x (f.size x)) e (omega arith)
     set_length (s.table i) e = reference_set_length (reference_at f.refs i) e (refs i)
@@ -239,9 +300,16 @@ module _ (top : ℕ) where
     set_length (s.integer v) e = reference_set_length (number (pos v)) e (omega arith)
 
     symbol_bits_length : (a : Symbol) (n : Size) (old v : Varnode) (low count : ℕ) → length (symbol_bits top g f a n old v low count) ≤ 1033
-    symbol_bits_length (s.bit_range space offset k low' count') n old v low count = omega arith
-    symbol_bits_length (s.register space offset k) n old v low count = omega arith
-    symbol_bits_length (s.local x) n old v low count = omega arith
+    symbol_bits_length (s.bit_range space offset k low' count') n old v low count =
+        let whole = in_space space offset (size_at k) in
+        let inner = bits_put top 2 n old v false low count (at_temp top 2 n) in
+        let outer = bits_put top 4 (size_at k) whole (at_temp top 2 n) false low' count' whole in
+        let h = bits_put_length 2 n old v false low count (at_temp top 2 n) in
+        let h' = bits_put_length 4 (size_at k) whole (at_temp top 2 n) false low' count' whole in
+        let len = length-append inner outer in
+        omega (arith, h, h', len)
+    symbol_bits_length (s.register space offset k) n old v low count = let h = bits_put_length 2 n old v false low count (in_space space offset n) in omega (arith, h)
+    symbol_bits_length (s.local x) n old v low count = let h = bits_put_length 2 n old v false low count (temporary (range_of f.node x) n) in omega (arith, h)
     symbol_bits_length (s.table i) n old v low count = let h = reference_bits_length (reference_at f.refs i) n old v low count in let few = refs i in omega (arith, h, few)
     symbol_bits_length (s.attached i k) n old v low count = let h = reference_bits_length (reference_at f.refs i) n old v low count in let few = refs i in omega (arith, h, few)
     symbol_bits_length (s.value i) n old v low count = let h = reference_bits_length (reference_at f.refs i) n old v low count in let few = refs i in omega (arith, h, few)

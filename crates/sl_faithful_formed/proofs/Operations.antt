@@ -1,10 +1,11 @@
 -- Operations that are well formed at a place of a list, and lists of them.
-use Rattle.std.proofs.Common.{◌≡◌, ℕ, zero, suc, ◌+◌, ◌^◌, ◌<◌, ◌≤◌, List, [], ◌∷◌, ◌++◌, length, map, Option, Some, None, refl, sym, subst, arith, ◌≢◌}
-use Rattle.std.specs.Prelude.{IfSome, IsSomeAnd, slice_get}
+use Rattle.std.proofs.Common.{◌≡◌, ℕ, zero, suc, ◌+◌, ◌^◌, ◌<◌, ◌≤◌, List, [], ◌∷◌, ◌++◌, length, map, Option, Some, None, refl, sym, subst, arith, ◌∙◌, ◌≢◌, inl, inr}
+use Rattle.std.specs.Prelude.{Bool, true, false, if◌then◌else◌, IfSome, IsSomeAnd, slice_get}
 use Rattle.std.specs.List.{All}
 use Rattle.std.proofs.lemmas.List.Elements.{All-cons, All-nil}
-use Rattle.sl_faithful_code.specs.Operations.{Operation, amount, binary, call_user, effect, exit, exit_if, in_space, load_from, operation_of, store_to, temporary, unary}
-use Rattle.sl_faithful_code.proofs.Terms.{binary_effect, unary_effect}
+use Rattle.sl_faithful_code.specs.Bits.{moved, taken}
+use Rattle.sl_faithful_code.specs.Operations.{Operation, amount, binary, by_one, by_two, call_user, effect, exit, exit_if, in_space, load_from, operation_of, store_to, temporary, unary}
+use Rattle.sl_faithful_code.proofs.Operators.{binary_is, by_one_effect, by_two_effect, first_size, kept_size, second_is, unary_is}
 use Rattle.sl_section_equations.specs.Equations.{size_at}
 use Rattle.sl_pcode.specs.Effects.{effect_of}
 use Rattle.sl_pcode.specs.WellFormed.{IsAmount, IsDirect, IsFormed, IsInRange, IsTarget, IsWellFormed, IsWellFormedOp, IsWritable, ReadsInRange, StaysInside, StaysWithin, WritesInRange}
@@ -16,7 +17,9 @@ use Rattle.sl_pcode.specs.declared.varnode.Place2.TheVariants.{Const, Unique, In
 use Rattle.sl_pcode.specs.declared.varnode.Varnode.{Varnode}
 use Rattle.sl_word.specs.Operations.{TakesSizes1, TakesSizes2}
 use Rattle.sl_word.specs.declared.operation.Op1.{Op1}
+use Rattle.sl_word.specs.declared.operation.Op1.TheVariants as one
 use Rattle.sl_word.specs.declared.operation.Op2.{Op2}
+use Rattle.sl_word.specs.declared.operation.Op2.TheVariants as two
 use Rattle.sl_word.specs.declared.word.Size.{Size}
 use Rattle.sl_word.specs.declared.word.SpaceId.{SpaceId}
 
@@ -38,6 +41,10 @@ module _ (sizes : List ℕ) where
 
   pub space_writable : (space offset : ℕ) (n : Size) → IsInRange sizes (in_space space offset n) → IsWritable sizes (in_space space offset n)
   space_writable space offset n is = (space_written (record { 0 = space }), is)
+
+  pub moved_fits : (c : Bool) (new at : Varnode) → IsInRange sizes new → IsInRange sizes at → IsInRange sizes (moved c new at)
+  moved_fits true new at h k = h
+  moved_fits false new at h k = k
 
   pub amount_fits : (v : ℕ) → v < 4294967296 → IsInRange sizes (amount v)
   amount_fits v lt = subst (λ k. v < 256 ^ k) (sym four) lt
@@ -63,19 +70,37 @@ module _ (sizes : List ℕ) where
   three_inputs : (a b c : Varnode) → IsInRange sizes a → IsInRange sizes b → IsInRange sizes c → ReadsInRange sizes (a ∷ b ∷ c ∷ [])
   three_inputs a b c h k l = All-cons (IsInRange sizes) a (b ∷ c ∷ []) h (two_inputs b c k l)
 
-  pub unary_stands : (f : Op1) (out a : Varnode) → TakesSizes1 f a.size.bytes out.size.bytes → IsWritable sizes out → IsInRange sizes a → Straight (unary f out a)
-  unary_stands f out a takes writes reads at count = record {
-    operands = subst (λ x. IsSomeAnd x (λ e. IsFormed sizes e × StaysWithin at count e)) (sym (unary_effect f out a)) (takes, tt);
+  by_one_stands : (f : Op1) (out a : Varnode) → TakesSizes1 f a.size.bytes out.size.bytes → IsWritable sizes out → IsInRange sizes a → Straight (by_one f out a)
+  by_one_stands f out a takes writes reads at count = record {
+    operands = subst (λ x. IsSomeAnd x (λ e. IsFormed sizes e × StaysWithin at count e)) (sym (by_one_effect f out a)) (takes, tt);
     output = writes;
     inputs = one_input a reads;
   }
 
-  pub binary_stands : (f : Op2) (out a b : Varnode) → TakesSizes2 f a.size.bytes b.size.bytes out.size.bytes b.offset → IsAmount f b → IsWritable sizes out → IsInRange sizes a → IsInRange sizes b → Straight (binary f out a b)
-  binary_stands f out a b takes piece writes reads reads' at count = record {
-    operands = subst (λ x. IsSomeAnd x (λ e. IsFormed sizes e × StaysWithin at count e)) (sym (binary_effect f out a b)) ((takes, piece), tt);
+  by_two_stands : (f : Op2) (out a b : Varnode) → TakesSizes2 f a.size.bytes b.size.bytes out.size.bytes b.offset → IsAmount f b → IsWritable sizes out → IsInRange sizes a → IsInRange sizes b → Straight (by_two f out a b)
+  by_two_stands f out a b takes piece writes reads reads' at count = record {
+    operands = subst (λ x. IsSomeAnd x (λ e. IsFormed sizes e × StaysWithin at count e)) (sym (by_two_effect f out a b)) ((takes, piece), tt);
     output = writes;
     inputs = two_inputs a b reads reads';
   }
+
+  pub unary_stands : (f : Op1) (out a : Varnode) → TakesSizes1 f a.size.bytes out.size.bytes → IsWritable sizes out → IsInRange sizes a → Straight (unary f out a)
+  unary_stands f out a takes writes reads =
+      elim (unary_is f out a) [
+        | inl k ↦ subst Straight (sym k.1) (by_one_stands one.Copy out a (kept_size f out.size.bytes a.size.bytes k.0) writes reads)
+        | inr e ↦ subst Straight (sym e.1) (by_one_stands f out a takes writes reads)
+      ]
+
+  pub binary_stands : (f : Op2) (out a b : Varnode) → TakesSizes2 f a.size.bytes b.size.bytes out.size.bytes b.offset → IsAmount f b → IsWritable sizes out → IsInRange sizes a → IsInRange sizes b → Straight (binary f out a b)
+  binary_stands f out a b takes piece writes reads reads' =
+      elim (binary_is f out a b) [
+        | inl k ↦ subst Straight (sym k.1) (by_one_stands one.Copy out a (first_size f out.size.bytes a.size.bytes b k.0) writes reads)
+        | inr (inl k) ↦
+            let sum : TakesSizes2 two.IntAdd a.size.bytes b.size.bytes out.size.bytes b.offset =
+            subst (λ o. TakesSizes2 o a.size.bytes b.size.bytes out.size.bytes b.offset) (second_is f out.size.bytes a k.0).0 takes in
+            subst Straight (sym k.1) (by_one_stands one.Copy out b (sum.1 ∙ sym sum.0) writes reads')
+        | inr (inr e) ↦ subst Straight (sym e.2) (by_two_stands f out a b takes piece writes reads reads')
+      ]
 
   module _ (few : length sizes ≤ 4294967296) where
     pub load_stands : (out : Varnode) (space : ℕ) (pointer : Varnode) → space < length sizes → IsWritable sizes out → IsInRange sizes pointer → Straight (load_from out space pointer)
@@ -123,6 +148,15 @@ module _ (sizes : List ℕ) where
   abbrev pub AllStraight : List Operation → Type 0
   AllStraight [] = Unit {0}
   AllStraight (o ∷ os) = Straight o × AllStraight os
+
+  -- one of two lists, and an operation that may be left out
+  pub straight_choice : (c : Bool) (a b : List Operation) → (c ≡ true → AllStraight a) → (c ≡ false → AllStraight b) → AllStraight (if c then a else b)
+  straight_choice true a b h k = h refl
+  straight_choice false a b h k = k refl
+
+  pub straight_taken : (c : Bool) (o : Operation) → (c ≡ true → Straight o) → AllStraight (taken c o)
+  straight_taken true o h = (h refl, tt)
+  straight_taken false o h = tt
 
   pub straight_append : (a b : List Operation) → AllStraight a → AllStraight b → AllStraight (a ++ b)
   straight_append [] b h k = k

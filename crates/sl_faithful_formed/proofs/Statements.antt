@@ -1,15 +1,19 @@
 -- The operations of statements are well formed, and their jumps stay inside the list.
 use Rattle.std.proofs.Common.{◌≡◌, ℕ, ◌+◌, ◌-◌, ◌*◌, ◌%◌, ◌^◌, ◌<◌, ◌≤◌, Bool, true, false, List, [], ◌∷◌, ◌++◌, length, refl, sym, ap, ◌∙◌, subst, arith, length-append, inl, inr, pos}
-use Rattle.std.specs.Prelude.{if◌then◌else◌, slice_index}
+use Rattle.std.specs.Prelude.{◌==◌, Option, Some, None, if◌then◌else◌, nat_lt, slice_index}
+use Rattle.std.proofs.lemmas.Bool.Decides.{nat_tests}
 use Rattle.std.proofs.lemmas.Bool.{cases_lt}
 use Rattle.std.proofs.lemmas.Nat.{mod_below}
 use Rattle.std.proofs.Math.Nat.{mod-eq_of_lt}
+use Rattle.sl_faithful_code.specs.Bits.{bits_put, clear, cleared, has_mask, has_more, is_below, join, mask, number_at, number_put, ones, others, put_by_mask, put_by_shifts, raise, raised, value_put, widen, widened}
 use Rattle.sl_faithful_code.specs.Fits.{ReferenceFits, StepFits, StepsFit, SymbolFits, TermFits}
-use Rattle.sl_faithful_code.specs.Operations.{Operation, amount, at_temp, exit, exit_if, in_space, range_of, store_to}
-use Rattle.sl_faithful_code.specs.Statements.{bits_put, child_code, direct, label_at, memory_put, reference_bits, reference_set, relative, section_code, set_bits_code, set_code, step_code, step_length, steps_code, store_code, symbol_before, symbol_bits, symbol_operand, target_address, target_of}
+use Rattle.sl_faithful_code.specs.Operations.{Operation, amount, at_temp, binary, constant, exit, exit_if, in_space, range_of, store_to, unary}
+use Rattle.sl_faithful_code.specs.Statements.{child_code, direct, label_at, memory_put, reference_bits, reference_set, relative, section_code, set_bits_code, set_code, step_code, step_length, steps_code, store_code, symbol_before, symbol_bits, symbol_operand, target_address, target_of}
 use Rattle.sl_faithful_code.specs.Terms.{code_before, operand, read_into, read_leaf, size_of, symbol_leaf, term_before, term_operand}
 use Rattle.sl_faithful_code.proofs.Statements.{step_same, target}
-use Rattle.sl_faithful_code.proofs.Terms.{placed}
+use Rattle.sl_faithful_code.proofs.Bits.{moved_size, ones_low}
+use Rattle.sl_faithful_code.proofs.Lands.{placed}
+use Rattle.sl_faithful_code.proofs.Numbers.{placed_below}
 use Rattle.sl_section_equations.specs.Equations.{size_at}
 use Rattle.sl_meaning_sections.specs.References.{Reference, Setting, local, memory, number, storage}
 use Rattle.sl_meaning_sections.specs.Statements.{is_label}
@@ -25,7 +29,7 @@ use Rattle.sl_section_flat.specs.Sections.{Direct, Label, Step, Symbol, Term}
 use Rattle.sl_section_flat.specs.Chains.{chain}
 use Rattle.sl_faithful_formed.specs.Formed.{IsMachine, IsPlaced, IsSpace, StepIsFormed, StepsAreFormed, TermIsFormed}
 use Rattle.sl_faithful_formed.specs.Lengths.{step_parts, steps_parts, term_parts}
-use Rattle.sl_faithful_formed.proofs.Operations.{Stand, Straight, amount_fits, binary_stands, branch_if_stands, branch_ind_stands, branch_stands, call_ind_stands, call_stands, four, return_stands, space_writable, stand_append, stand_at, stand_straight, store_stands, straight_append, temporary_writable, unary_stands}
+use Rattle.sl_faithful_formed.proofs.Operations.{Stand, Straight, amount_fits, binary_stands, branch_if_stands, branch_ind_stands, branch_stands, call_ind_stands, call_stands, four, moved_fits, return_stands, space_writable, stand_append, stand_at, stand_straight, store_stands, straight_append, straight_choice, straight_taken, temporary_writable, unary_stands}
 use Rattle.sl_faithful_formed.proofs.Terms.{Fine, Writable, before_fine, fine_before, local_range, reference_fine, reference_reads, size_bytes, symbol_fine, symbol_reads, temp_range, temp_writable, term_fine, term_reads, user_fine}
 use Rattle.sl_word.specs.Numbers.{residue}
 use Rattle.sl_word.specs.declared.operation.Op1.TheVariants as one
@@ -65,37 +69,104 @@ module _ (g : Setting) (is : IsMachine g) (Local : (node x n : ℕ) → Type 0) 
 
   -- ---- what is written
 
-  bits_put_fine : (t : ℕ) (n : Size) (old v : Varnode) (low' count : ℕ) (place : Place2) (offset : ℕ) → Writable g is Local top low below (placed place offset n) → IsInRange g.sizes old → IsInRange g.sizes v → n.bytes ≡ old.size.bytes → v.size.bytes ≤ n.bytes → low' + count ≤ 8 * n.bytes → Room (t + 1)
-      → Straights (bits_put top t n old v low' count (placed place offset n))
-  bits_put_fine t n old v low' count place offset writes reads reads' same narrower inside room =
-      let w = n.at_most_16 in
-      let first = temp_range g is Local top low below t n (omega arith) in
-      let first' = temp_writable g is Local top low below t n (omega arith) in
-      let second = temp_range g is Local top low below (t + 1) n room in
-      let second' = temp_writable g is Local top low below (t + 1) n room in
-      let a = at_temp top t n in
-      let b = at_temp top (t + 1) n in (
-        unary_stands g.sizes one.IntZext a v narrower first' reads',
-        (
-          binary_stands g.sizes two.IntLeft a a (amount (8 * n.bytes - count)) refl tt first' first (amount_fits g.sizes _ (omega (arith, w))),
+  module _ (t : ℕ) (n : Size) (old v : Varnode) (some_below : Bool) (low' count : ℕ) (place : Place2) (offset : ℕ) (writes : Writable g is Local top low below (placed place offset n)) (reads : IsInRange g.sizes old) (reads' : IsInRange g.sizes v)
+      (same : n.bytes ≡ old.size.bytes) (narrower : v.size.bytes ≤ n.bytes) (inside : low' + count ≤ 8 * n.bytes) (room : Room (t + 1)) where
+    abbrev to : Varnode
+    to = placed place offset n
+
+    abbrev new : Varnode
+    new = at_temp top t n
+
+    abbrev field : Varnode
+    field = at_temp top (t + 1) n
+
+    new_range : IsInRange g.sizes new
+    new_range = temp_range g is Local top low below t n (omega arith)
+
+    new_writable : Writable g is Local top low below new
+    new_writable = temp_writable g is Local top low below t n (omega arith)
+
+    field_range : IsInRange g.sizes field
+    field_range = temp_range g is Local top low below (t + 1) n room
+
+    field_writable : Writable g is Local top low below field
+    field_writable = temp_writable g is Local top low below (t + 1) n room
+
+    others_range : IsInRange g.sizes (others n low' count)
+    others_range = let some = bytes_pos n.bytes in let r : 256 ^ n.bytes - 1 - mask low' count < 256 ^ n.bytes = omega arith in r
+
+    join_fine : (at : Varnode) → IsInRange g.sizes at → at.size.bytes ≡ n.bytes → Straights (join top t n old at low' count to)
+    join_fine at there size = (
+      binary_stands g.sizes two.IntAnd field old (others n low' count) (same, same) tt field_writable reads others_range,
+      (binary_stands g.sizes two.IntOr to field at (size, refl) tt writes field_range there, tt),
+    )
+
+    number_put_fine : (k : ℕ) → k < 256 ^ n.bytes → Straights (number_put top t n old low' count k to)
+    number_put_fine k small =
+        straight_choice g.sizes (k == 0) (binary two.IntAnd to old (others n low' count) ∷ []) _
+        (λ yes. (binary_stands g.sizes two.IntAnd to old (others n low' count) (same, same) tt writes reads others_range, tt))
+        (λ no. straight_choice g.sizes (k == mask low' count) (binary two.IntOr to old (constant k n) ∷ []) (join top t n old (constant k n) low' count to)
+        (λ yes. (binary_stands g.sizes two.IntOr to old (constant k n) (same, same) tt writes reads small, tt))
+        (λ no. join_fine (constant k n) small refl))
+
+    abbrev more : Bool
+    more = has_more n v some_below low' count
+
+    value_put_fine : Straights (value_put top t n old v some_below low' count to)
+    value_put_fine =
+        let a = widened top t n v in
+        let b = cleared top more t n a in
+        let c = raised top t n b low' in
+        let a_size : a.size.bytes ≡ n.bytes = moved_size (nat_lt v.size.bytes n.bytes) new v n.bytes refl (λ no. grind (arith, nat_tests, narrower)) in
+        let b_size : b.size.bytes ≡ n.bytes = moved_size more new a n.bytes refl (λ no. a_size) in
+        let c_size : c.size.bytes ≡ n.bytes = moved_size (nat_lt 0 low') new b n.bytes refl (λ no. b_size) in
+        let a_range = moved_fits g.sizes (nat_lt v.size.bytes n.bytes) new v new_range reads' in
+        let b_range = moved_fits g.sizes more new a new_range a_range in
+        let c_range = moved_fits g.sizes (nat_lt 0 low') new b new_range b_range in
+        let few : count ≤ 8 * n.bytes = omega (arith, inside) in
+        let w = n.at_most_16 in
+        straight_append g.sizes (widen top t n v) _
+        (straight_taken g.sizes (nat_lt v.size.bytes n.bytes) (unary one.IntZext new v) (λ yes. unary_stands g.sizes one.IntZext new v narrower new_writable reads'))
+        (straight_append g.sizes (clear top more t n a count) _
+        (straight_taken g.sizes more (binary two.IntAnd new a (constant (ones count) n)) (λ yes. binary_stands g.sizes two.IntAnd new a (constant (ones count) n) (sym a_size, sym a_size) tt new_writable a_range (ones_low n.bytes count few)))
+        (straight_append g.sizes (raise top t n b low') _
+        (straight_taken g.sizes (nat_lt 0 low') (binary two.IntLeft new b (amount low')) (λ yes. binary_stands g.sizes two.IntLeft new b (amount low') (sym b_size) tt new_writable b_range (amount_fits g.sizes low' (omega (arith, w, inside)))))
+        (join_fine c c_range c_size)))
+
+    shifts_fine : Straights (put_by_shifts top t n old v low' count to)
+    shifts_fine =
+        let w = n.at_most_16 in (
+          unary_stands g.sizes one.IntZext new v narrower new_writable reads',
           (
-            binary_stands g.sizes two.IntRight a a (amount (8 * n.bytes - (low' + count))) refl tt first' first (amount_fits g.sizes _ (omega (arith, w))),
+            binary_stands g.sizes two.IntLeft new new (amount (8 * n.bytes - count)) refl tt new_writable new_range (amount_fits g.sizes _ (omega (arith, w))),
             (
-              binary_stands g.sizes two.IntLeft b old (amount (8 * n.bytes - (low' + count))) same tt second' reads (amount_fits g.sizes _ (omega (arith, w))),
+              binary_stands g.sizes two.IntRight new new (amount (8 * n.bytes - (low' + count))) refl tt new_writable new_range (amount_fits g.sizes _ (omega (arith, w))),
               (
-                binary_stands g.sizes two.IntRight b b (amount (8 * n.bytes - count)) refl tt second' second (amount_fits g.sizes _ (omega (arith, w))),
+                binary_stands g.sizes two.IntLeft field old (amount (8 * n.bytes - (low' + count))) same tt field_writable reads (amount_fits g.sizes _ (omega (arith, w))),
                 (
-                  binary_stands g.sizes two.IntLeft b b (amount low') refl tt second' second (amount_fits g.sizes low' (omega (arith, w, inside))),
+                  binary_stands g.sizes two.IntRight field field (amount (8 * n.bytes - count)) refl tt field_writable field_range (amount_fits g.sizes _ (omega (arith, w))),
                   (
-                    binary_stands g.sizes two.IntSub b old b (same, same) tt second' reads second,
-                    (binary_stands g.sizes two.IntAdd (placed place offset n) b a (refl, refl) tt writes second first, tt),
+                    binary_stands g.sizes two.IntLeft field field (amount low') refl tt field_writable field_range (amount_fits g.sizes low' (omega (arith, w, inside))),
+                    (
+                      binary_stands g.sizes two.IntSub field old field (same, same) tt field_writable reads field_range,
+                      (binary_stands g.sizes two.IntAdd to field new (refl, refl) tt writes field_range new_range, tt),
+                    ),
                   ),
                 ),
               ),
             ),
           ),
-        ),
-      )
+        )
+
+    masked_fine : (k : Option ℕ) → Straights (put_by_mask top k t n old v some_below low' count to)
+    masked_fine (Some k) = number_put_fine (k % 2 ^ count * 2 ^ low') (placed_below n.bytes k low' count inside)
+    masked_fine None = value_put_fine
+
+    bits_put_fine : Straights (bits_put top t n old v some_below low' count to)
+    unfolding bits_put
+    bits_put_fine =
+        straight_choice g.sizes (has_mask n low' count) (put_by_mask top (number_at v.place v.offset) t n old v some_below low' count to) (put_by_shifts top t n old v low' count to)
+        (λ yes. masked_fine (number_at v.place v.offset)) (λ no. shifts_fine)
 
   memory_put_fine : (t space : ℕ) (pointer : Reference) (width : Size) (v : Varnode) → IsSpace g space → ReferenceFits Local pointer width.bytes → IsPlaced g pointer → IsInRange g.sizes v → Room t → Straights (memory_put top t space pointer width v)
   memory_put_fine t space pointer width v there fits placed' reads room =
@@ -107,13 +178,13 @@ module _ (g : Setting) (is : IsMachine g) (Local : (node x n : ℕ) → Type 0) 
   reference_bits_fine : (r : Reference) (n : Size) (old v : Varnode) (low' count : ℕ) → ReferenceFits Local r n.bytes → IsPlaced g r → IsInRange g.sizes old → IsInRange g.sizes v → n.bytes ≡ old.size.bytes → v.size.bytes ≤ n.bytes → low' + count ≤ 8 * n.bytes
       → Straights (reference_bits top r n old v low' count)
   reference_bits_fine (storage space offset size) n old v low' count fits there reads reads' same narrower inside =
-      bits_put_fine 2 n old v low' count (In (record { 0 = space })) offset (space_writable g.sizes space offset n there) reads reads' same narrower inside (omega arith)
+      bits_put_fine 2 n old v false low' count (In (record { 0 = space })) offset (space_writable g.sizes space offset n there) reads reads' same narrower inside (omega arith)
   reference_bits_fine (local k x size) n old v low' count fits there reads reads' same narrower inside =
-      bits_put_fine 2 n old v low' count Unique (range_of k x) (temporary_writable g.sizes (range_of k x) n (local_range g is Local top low below k x n fits)) reads reads' same narrower inside (omega arith)
+      bits_put_fine 2 n old v false low' count Unique (range_of k x) (temporary_writable g.sizes (range_of k x) n (local_range g is Local top low below k x n fits)) reads reads' same narrower inside (omega arith)
   reference_bits_fine (number z) n old v low' count fits there reads reads' same narrower inside = tt
   reference_bits_fine (memory space size pointer width) n old v low' count fits there reads reads' same narrower inside =
-      straight_append g.sizes (bits_put top 2 n old v low' count (at_temp top 2 n)) (memory_put top 4 space pointer width (at_temp top 2 n))
-      (bits_put_fine 2 n old v low' count Unique (top + 2 * 16) (temp_writable g is Local top low below 2 n (omega arith)) reads reads' same narrower inside (omega arith))
+      straight_append g.sizes (bits_put top 2 n old v false low' count (at_temp top 2 n)) (memory_put top 4 space pointer width (at_temp top 2 n))
+      (bits_put_fine 2 n old v false low' count Unique (top + 2 * 16) (temp_writable g is Local top low below 2 n (omega arith)) reads reads' same narrower inside (omega arith))
       (memory_put_fine 4 space pointer width (at_temp top 2 n) there.0 fits there.1 (temp_range g is Local top low below 2 n (omega arith)) (omega arith))
 
   module _ (f : Frame) where
@@ -135,9 +206,9 @@ module _ (g : Setting) (is : IsMachine g) (Local : (node x n : ℕ) → Type 0) 
         let v = term_operand top g f 0 e in
         let n = size_at k in
         let reads = term_reads g is Local top low below f e 0 fits formed (omega arith) in
-        straight_append g.sizes (term_before top g f 0 e) (bits_put top 1 n (in_space space offset n) v low' count (in_space space offset n))
+        straight_append g.sizes (term_before top g f 0 e) (bits_put top 1 n (in_space space offset n) v (is_below e count) low' count (in_space space offset n))
         (before_fine g is Local top low below f e 0 fits formed (omega arith))
-        (bits_put_fine 1 n (in_space space offset n) v low' count (In (record { 0 = space })) offset (space_writable g.sizes space offset n there) there reads.range refl (omega (arith, size_bytes g is Local top low below f e v reads, where_fits.2)) where_fits.0 (omega arith))
+        (bits_put_fine 1 n (in_space space offset n) v (is_below e count) low' count (In (record { 0 = space })) offset (space_writable g.sizes space offset n there) there reads.range refl (omega (arith, size_bytes g is Local top low below f e v reads, where_fits.2)) where_fits.0 (omega arith))
     set_fine (s.register space offset n) e where_fits there fits formed room = reference_set_fine (storage space offset (size_at n)) e where_fits there fits formed room
     set_fine (s.local x) e where_fits there fits formed room = reference_set_fine (local f.node x (f.size x)) e where_fits there fits formed room
     set_fine (s.table i) e where_fits there fits formed room = reference_set_fine (reference_at f.refs i) e where_fits there fits formed room
@@ -152,9 +223,9 @@ module _ (g : Setting) (is : IsMachine g) (Local : (node x n : ℕ) → Type 0) 
     symbol_bits_fine (s.bit_range space offset k least count') n old v low' count fits there reads reads' same narrower inside =
         let tmp = at_temp top 2 n in
         let whole = in_space space offset (size_at k) in
-        straight_append g.sizes (bits_put top 2 n old v low' count tmp) (bits_put top 4 (size_at k) whole tmp least count' whole)
-        (bits_put_fine 2 n old v low' count Unique (top + 2 * 16) (temp_writable g is Local top low below 2 n (omega arith)) reads reads' same narrower inside (omega arith))
-        (bits_put_fine 4 (size_at k) whole tmp least count' (In (record { 0 = space })) offset (space_writable g.sizes space offset (size_at k) there) there (temp_range g is Local top low below 2 n (omega arith)) refl fits.2 fits.0 (omega arith))
+        straight_append g.sizes (bits_put top 2 n old v false low' count tmp) (bits_put top 4 (size_at k) whole tmp false least count' whole)
+        (bits_put_fine 2 n old v false low' count Unique (top + 2 * 16) (temp_writable g is Local top low below 2 n (omega arith)) reads reads' same narrower inside (omega arith))
+        (bits_put_fine 4 (size_at k) whole tmp false least count' (In (record { 0 = space })) offset (space_writable g.sizes space offset (size_at k) there) there (temp_range g is Local top low below 2 n (omega arith)) refl fits.2 fits.0 (omega arith))
     symbol_bits_fine (s.register space offset k) n old v low' count fits there reads reads' same narrower inside = reference_bits_fine (storage space offset (size_at k)) n old v low' count fits there reads reads' same narrower inside
     symbol_bits_fine (s.local x) n old v low' count fits there reads reads' same narrower inside = reference_bits_fine (local f.node x (f.size x)) n old v low' count fits there reads reads' same narrower inside
     symbol_bits_fine (s.table i) n old v low' count fits there reads reads' same narrower inside = reference_bits_fine (reference_at f.refs i) n old v low' count fits there reads reads' same narrower inside

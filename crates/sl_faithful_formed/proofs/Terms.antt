@@ -1,14 +1,17 @@
 -- The operations of an expression are well formed.
 use Rattle.std.proofs.Common.{◌≡◌, ℕ, ◌+◌, ◌-◌, ◌*◌, ◌%◌, ◌^◌, ◌<◌, ◌≤◌, Bool, true, false, List, [], ◌∷◌, ◌++◌, Option, Some, None, refl, sym, ap, subst, arith, pos, negsuc}
-use Rattle.std.specs.Prelude.{ℤ, if◌then◌else◌, nat_le}
+use Rattle.std.specs.Prelude.{ℤ, ◌&&◌, if◌then◌else◌, nat_le, nat_lt}
 use Rattle.std.proofs.lemmas.Bool.Decides.{nat_tests}
 use Rattle.std.proofs.lemmas.Nat.{mod_below}
 use Rattle.std.proofs.lemmas.List.Elements.{All-cons, All-nil}
+use Rattle.sl_faithful_code.specs.Bits.{bits_by_mask, bits_by_shifts, bits_into, clear_above, has_mask, lower, lowered, ones, shorten, shortened}
 use Rattle.sl_faithful_code.specs.Fits.{ReferenceFits, SymbolFits, TermFits, TermsFit}
 use Rattle.sl_faithful_code.specs.Operations.{Operation, amount, at_temp, binary, call_user, constant, in_space, load_from, range_of, temporary, unary}
-use Rattle.sl_faithful_code.specs.Terms.{bits_into, code_before, copied, operand, read_into, read_leaf, size_of, symbol_into, symbol_leaf, term_before, term_into, term_leaf, term_operand, terms_before, terms_operands, two_operands}
+use Rattle.sl_faithful_code.specs.Terms.{code_before, copied, operand, read_into, read_leaf, size_of, symbol_into, symbol_leaf, term_before, term_into, term_leaf, term_operand, terms_before, terms_operands, two_operands}
 use Rattle.sl_faithful_code.proofs.Numbers.{eight}
-use Rattle.sl_faithful_code.proofs.Terms.{placed}
+use Rattle.sl_faithful_code.proofs.Bits.{moved_size, ones_low}
+use Rattle.sl_faithful_code.proofs.Lands.{placed}
+use Rattle.sl_faithful_code.proofs.Operators.{left_true, right_true}
 use Rattle.sl_section_equations.specs.Equations.{size_at}
 use Rattle.sl_meaning_sections.specs.References.{Reference, Setting, local, memory, number, storage}
 use Rattle.sl_meaning_sections.specs.Values.{Frame, meant, reference_at, space_of}
@@ -22,7 +25,7 @@ use Rattle.sl_section_flat.specs.declared.term.Order.{Order}
 use Rattle.sl_section_flat.specs.declared.term.Order.TheVariants.{AsWritten, Exchanged}
 use Rattle.sl_faithful_formed.specs.Formed.{IsMachine, IsNoPiece, IsPlaced, TakesParts, TermIsFormed, TermsAreFormed}
 use Rattle.sl_faithful_formed.specs.Lengths.{term_parts, terms_parts}
-use Rattle.sl_faithful_formed.proofs.Operations.{AllStraight, Straight, amount_fits, binary_stands, call_user_stands, load_stands, straight_append, temporary_writable, unary_stands}
+use Rattle.sl_faithful_formed.proofs.Operations.{AllStraight, Straight, amount_fits, binary_stands, call_user_stands, load_stands, moved_fits, straight_append, straight_choice, straight_taken, temporary_writable, unary_stands}
 use Rattle.sl_word.specs.Numbers.{residue}
 use Rattle.sl_word.specs.Operations.{TakesSizes1, TakesSizes2}
 use Rattle.sl_word.specs.declared.operation.Op1.TheVariants as one
@@ -134,18 +137,78 @@ module _ (g : Setting) (is : IsMachine g) (Local : (node x n : ℕ) → Type 0) 
 
   -- ---- bits
 
-  pub bits_fine : (from : Varnode) (low' count : ℕ) (place : Place2) (offset : ℕ) (n : Size) (t : ℕ) → Writable (placed place offset n) → IsInRange g.sizes from → n.bytes ≤ from.size.bytes → t ≤ 1048576 → Fine (bits_into top t from low' count (placed place offset n))
-  bits_fine from low' count place offset n t writes reads narrower le =
-      let w = from.size.at_most_16 in
-      let tmp = at_temp top t from.size in
-      let there = temp_range t from.size le in
-      let write = temp_writable t from.size le in (
-        binary_stands g.sizes two.IntLeft tmp from (amount (8 * from.size.bytes - (low' + count))) refl tt write reads (amount_fits g.sizes _ (omega (arith, w))),
-        (
-          binary_stands g.sizes two.IntRight tmp tmp (amount (8 * from.size.bytes - count)) refl tt write there (amount_fits g.sizes _ (omega (arith, w))),
-          (binary_stands g.sizes two.Subpiece (placed place offset n) tmp (amount 0) (omega (arith, narrower)) refl writes there (amount_fits g.sizes 0 (omega arith)), tt),
-        ),
-      )
+  module _ (from : Varnode) (low' count : ℕ) (place : Place2) (offset : ℕ) (n : Size) (t : ℕ) (writes : Writable (placed place offset n)) (reads : IsInRange g.sizes from) (narrower : n.bytes ≤ from.size.bytes) (le : t ≤ 1048576) where
+    abbrev tall : Varnode
+    tall = at_temp top t from.size
+
+    abbrev out : Varnode
+    out = placed place offset n
+
+    lower_fine : low' ≤ 128 → Fine (lower top t from low')
+    lower_fine few =
+        straight_taken g.sizes (nat_lt 0 low') (binary two.IntRight tall from (amount low'))
+        (λ yes. binary_stands g.sizes two.IntRight tall from (amount low') refl tt (temp_writable t from.size le) reads (amount_fits g.sizes low' (omega (arith, few))))
+
+    lowered_range : IsInRange g.sizes (lowered top t from low')
+    lowered_range = moved_fits g.sizes (nat_lt 0 low') tall from (temp_range t from.size le) reads
+
+    lowered_bytes : (lowered top t from low').size.bytes ≡ from.size.bytes
+    lowered_bytes = moved_size (nat_lt 0 low') tall from from.size.bytes refl (λ no. refl)
+
+    clear_fine : count ≤ 8 * n.bytes → Fine (clear_above top t (lowered top t from low') count out)
+    clear_fine few =
+        let a = lowered top t from low' in
+        let short = at_temp top t n in
+        let less : n.bytes ≤ a.size.bytes = omega (arith, lowered_bytes, narrower) in
+        let same : n.bytes ≡ (shortened top t a n).size.bytes = sym (moved_size (nat_lt n.bytes a.size.bytes) short a n.bytes refl (λ no. grind (arith, nat_tests, less))) in
+        straight_append g.sizes (shorten top t a n) (binary two.IntAnd out (shortened top t a n) (constant (ones count) n) ∷ [])
+        (straight_taken g.sizes (nat_lt n.bytes a.size.bytes) (binary two.Subpiece short a (amount 0))
+        (λ yes. binary_stands g.sizes two.Subpiece short a (amount 0) (omega (arith, less)) refl (temp_writable t n le) lowered_range (amount_fits g.sizes 0 (omega arith)))) (
+          binary_stands g.sizes two.IntAnd out (shortened top t a n) (constant (ones count) n) (same, same) tt writes
+              (moved_fits g.sizes (nat_lt n.bytes a.size.bytes) short a (temp_range t n le) lowered_range) (ones_low n.bytes count few),
+          tt,
+        )
+
+    cut_fine : low' ≤ 128 → Fine (lower top t from low' ++ binary two.Subpiece out (lowered top t from low') (amount 0) ∷ [])
+    cut_fine few =
+        straight_append g.sizes (lower top t from low') (binary two.Subpiece out (lowered top t from low') (amount 0) ∷ []) (lower_fine few)
+        (binary_stands g.sizes two.Subpiece out (lowered top t from low') (amount 0) (omega (arith, lowered_bytes, narrower)) refl writes lowered_range (amount_fits g.sizes 0 (omega arith)), tt)
+
+    mask_fine : low' + count ≤ 8 * from.size.bytes → Fine (bits_by_mask top t from low' count out)
+    mask_fine inside =
+        let few : low' ≤ 128 = omega (arith, from.size.at_most_16, inside) in
+        straight_choice g.sizes (nat_lt (low' + count) (8 * from.size.bytes) && nat_lt count (8 * n.bytes))
+        (lower top t from low' ++ clear_above top t (lowered top t from low') count out) _
+        (λ yes.
+        let test = right_true (nat_lt (low' + count) (8 * from.size.bytes)) (nat_lt count (8 * n.bytes)) yes in
+        let less : count ≤ 8 * n.bytes = grind (arith, nat_tests) in
+        straight_append g.sizes (lower top t from low') (clear_above top t (lowered top t from low') count out) (lower_fine few) (clear_fine less))
+        (λ no. straight_choice g.sizes (nat_lt n.bytes from.size.bytes) (lower top t from low' ++ binary two.Subpiece out (lowered top t from low') (amount 0) ∷ []) (binary two.IntRight out from (amount low') ∷ [])
+        (λ yes. cut_fine few)
+        (λ wide. let same : n.bytes ≡ from.size.bytes = grind (arith, nat_tests, narrower) in
+        (binary_stands g.sizes two.IntRight out from (amount low') same tt writes reads (amount_fits g.sizes low' (omega (arith, few))), tt)))
+
+    shifts_fine : Fine (bits_by_shifts top t from low' count out)
+    shifts_fine =
+        let w = from.size.at_most_16 in
+        let there = temp_range t from.size le in
+        let write = temp_writable t from.size le in (
+          binary_stands g.sizes two.IntLeft tall from (amount (8 * from.size.bytes - (low' + count))) refl tt write reads (amount_fits g.sizes _ (omega (arith, w))),
+          (
+            binary_stands g.sizes two.IntRight tall tall (amount (8 * from.size.bytes - count)) refl tt write there (amount_fits g.sizes _ (omega (arith, w))),
+            (binary_stands g.sizes two.Subpiece out tall (amount 0) (omega (arith, narrower)) refl writes there (amount_fits g.sizes 0 (omega arith)), tt),
+          ),
+        )
+
+    pub bits_fine : Fine (bits_into top t from low' count out)
+    unfolding bits_into
+    bits_fine =
+        straight_choice g.sizes (has_mask from.size low' count && nat_le n.bytes from.size.bytes) (bits_by_mask top t from low' count out) (bits_by_shifts top t from low' count out)
+        (λ yes.
+        let masked = left_true (has_mask from.size low' count) (nat_le n.bytes from.size.bytes) yes in
+        let test = right_true (nat_le from.size.bytes 8) (nat_le (low' + count) (8 * from.size.bytes)) masked in
+        mask_fine (grind (arith, nat_tests)))
+        (λ no. shifts_fine)
 
   -- ---- names, expressions
 

@@ -5,7 +5,7 @@ use Rattle.std.specs.Prelude.{unwrap_or}
 use Rattle.sl_decode_meaning.specs.TreeCounts.{count}
 use Rattle.sl_decode_meaning.specs.Trees as d
 use Rattle.sl_decode_meaning.specs.Trees.{Trees, none, tree}
-use Rattle.sl_faithful_lists.proofs.Nodes.{nodes_lead_to_default}
+use Rattle.sl_faithful_lists.proofs.Nodes.{nodes_are_useful, nodes_lead_to_default}
 use Rattle.sl_faithful_lists.specs.Laws.{AllSectionsName, NodeNames, OperandsName, SectionNames}
 use Rattle.sl_faithful_lists.specs.Laws.{TranslationsAreFaithful}
 use Rattle.sl_faithful_lists.specs.Targets.{AllLeadToDefault}
@@ -78,4 +78,6 @@ translations_are_faithful s bytes address top d ops names implemented translatio
       targets = subst (λ space. AllLeadToDefault space ops)
           (default_is s.tables address d.after) lead.0;
       user_operations = lead.1;
+      useful = nodes_are_useful g (length s.tables.userops) top (instruction s bytes d.tree) ops
+          (instruction_names s g bytes names d.tree) is translation.well_formed.each;
     }

@@ -1,10 +1,16 @@
 -- The operations of nodes lead to the default space alone, and call the user operations that their
 -- sections name.
-use Rattle.std.proofs.Common.{ℕ, zero, suc, [], length, sym, subst}
+use Rattle.std.proofs.Common.{◌≡◌, ℕ, zero, suc, List, [], length, map, sym, subst}
 use Rattle.std.specs.Prelude.{slice_get, unwrap_or}
 use Rattle.sl_faithful_code.specs.Nodes.{children_code, node_code}
 use Rattle.sl_faithful_lists.proofs.Codes.{section_leads}
-use Rattle.sl_faithful_lists.proofs.Operations.{AllLead, calls_user_ops, leads_to_default}
+use Rattle.sl_faithful_code.specs.Operations.{operation_of}
+use Rattle.sl_faithful_lists.proofs.Operations.{AllLead, are_useful, calls_user_ops}
+use Rattle.sl_faithful_lists.proofs.Operations.{leads_to_default}
+use Rattle.sl_faithful_lists.specs.Useful.{AllAreUseful}
+use Rattle.sl_pcode.specs.WellFormed.{IsWellFormedOp}
+use Rattle.sl_pcode.specs.declared.operation.Op.{Op}
+use Rattle.std.specs.List.{All}
 use Rattle.sl_faithful_lists.specs.Laws.{NodeNames, NodesLeadToDefault, OperandsName}
 use Rattle.sl_faithful_keeping.specs.Names.{IsNamedSo}
 use Rattle.sl_meaning_sections.specs.Nodes.{Node, Operands, child, frame_of, given, no_operands, node}
@@ -31,3 +37,11 @@ pub nodes_lead_to_default : NodesLeadToDefault
 nodes_lead_to_default g userops top root ops named is =
     let lead = subst (AllLead g.default userops) (sym is) (node_leads top g userops root named) in
     (leads_to_default g.default userops ops lead, calls_user_ops g.default userops ops lead)
+
+-- well-formed ones do something
+pub nodes_are_useful : (g : Setting) (userops top : ℕ) (root : Node) (ops : List Op)
+    → NodeNames g userops root → map operation_of ops ≡ node_code top g root
+    → All (IsWellFormedOp g.sizes) ops → AllAreUseful ops
+nodes_are_useful g userops top root ops named is well =
+    let lead = subst (AllLead g.default userops) (sym is) (node_leads top g userops root named) in
+    are_useful g.sizes g.default userops ops lead well

@@ -1,3 +1,4 @@
 pub mod Faithful
 pub mod Laws
 pub mod Targets
+pub mod Useful
