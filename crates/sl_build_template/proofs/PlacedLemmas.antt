@@ -26,7 +26,6 @@ use Rattle.sl_build_template.specs.Views.{IsTemplateOf}
 use Rattle.sl_build_template.specs.declared.slot.Slot.{Slot}
 use Rattle.sl_build_template.specs.declared.slot.Slot.TheVariants as slot
 use Rattle.sl_build_template.proofs.TermLemmas.{IsSlotOf, Opens, all_before, before_is, form, into_is, joined, opens, value_is, values_are}
-use Rattle.sl_word.specs.declared.word.Size.{Size}
 
 number_nothing : (z : ℤ) (c : List Operation) → [] ≡ code_before (number_leaf z (size_at 8)) c ++ []
 unfolding size_at

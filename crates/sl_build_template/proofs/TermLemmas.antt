@@ -1,5 +1,5 @@
 -- The pieces of expressions come to their operations.
-use Rattle.std.proofs.Common.{◌≡◌, ℕ, ◌+◌, ◌-◌, ◌*◌, Bool, true, false, List, [], ◌∷◌, ◌++◌, append-nil, append_assoc, Option, Some, None, refl, sym, ap, ◌∙◌, pos, negsuc}
+use Rattle.std.proofs.Common.{◌≡◌, ℕ, ◌+◌, Bool, true, false, List, [], ◌∷◌, ◌++◌, append-nil, append_assoc, Option, Some, None, refl, sym, ap, ◌∙◌, pos, negsuc}
 use Rattle.std.specs.Prelude.{if◌then◌else◌, nat_le, unwrap_or}
 use Rattle.sl_faithful_code.specs.Bits.{bits_into}
 use Rattle.sl_faithful_code.specs.Operations as o
@@ -21,7 +21,7 @@ use Rattle.sl_build_template.specs.declared.slot.Slot.TheVariants as slot
 use Rattle.sl_word.specs.Numbers.{residue}
 use Rattle.sl_word.specs.declared.operation.Op1.TheVariants.{Copy}
 use Rattle.sl_word.specs.declared.operation.Op2.{Op2}
-use Rattle.sl_word.specs.declared.operation.Op2.TheVariants.{IntLeft, IntRight, Subpiece}
+use Rattle.sl_word.specs.declared.operation.Op2.TheVariants.{Subpiece}
 use Rattle.sl_word.specs.declared.word.Size.{Size}
 
 abbrev pub form : Setting → Frame → Form

@@ -7,11 +7,11 @@ use Rattle.std.specs.List.{All}
 use Rattle.std.proofs.lemmas.Bool.Decides.{nat_tests}
 use Rattle.std.proofs.lemmas.List.Elements.{All-cons, All-head, All-nil, All-tail}
 use Rattle.sl_faithful_code.specs.Bits.{taken}
-use Rattle.sl_faithful_code.specs.Operations.{Operation, binary, by_one, by_two, effect, is_zero}
+use Rattle.sl_faithful_code.specs.Operations.{Operation, binary, by_one, effect, is_zero}
 use Rattle.sl_faithful_code.specs.Operations.{is_zero_at, keeps, keeps_first, keeps_second}
 use Rattle.sl_faithful_code.specs.Operations.{operation_of, unary}
 use Rattle.sl_faithful_code.specs.Terms.{code_before, copied, two_operands}
-use Rattle.sl_faithful_code.proofs.Operators.{binary_is, by_one_effect, by_two_effect, same_number}
+use Rattle.sl_faithful_code.proofs.Operators.{binary_is, by_one_effect, by_two_effect}
 use Rattle.sl_faithful_code.proofs.Operators.{unary_is}
 use Rattle.sl_faithful_lists.specs.Targets.{AllCallUserOps, AllLeadToDefault, CallsUserOp, LeadsToDefault}
 use Rattle.sl_faithful_lists.specs.Useful.{AllAreUseful, IsNoZero, IsUseful}

@@ -57,6 +57,7 @@ module _ (s : Specification) (choose : Choice) where
                 read.faithful.translation;
             targets = read.faithful.targets;
             user_operations = read.faithful.user_operations;
+            useful = read.faithful.useful;
           };
         }
 
