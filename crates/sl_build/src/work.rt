@@ -1,7 +1,8 @@
 //! What all nodes of an instruction share.
 
-ghost use Rattle.std.specs.Prelude.{◌≡◌, ◌+◌, ◌≤◌, ◌^◌, ◌*◌, IfOk};
+ghost use Rattle.std.specs.Prelude.{◌≡◌, ◌+◌, ◌≤◌, ◌^◌, ◌*◌, IfOk, IsOk};
 ghost use Rattle.sl_faithful_code.specs.Nodes.{top_of};
+ghost use Rattle.sl_spec_tables.specs.TableRules.{most_nodes};
 
 use crate::sections::Sections;
 use sl_build_emit::Number;
@@ -30,6 +31,7 @@ pub(crate) struct Work<'w, 'b, 'a> {
 pub(crate) fn top_of(nodes: usize) -> Result<u64, AllocError>
     ensures value { IfOk result (λ top. top ≡ top_of nodes) }
     ensures low { IfOk result (λ top. top ≤ 2 ^ 32) }
+    ensures few { nodes ≤ most_nodes → IsOk result }
 {
     if nodes > MOST_NODES {
         return Err(AllocError);

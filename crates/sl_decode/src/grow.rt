@@ -1,6 +1,6 @@
 //! The first moments of a decode: a tree grows depth first, parents first.
 
-ghost use Rattle.std.specs.Prelude.{◌≡◌, ◌+◌, ◌≤◌, [], map, length, OnOk};
+ghost use Rattle.std.specs.Prelude.{◌≡◌, ◌+◌, ◌≤◌, ◌↔◌, [], map, length, IsTrue, OnOk};
 ghost use Rattle.sl_decode.specs.Inputs.{input_of};
 ghost use Rattle.sl_decode.specs.Outcomes.{Gives};
 ghost use Rattle.sl_decode.specs.Sprouts.{flat, laid, laid_grove, measured, row_of};
@@ -13,11 +13,18 @@ use crate::decode::{Choose, Decode, length_of, place_behind};
 use crate::outcomes::DecodeError;
 use crate::walk::{Growth, Sprout};
 use sl_decode_meaning::Fault;
-use sl_decode_plan::Plan;
+use sl_decode_plan::{Plan, Slot};
 use sl_spec::TableId;
 
 /// The most table operands of a constructor. More would be want of memory.
 const MOST_OPERANDS: usize = 32;
+
+/// Whether a constructor has no more than 32 table operands.
+fn are_few(slots: &[Slot]) -> bool
+    ensures { IsTrue result ↔ (length slots.now ≤ 32) }
+{
+    slots.len() <= MOST_OPERANDS
+}
 
 /// The length of a node, and the context that it leaves.
 #[derive(Clone, Copy)]
@@ -110,7 +117,7 @@ impl<C: Choose> Decode<'_, '_, C> {
             let after = context;
             return Ok(Grown { length, after });
         }
-        if slots.len() > MOST_OPERANDS {
+        if !are_few(slots) {
             return Err(DecodeError::NoMemory);
         }
         let mut lengths = [0; 32];

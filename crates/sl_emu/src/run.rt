@@ -1,6 +1,6 @@
 //! Runs of lists.
 
-ghost use Rattle.std.specs.Prelude.{◌≡◌, ◌+◌, ◌^◌, ◌<◌, ◌≤◌, length, IfOk, IfErr, Err, Some};
+ghost use Rattle.std.specs.Prelude.{◌≡◌, ◌+◌, ◌^◌, ◌<◌, ◌≤◌, ◌↔◌, length, IfOk, IfErr, Err, IsTrue, Some};
 ghost use Rattle.std.specs.List.{All};
 ghost use Rattle.sl_word.specs.Bytes.{address_sizes, byte_at, endian_of};
 ghost use Rattle.sl_pcode.specs.Machine.{EndsSo, rest_after, run_from};
@@ -92,11 +92,18 @@ pub fn run_ops_in(
 {
     *ran = 0;
     let ops = ops.ops();
-    if ops.len() > MOST_OPERATIONS {
+    if !is_short(ops) {
         return Err(EmuError::NoMemory);
     }
     t.clear(state.endian());
     run_list(ops, state, t, ran)
+}
+
+// Whether a list has no more than 2^40 operations.
+fn is_short(ops: &[Op]) -> bool
+    ensures { IsTrue result ↔ (length ops.now ≤ 2 ^ 40) }
+{
+    ops.len() <= MOST_OPERATIONS
 }
 
 // Runs a list, with temporary bytes that are all 0.

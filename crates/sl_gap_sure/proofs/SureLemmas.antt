@@ -42,7 +42,8 @@ use Rattle.sl_gap_sure.proofs.NestLemmas.{AreAbove, few_above, none_above, one_a
 use Rattle.sl_gap_sure.proofs.OutcomeLemmas.{IsServed, acts_quiet, late_served, then_served}
 use Rattle.sl_gap_sure.proofs.PlaceLemmas.{operand_inside}
 use Rattle.sl_gap_sure.proofs.WindowLemmas.{window_fits, windows_follow}
-use Rattle.sl_gap_sure.specs.Laws.{SureIsMatched, window}
+use Rattle.sl_gap_sure.specs.Laws.{SureIsMatched}
+use Rattle.sl_gap_sure.specs.Matched.{window}
 use Rattle.sl_gap_tables.specs.Gaps.{IsChosen, IsGap}
 use Rattle.sl_section_weights.proofs.WeightLemmas.{none_reach}
 use Rattle.sl_shape.specs.Readings.{HasPoint}

@@ -1,28 +1,13 @@
 -- law: what the report's `sure` promises.
-use Rattle.std.specs.Prelude.{◌≡◌, ◌<◌, ◌^◌, ℕ, All, List, Ok, Err, length}
-use Rattle.sl_ast.specs.Trees.{Constructor, Item}
-use Rattle.sl_ast.specs.Unfolding.{Placed}
+use Rattle.std.specs.Prelude.{List, Ok}
+use Rattle.sl_ast.specs.Trees.{Item}
 use Rattle.sl_bind.specs.Binding.{Binds, constructors_of}
-use Rattle.sl_decode_choices.specs.Choices.{IsChoiceOf}
-use Rattle.sl_decode_meaning.specs.Choices.{Choice}
-use Rattle.sl_decode_meaning.specs.Decoding.{decoded}
-use Rattle.sl_decode_meaning.specs.declared.faults.Fault.TheVariants.{NoConstructor}
 use Rattle.sl_gap.specs.Reports.{IsSure}
+use Rattle.sl_gap_sure.specs.Matched.{NeverUnmatched}
 use Rattle.sl_spec.specs.declared.tables.Tables.{Tables}
 use Rattle.sl_word.specs.declared.word.Size.{Size}
 
--- how many bytes a decode is told: those of the longest instruction, and the sixteen after each of its places
-abbrev pub window : ℕ
-window = 272
-
--- No decode ends for want of a constructor, whatever the bytes, the address and the context.
-abbrev pub NeverUnmatched : Tables → List (Placed Constructor) → Type 0
-NeverUnmatched t cs = (choose : Choice) → IsChoiceOf t cs choose
-    → (bytes : List ℕ) → All (λ b. b < 256) bytes → length bytes ≡ window
-    → (address context : ℕ) → context < 2 ^ 64 → (table at : ℕ)
-    → decoded t cs choose bytes address context ≡ Err (NoConstructor table at) → ⊥
-
--- So it is with each text that is bound to tables and of which the report says `sure`.
+-- No decode ends for want of a constructor by a text that is bound to tables and of which the report says `sure`.
 abbrev pub SureIsMatched : Type 0
 SureIsMatched = (items : List Item) (t : Tables) (sizes : List (List Size)) → Binds items (Ok (t, sizes))
     → IsSure t (constructors_of items) → NeverUnmatched t (constructors_of items)

@@ -1,6 +1,6 @@
 //! Machines before their first step.
 
-ghost use Rattle.std.specs.Prelude.{◌≡◌, ℕ, ◌+◌, ◌^◌, ◌<◌, ◌≤◌, IfOk, length};
+ghost use Rattle.std.specs.Prelude.{◌≡◌, ℕ, ◌+◌, ◌^◌, ◌<◌, ◌≤◌, ◌↔◌, IfOk, IsTrue, length};
 ghost use Rattle.sl_faithful_code.specs.Faithful.{AreBytes};
 ghost use Rattle.sl_decode_meaning.specs.Actions.{address_bytes};
 ghost use Rattle.sl_list_instructions.specs.Listing.{image_from};
@@ -24,6 +24,13 @@ pub(crate) fn size_of(space: &Space) -> AddressSize
     AddressSize { bytes: space.size }
 }
 
+/// Whether there are fewer than 2^32 spaces.
+fn have_room(sizes: &[AddressSize]) -> bool
+    ensures { IsTrue result ↔ (length sizes.now < 2 ^ 32) }
+{
+    sizes.len() <= MOST_SPACES
+}
+
 /// The bytes of a machine before its first step: the image in the default space from its base on,
 /// and zeros.
 pub(crate) fn opening(
@@ -39,7 +46,7 @@ pub(crate) fn opening(
         → byte_at state ≡ opening tables.now (image_from image.now base start)) }
 {
     let sizes = address_sizes(alloc, tables)?;
-    if sizes.len() > MOST_SPACES {
+    if !have_room(sizes.as_slice()) {
         return Err(AllocError);
     }
     let space = default_space(tables)?;

@@ -1,4 +1,4 @@
--- step: lines that a file can number.
+-- view: lines that a file can number.
 use Rattle.std.specs.Prelude.{◌≤◌}
 use Rattle.sl_preproc.specs.declared.places.Place.{Place}
 use Rattle.sl_store_format.specs.Items.{greatest_line}

@@ -1,23 +1,28 @@
 -- A packed specification is answered as the specification itself.
-use Rattle.std.proofs.Common.{◌≡◌, ℕ, ◌≤◌, List, length, Option, Some, Result, Ok, Err, refl, sym, ap, subst}
+use Rattle.std.proofs.Common.{◌≡◌, ℕ, ◌≤◌, List, length, Option, Some, Result, Ok, Err, refl, sym, ap, subst, ◌∙◌}
 use Rattle.sl_ast.specs.Trees.{Item}
 use Rattle.sl_outside.specs.Folder.{Folder, size_limit}
+use Rattle.sl_bind.specs.Verdict.{taken}
 use Rattle.sl_spec.specs.declared.tables.Tables as spec
+use Rattle.sl_list_instructions.proofs.AcceptedLemmas.{accepted}
 use Rattle.sl_list_instructions.specs.Listing.{Image}
-use Rattle.sl_store_format.specs.Packed.{Packed}
+use Rattle.sl_store.proofs.StoreLaws.{one_to_one}
+use Rattle.sl_store_format.specs.Packed.{Packed, items_count}
 use Rattle.sl_store_write.specs.Packs.{IsFileOf}
 use Rattle.sl_tool_request.specs.Requests.{PackedFile, SpecFile, Target, TextFile}
-use Rattle.sl_tool.specs.Answers.{Answers, Follows, Shows, counts_of, shows_of}
+use Rattle.sl_tool.specs.Answers.{Answers, Shows, counts_of, gaps_of, shows_of}
 use Rattle.sl_tool.specs.Endings.{Shown}
 use Rattle.sl_tool.specs.Laws.{PackedIsAlike, over}
 use Rattle.sl_tool.specs.Request.{CheckSpec, Generate, PackSpec, ReportGaps, Request, Show, ShowImage, Listing, Operations, Run}
+use Rattle.sl_tool_stages.specs.ItemLines.{files_in, lines_in}
 use Rattle.sl_tool_stages.specs.Packing.{packed_form_of}
 use Rattle.sl_tool_stages.specs.Stage.{HasOneResult, Stage, Then}
 use Rattle.sl_tool_stages.specs.Stage.Then.{goes, stops}
 use Rattle.sl_tool_stages.specs.Stages.{Loads, Specifies}
 use Rattle.sl_tool_stages.specs.Stages.Reads.{of_packed}
-use Rattle.sl_tool_stages.specs.Values.{Compiled, Loaded, Origin, InText, Stored, Tree, compiled, loaded, tree}
+use Rattle.sl_tool_stages.specs.Values.{Compiled, Origin, InText, Stored, Tree, compiled, loaded, tree}
 use Rattle.sl_tool_stages.specs.declared.refusal.Refusal.{Refusal}
+use Rattle.sl_tool.proofs.GapAlikeLemmas.{gaps_alike}
 use Rattle.sl_tool_stages.proofs.ReadLemmas.{specified}
 use Rattle.sl_tool_stages.proofs.StageLemmas.{specifies_one}
 use Rattle.sl_tool_stages.proofs.Thens.{not_both, ok_is}
@@ -53,10 +58,25 @@ module _ (o q : Origin) (items : List Item) (b : spec.Tables) where
 
 -- ---- the file of a specification
 
+-- what is packed has the items, the files and the lines of the specification
 form_items : (t : Tree) → (packed_form_of t).items ≡ t.items
 form_items t = by_origin t.origin
   where
     by_origin : (o : Origin) → (packed_form_of (tree o t.items)).items ≡ t.items
+    by_origin (InText k) = refl
+    by_origin (Stored files places) = refl
+
+form_files : (t : Tree) → files_in t.origin ≡ (packed_form_of t).files
+form_files t = by_origin t.origin
+  where
+    by_origin : (o : Origin) → files_in o ≡ (packed_form_of (tree o t.items)).files
+    by_origin (InText k) = refl
+    by_origin (Stored files places) = refl
+
+form_lines : (t : Tree) → lines_in t.origin t.items ≡ (packed_form_of t).places
+form_lines t = by_origin t.origin
+  where
+    by_origin : (o : Origin) → lines_in o t.items ≡ (packed_form_of (tree o t.items)).places
     by_origin (InText k) = refl
     by_origin (Stored files places) = refl
 
@@ -65,34 +85,49 @@ module _ (folder : Folder) (main name bytes : List ℕ) (c : Compiled) (sound : 
   abbrev form : Packed
   form = packed_form_of c.tree
 
+  abbrev stored : Origin
+  stored = Stored form.files form.places
+
   abbrev opened_spec : Compiled
-  opened_spec = compiled (tree (Stored form.files form.places) c.tree.items) c.tables
+  opened_spec = compiled (tree stored c.tree.items) c.tables
+
+  keeps_rules : taken c.tree.items ≡ Ok c.tables
+  keeps_rules = (accepted c.tree.items c.tables (specified (Some folder) (TextFile main) c sound).compiles).keeps_rules
+
+  many : length (lines_in c.tree.origin c.tree.items) ≡ items_count c.tree.items
+  many =
+      ap length (form_lines c.tree) ∙ (one_to_one.may_be_packed form bytes file).as_many
+      ∙ ap items_count (form_items c.tree)
 
   opens : Specifies (Some folder) (PackedFile name) (Ok opened_spec)
   opens =
-      let is : tree (Stored form.files form.places) c.tree.items ≡ tree (Stored form.files form.places) form.items =
-      ap (λ (xs : List Item). tree (Stored form.files form.places) xs) (sym (form_items c.tree)) in
+      let is : tree stored c.tree.items ≡ tree stored form.items =
+      ap (λ (xs : List Item). tree stored xs) (sym (form_items c.tree)) in
       goes {b = opened_spec.tree} (of_packed (goes (there, small) (form, file, is))) (refl, (specified (Some folder) (TextFile main) c sound).compiles)
 
   forth : (r : Request) (x : Result Shown Refusal) → Answers (Some folder) (over (TextFile main) r) x → Answers (Some folder) (over (PackedFile name) r) x
   forth (CheckSpec spec) x h =
       alike_then (Specifies (Some folder)) (Shows counts_of) (Shows counts_of) _ _ c opened_spec (specifies_one folder) sound opens
-      (counts_same c.tree.origin (Stored form.files form.places) c.tree.items c.tables) x h
+      (counts_same c.tree.origin stored c.tree.items c.tables) x h
   forth (ShowImage t what) x h =
       alike_then (Specifies (Some folder)) _ _ _ _ c opened_spec (specifies_one folder) sound opens
-      (image_same c.tree.origin (Stored form.files form.places) c.tree.items c.tables (Some folder) t (TextFile main) (PackedFile name) what) x h
-  forth (ReportGaps spec) x h = h
+      (image_same c.tree.origin stored c.tree.items c.tables (Some folder) t (TextFile main) (PackedFile name) what) x h
+  forth (ReportGaps spec) x h =
+      alike_then (Specifies (Some folder)) (Shows gaps_of) (Shows gaps_of) _ _ c opened_spec (specifies_one folder) sound opens
+      (gaps_alike c.tree.origin stored c.tree.items c.tables keeps_rules (form_files c.tree) (form_lines c.tree) many) x h
   forth (Generate size) x h = h
   forth (PackSpec spec) x h = h
 
   back : (r : Request) (x : Result Shown Refusal) → Answers (Some folder) (over (PackedFile name) r) x → Answers (Some folder) (over (TextFile main) r) x
   back (CheckSpec spec) x h =
       alike_then (Specifies (Some folder)) (Shows counts_of) (Shows counts_of) _ _ opened_spec c (specifies_one folder) opens sound
-      (counts_same (Stored form.files form.places) c.tree.origin c.tree.items c.tables) x h
+      (counts_same stored c.tree.origin c.tree.items c.tables) x h
   back (ShowImage t what) x h =
       alike_then (Specifies (Some folder)) _ _ _ _ opened_spec c (specifies_one folder) opens sound
-      (image_same (Stored form.files form.places) c.tree.origin c.tree.items c.tables (Some folder) t (PackedFile name) (TextFile main) what) x h
-  back (ReportGaps spec) x h = h
+      (image_same stored c.tree.origin c.tree.items c.tables (Some folder) t (PackedFile name) (TextFile main) what) x h
+  back (ReportGaps spec) x h =
+      alike_then (Specifies (Some folder)) (Shows gaps_of) (Shows gaps_of) _ _ opened_spec c (specifies_one folder) opens sound
+      (gaps_alike stored c.tree.origin c.tree.items c.tables keeps_rules (sym (form_files c.tree)) (sym (form_lines c.tree)) (ap length (sym (form_lines c.tree)) ∙ many)) x h
   back (Generate size) x h = h
   back (PackSpec spec) x h = h
 

@@ -4,7 +4,10 @@ pub mod RunLemmas
 pub mod OneAnswer
 pub mod SomeAnswer
 pub mod CompleteLemmas
+pub mod CtorItemLemmas
+pub mod GapAlikeLemmas
 pub mod AlikeLemmas
+pub mod SureLineLemmas
 pub mod AnsweredLemmas
 pub mod FigureLemmas
 pub mod ShowLemmas

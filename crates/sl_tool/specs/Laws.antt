@@ -98,12 +98,11 @@ AcceptedAreAnswered = (told : Option Folder) (r : Request) → IsAccepted told r
 
 -- ---- packed specifications
 
--- the request over this file of a specification; `gen` and `pack` are over none that could be packed, and the law leaves a
--- report on gaps as it is
+-- the request over this file of a specification; `gen` and `pack` are over none that could be packed
 abbrev pub over : SpecFile → Request → Request
 over file (CheckSpec spec) = CheckSpec file
 over file (ShowImage t what) = ShowImage (record t { spec = file }) what
-over file (ReportGaps spec) = ReportGaps spec
+over file (ReportGaps spec) = ReportGaps file
 over file (Generate size) = Generate size
 over file (PackSpec name) = PackSpec name
 

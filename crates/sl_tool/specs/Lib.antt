@@ -1,5 +1,6 @@
 pub mod Counts
 pub mod Endings
+pub mod ExitNumbers
 pub mod Request
 pub mod Shows
 pub mod GapText
@@ -11,5 +12,6 @@ pub mod Streams
 pub mod Growth
 pub mod Ends
 pub mod Laws
+pub mod SureLaws
 pub mod Requests
 pub mod Writing

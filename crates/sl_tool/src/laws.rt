@@ -2,6 +2,7 @@
 
 ghost use Rattle.sl_tool.specs.Laws.{AcceptedAreAnswered, HasOneAnswer, HasSomeAnswer, IsComplete};
 ghost use Rattle.sl_tool.specs.Laws.{PackedIsAlike};
+ghost use Rattle.sl_tool.specs.SureLaws.{PrintedSureIsMatched};
 
 /// A request has one answer at most, where the folder is told or it is a `gen`: an ending and a
 /// text, or a refusal; but for the lists of operations that `pcode` prints, of which any may stand
@@ -30,4 +31,11 @@ pub fn complete()
 /// over its text, where that file isn't too long.
 pub fn packed_is_alike()
     ensures { PackedIsAlike }
+{}
+
+/// Where a call of `gaps` ends as done, and the last line of the text that it wrote is `sure`, no
+/// decode by the specification ends for want of a constructor, whatever the bytes, the address and
+/// the context.
+pub fn printed_sure_is_matched()
+    ensures { PrintedSureIsMatched }
 {}

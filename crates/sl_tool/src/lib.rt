@@ -29,6 +29,9 @@ mod status;
 mod tool;
 mod writing;
 
-pub use laws::{accepted_are_answered, complete, one_answer, packed_is_alike, some_answer};
+pub use laws::{
+    accepted_are_answered, complete, one_answer, packed_is_alike, printed_sure_is_matched,
+    some_answer,
+};
 pub use status::Status;
 pub use tool::run_tool;

@@ -3,8 +3,9 @@
 ghost use Rattle.std.specs.Prelude.{◌≡◌};
 ghost use Rattle.sl_tool.specs.Endings.{ended, ending_of};
 
-/// How a call ended. The program's exit status is the variant's place in this order: 0 for `Done`,
-/// 1 for `Refused`, and so on.
+use std::process::ExitCode;
+
+/// How a call ended.
 #[derive(Clone, Copy, Debug, PartialEq, Eq)]
 pub enum Status {
     /// The whole text was written.
@@ -21,6 +22,20 @@ pub enum Status {
     NoMemory,
     /// A run met a fault, which the last line of the text tells.
     Stopped,
+}
+
+impl Status {
+    ghost use Rattle.std.specs.Prelude.{◌≡◌};
+    ghost use Rattle.std.specs.Process.{exit_status};
+    ghost use Rattle.sl_tool.specs.ExitNumbers.{exit_number};
+
+    /// The exit status of the program: the variant's place, so 0 for `Done`, 1 for `Refused`, and
+    /// so on.
+    pub fn exit_code(self) -> ExitCode
+        ensures { exit_status result ≡ exit_number self }
+    {
+        ExitCode::from(self as u8)
+    }
 }
 
 /// How a command ended that wrote its whole text.

@@ -3,6 +3,7 @@ pub mod CompiledLemmas
 pub mod Thens
 pub mod ExpandLemmas
 pub mod PlaceLemmas
+pub mod ItemPlaceLemmas
 pub mod TokenLemmas
 pub mod SoundTexts
 pub mod NameLemmas

@@ -17,8 +17,8 @@ use Rattle.sl_lex.specs.declared.mode.Mode.TheVariants.{Top}
 use Rattle.sl_preproc.specs.Expanded.{Text, line_index, or_no_place, place_at}
 use Rattle.sl_preproc.specs.Sound.{IsSound}
 use Rattle.sl_preproc.specs.declared.places.Place.{Place}
+use Rattle.sl_store_text.specs.PackedForm.{from_or}
 use Rattle.sl_tool_stages.specs.Halts.{bad_place}
-use Rattle.sl_tool_stages.specs.Places.{from_or}
 use Rattle.sl_tool_stages.specs.declared.place.Place as program_place
 use Rattle.sl_tool_stages.specs.Stages.{problem_of_fault}
 use Rattle.sl_tool_stages.specs.declared.problem.Problem.{Problem}

@@ -3,6 +3,7 @@ pub mod Lines
 pub mod Problems
 pub mod Values
 pub mod Places
+pub mod ItemLines
 pub mod Stages
 pub mod Outcomes
 pub mod SourceView

@@ -5,9 +5,9 @@ use Rattle.sl_ast.specs.Trees.{Item}
 use Rattle.sl_ast.specs.Unfolding.{firsts}
 use Rattle.sl_bind.specs.BindFaults.{token_of}
 use Rattle.sl_bind_compile.specs.Outcomes.{item_of_ctor}
-use Rattle.sl_lex.specs.Reading.{Token}
 use Rattle.sl_preproc.specs.Expanded.{Text, or_no_place, place_at}
 use Rattle.sl_preproc.specs.declared.places.Place as line
+use Rattle.sl_store_text.specs.PackedForm as form
 use Rattle.sl_tool_stages.specs.Values.{Compiled, InText, Origin, Stored, Tokens}
 use Rattle.sl_tool_stages.specs.declared.place.Place.{Place}
 
@@ -23,13 +23,9 @@ place_of_byte t byte = named t.files (place_at t byte)
 
 -- ---- tokens
 
-abbrev pub from_or : ℕ → Option Token → ℕ
-from_or end None = end
-from_or end (Some t) = t.from
-
 -- the byte at which the token of this index begins; after the last one it is the text's end
 abbrev pub start_of : Tokens → ℕ → ℕ
-start_of k index = from_or (length k.source.text.bytes) (slice_get k.tokens index)
+start_of k index = form.start_of k.tokens index (length k.source.text.bytes)
 
 abbrev pub place_of_token : Tokens → ℕ → Place
 place_of_token k index = place_of_byte k.source.text (start_of k index)

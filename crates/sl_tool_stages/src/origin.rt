@@ -7,7 +7,9 @@ ghost use Rattle.sl_tool_stages.specs.Places.{named, stored_place};
 
 use crate::place::{Name, Place};
 use crate::tokens::Tokens;
+use sl_ast::items::Spec;
 use sl_preproc::Place as Line;
+use sl_store_text::item_places;
 use std::alloc::{AllocError, Global};
 
 /// Places that were stored with a tree.
@@ -72,8 +74,10 @@ fn named(alloc: Global, files: &[String], place: Line) -> Result<Place, AllocErr
 
 impl<'s, 'r> Origin<'s, 'r> {
     ghost use Rattle.std.specs.Prelude.{◌≡◌, IfOk};
+    ghost use Rattle.sl_ast.specs.Views.{indexes_of, items_of};
+    ghost use Rattle.sl_tool_stages.specs.ItemLines.{files_in, lines_in, place_of_line};
     ghost use Rattle.sl_tool_stages.specs.OriginView.{origin_view};
-    ghost use Rattle.sl_tool_stages.specs.Places.{place_in};
+    ghost use Rattle.sl_tool_stages.specs.Places.{indexes_in, place_in};
 
     /// The place of the item with this index, as the tree has it: that of its first token, or its
     /// number. Where none is given, it is the place of the text's end.
@@ -86,6 +90,37 @@ impl<'s, 'r> Origin<'s, 'r> {
                 let place = stored_place(stored.places.as_slice(), index);
                 named(alloc, stored.files.as_slice(), place)
             }
+        }
+    }
+
+    /// The lines of the items of the tree, a block's before those of the items inside it.
+    pub fn lines(&self, alloc: Global, spec: &Spec<'_>) -> Result<Vec<Line>, AllocError>
+        requires { indexes_of spec.now ≡ indexes_in (origin_view self.now) (items_of spec.now) }
+        ensures { IfOk result (λ lines.
+            lines.items ≡ lines_in (origin_view self.now) (items_of spec.now)) }
+    {
+        match self {
+            Origin::InText(tokens) => {
+                let text = &tokens.source.expanded;
+                item_places(alloc, text, tokens.tokens.as_slice(), spec)
+            }
+            Origin::Stored(stored) => stored.places.as_slice().to_vec(alloc),
+        }
+    }
+
+    /// The place that a line of one of the files is. Where none is given, it is that of the text's
+    /// end.
+    pub fn place_of_line(&self, alloc: Global, line: Option<Line>) -> Result<Place, AllocError>
+        ensures { IfOk result (λ place. place ≡ place_of_line (origin_view self.now) line) }
+    {
+        let Some(line) = line else {
+            return self.place_of(alloc, None);
+        };
+        match self {
+            Origin::InText(tokens) => {
+                named(alloc, tokens.source.expanded.files.as_slice(), line)
+            }
+            Origin::Stored(stored) => named(alloc, stored.files.as_slice(), line),
         }
     }
 }

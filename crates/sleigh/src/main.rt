@@ -15,7 +15,7 @@ fn main(rt: HostRuntime) -> ExitCode {
         // Words that aren't UTF-8 ask for nothing that the tool does.
         Err(_) => called(&rt, &[]),
     };
-    ExitCode::from(status as u8)
+    status.exit_code()
 }
 
 fn words(rt: &HostRuntime) -> io::Result<Vec<String>> {

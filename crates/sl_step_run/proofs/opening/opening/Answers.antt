@@ -14,7 +14,7 @@ load_image-requires-clause-room c =
     let t = c.args.tables.now in
     let space = c.in_ok-space.space.0 in
     let sizes : address_sizes c.in_ok-state.state ≡ map (λ s. s.size) t.spaces =
-    c.in_ok-state.ensures.sizes ∙ ap byte_counts c.as_slice.ensures.value ∙ c.in_ok-sizes.ensures in
+    c.in_ok-state.ensures.sizes ∙ ap byte_counts c.as_slice-2.ensures.value ∙ c.in_ok-sizes.ensures in
     let size = ap (λ (l : List ℕ). slice_index l space) sizes ∙ default_size t space c.in_ok-space.ensures in
     subst (λ (n : ℕ). c.args.base + length c.args.image.now ≤ 256 ^ n) (sym size) c.requires
 
@@ -23,7 +23,7 @@ returns-clause-memory c =
     let t = c.args.tables.now in
     let space = c.in_ok-space.space.0 in
     let sizes : address_sizes c.in_ok-state.state ≡ map (λ s. s.size) t.spaces =
-    c.in_ok-state.ensures.sizes ∙ ap byte_counts c.as_slice.ensures.value ∙ c.in_ok-sizes.ensures in
+    c.in_ok-state.ensures.sizes ∙ ap byte_counts c.as_slice-2.ensures.value ∙ c.in_ok-sizes.ensures in
     let size = ap (λ (l : List ℕ). slice_index l space) sizes ∙ default_size t space c.in_ok-space.ensures in
     λ start. opening_is t
     (image_from c.args.image.now c.args.base start) c.in_ok-state.state c.load_image.new.self space

@@ -25,13 +25,12 @@ returns c = λ parsed.
     let items = items_of c.args.spec.now in
     let f = place_of_first (seen e) tokens in
     let names = c.as_slice-files.ensures.value in
-    let parts = c.as_slice-3.ensures.value in
-    let indexes : c.as_slice.result.now ≡ firsts items = c.as_slice.ensures.value ∙ c.in_ok-firsts.ensures ∙ parsed.indexes in
-    let placed : c.in_ok-places.places.items ≡ map f (firsts items) = c.in_ok-places.ensures.are ∙ ap (map f) indexes in
+    let parts = c.as_slice-2.ensures.value in
+    let placed : c.in_ok-places.places.items ≡ map f (firsts items) = c.in_ok-places.ensures.are ∙ ap (map f) parsed.indexes in
     let lines : Each HasLine (map f (firsts items)) = subst (Each HasLine) placed c.in_ok-places.ensures.lines in
     let few : length e.files.items ≤ greatest_line = omega (arith, ap (λ (fs : List (String Global)). length fs) names, c.if-files-gt-MOST_FILES.false) in
-    let same : parts_of c.as_slice-files.result.now c.as_slice-2.result.now c.as_slice-3.result.now ≡ packed_form (seen e) tokens items =
-    ap (λ (fs : List (String Global)). parts_of fs c.as_slice-2.result.now c.as_slice-3.result.now) names
-    ∙ ap (λ (is : List Item). parts_of e.files.items c.as_slice-2.result.now is) parts
-    ∙ ap (λ (ps : List Place). parts_of e.files.items ps c.args.spec.now.items.items) (c.as_slice-2.ensures.value ∙ placed) in
+    let same : parts_of c.as_slice-files.result.now c.as_slice.result.now c.as_slice-2.result.now ≡ packed_form (seen e) tokens items =
+    ap (λ (fs : List (String Global)). parts_of fs c.as_slice.result.now c.as_slice-2.result.now) names
+    ∙ ap (λ (is : List Item). parts_of e.files.items c.as_slice.result.now is) parts
+    ∙ ap (λ (ps : List Place). parts_of e.files.items ps c.args.spec.now.items.items) (c.as_slice.ensures.value ∙ placed) in
     subst (λ (p : Packed). IsPacked p → IfOk c.pack_parts.result (λ v. IsFileOf p v.items)) same c.pack_parts.ensures (may_be_packed e tokens c.args.spec.now few lines parsed))
