@@ -1,107 +1,128 @@
--- Roots in turn, and lengths in turn: where no list of any has an encoding, there is none.
-use Rattle.std.proofs.Common.{◌≡◌, ℕ, ◌+◌, ◌-◌, ◌<◌, ◌≤◌, ◌^◌, List, length, get_or, below_more, Option, Some, None, true, false, arith, sym, subst}
+-- What the nodes at the front of an encoding say of it, and the lengths in turn.
+use Rattle.std.proofs.Common.{◌≡◌, ℕ, zero, suc, ◌+◌, ◌-◌, ◌<◌, ◌≤◌, List, [], ◌∷◌, ◌++◌, length, get_or, take, replicate, below_more, Option, Some, None, true, false, inl, inr, refl, arith, sym, ap, append_assoc, subst, ◌∙◌}
 use Rattle.std.specs.Prelude.{MatchOption}
 use Rattle.std.specs.Option.{is_some}
-use Rattle.std.specs.List.{HoldsAt}
-use Rattle.std.proofs.lemmas.List.Elements.{at_read}
-use Rattle.sl_asm.specs.Assembling.{HasNoneAt, HasNoneBy, Passes}
-use Rattle.sl_asm.specs.Roots.{FitsLength, HaveRoots}
-use Rattle.sl_asm.specs.Wanted.{HasNoEncoding, IsReady}
-use Rattle.sl_asm.specs.declared.roots.Root.{Root}
+use Rattle.std.proofs.lemmas.Bool.{cases_lt}
+use Rattle.std.proofs.lemmas.List.{length-append, length-replicate}
+use Rattle.std.proofs.lemmas.List.Elements.{All-append, All-replicate}
+use Rattle.sl_asm.specs.Assembling.{HasNone, HasNoneIf, HasNoneIn, HasNoneOf, KeepsPassing, Passes, PassesAs}
+use Rattle.sl_asm_known.specs.declared.Bit.{Bit}
+use Rattle.sl_decode_contexts.proofs.SeenLemmas.{bit_cases}
 use Rattle.sl_asm.specs.declared.wanted.Wanted.{Wanted}
-use Rattle.sl_asm_encodings.specs.Encodings.{Encodes}
-use Rattle.sl_asm_fit.specs.Lists.{HasNone, IsPassing}
-use Rattle.sl_asm_fit.specs.Regions.{IsOpen, Misses, Narrows}
+use Rattle.sl_asm_bounds.specs.Bounds.{Fits, Holds, IsWithin, unbounded}
+use Rattle.sl_asm_bounds.specs.declared.bounds.Bounds.{Bounds}
+use Rattle.sl_asm_encodings.proofs.ReadingLemmas.{decode_is_read_back}
+use Rattle.sl_asm_encodings.specs.Readings.{Reads, node}
+use Rattle.sl_asm_fit.specs.Regions.{IsOf, IsOpen}
+use Rattle.sl_asm_fit.specs.Windows.{window, with_zeros}
 use Rattle.sl_asm_fit.specs.declared.Cell.{Cell}
-use Rattle.sl_ast.specs.Trees.{Constructor}
-use Rattle.sl_ast.specs.Unfolding.{Placed}
-use Rattle.sl_list_instructions.specs.Disassemblies.{StandsFor}
-use Rattle.sl_spec.specs.Unfolded.{all_placed}
-use Rattle.sl_spec.specs.declared.tables.Tables.{Tables}
+use Rattle.sl_asm_narrow.specs.Candidates.{Candidate, Says}
+use Rattle.sl_asm_narrow.specs.Nodes.{BoundsTable}
+use Rattle.sl_asm_narrow.specs.Readers.{tables_of, written_of}
+use Rattle.sl_asm_narrow.specs.declared.reader.Setting.{Setting}
+use Rattle.sl_decode_meaning.specs.Actions.{address_in}
+use Rattle.sl_decode_meaning.specs.Laws.{input}
+use Rattle.sl_decode_meaning.specs.Meanings.{says}
+use Rattle.sl_list_instructions.specs.Lines.{bytes_at}
 
--- ---- a root
+-- ---- zeros after a list are those of the window
 
-pub other_length : (w : Wanted) (root : Root) (count : ℕ) → (FitsLength root.length count → ⊥) → HasNoneBy w root count
-other_length w root count not = λ bytes long is pass. not (subst (λ (n : ℕ). FitsLength root.length n) long is.long)
+some_zeros : (a n m : ℕ) → n ≤ m → take n (replicate a 0 ++ replicate m 0) ≡ replicate {A = ℕ} n 0
+some_zeros a zero m few = refl
+some_zeros zero (suc n) zero few = absurd (omega (arith, few))
+some_zeros zero (suc n) (suc m) few = ap (λ (l : List ℕ). 0 ∷ l) (some_zeros zero n m (omega (arith, few)))
+some_zeros (suc a) (suc n) m few = ap (λ (l : List ℕ). 0 ∷ l) (some_zeros a n m (omega (arith, few)))
 
-pub root_missed : (w : Wanted) (root : Root) (count : ℕ) (region : List Cell) → IsOpen count region → Misses region 0 w.context root.cube → HasNoneBy w root count
-root_missed w root count region open_all misses = λ bytes long is pass. misses bytes (open_all.all bytes long pass.encoding.are_bytes) is.reads
+more_zeros : (xs : List ℕ) (a n m : ℕ) → n ≤ m → take n (xs ++ (replicate a 0 ++ replicate m 0)) ≡ take n (xs ++ replicate m 0)
+more_zeros [] a n m few = some_zeros a n m few ∙ sym (some_zeros zero n m few)
+more_zeros (x ∷ xs) a zero m few = refl
+more_zeros (x ∷ xs) a (suc n) m few = ap (λ (l : List ℕ). x ∷ l) (more_zeros xs a n m (omega (arith, few)))
 
-pub root_found : {X : Type 0} (items : X → List ℕ) (found : Option X) (w : Wanted) (root : Root) (count : ℕ) (region cells : List Cell) → IsOpen count region
-    → Narrows region 0 w.context root.cube cells → MatchOption found (HasNone (Passes w) cells) (λ x. IsPassing (Passes w) cells (items x))
-    → MatchOption found (HasNoneBy w root count) (λ x. Passes w (items x))
-root_found items None w root count region cells open_all narrow none = λ bytes long is pass.
-    none bytes (narrow.all bytes (open_all.all bytes long pass.encoding.are_bytes) is.reads) pass
-root_found items (Some x) w root count region cells open_all narrow some = some.passed
+filled : (xs : List ℕ) (a : ℕ) → with_zeros (xs ++ replicate a 0) ≡ with_zeros xs
+filled xs a = ap (λ (l : List ℕ). take window l) (append_assoc xs (replicate a 0) (replicate window 0)) ∙ more_zeros xs a window window (omega arith)
 
--- ---- roots
+-- ---- encodings as candidates
 
-abbrev pub FirstNone : Wanted → List Root → ℕ → ℕ → Type 0
-FirstNone w roots count n = (k : ℕ) → k < n → HoldsAt (λ r. HasNoneBy w r count) roots k
+module _ (w : Wanted) (s : Setting) (start_is : s.start ≡ w.address) (bytes : List ℕ) (pass : Passes w bytes) (known : Fits s.next (address_in (tables_of w.reader.now) (w.address + length bytes))) where
+  -- an encoding, in a list that is the same with zeros after it, is within what is known of its first node
+  pub within_bounds : (region : List Cell) (found : Option Bounds) (xs : List ℕ) → with_zeros xs ≡ with_zeros bytes → IsOf region xs
+      → BoundsTable w.reader.now s region 0 (record { at = 0; context = Some w.context; text = Some w.text }) found
+      → (after : ℕ) × Holds found xs (length bytes) after
+  within_bounds region found xs same inside bounds =
+      let e = pass.encoding in
+      let t = tables_of w.reader.now in
+      let cs = written_of w.reader.now in
+      let read = decode_is_read_back t cs pass.choose (bytes_at bytes 0 window) w.address w.context e.told e.is in
+      let next = address_in t (w.address + length bytes) in
+      let c : Candidate w.reader.now s = record { bytes = xs; choose = pass.choose; is_choice = pass.is_choice; next = next; known = known } in
+      let at_next : Reads t cs (input pass.choose (says t cs) (with_zeros bytes) w.address) next (node 0 0 w.context (length bytes) w.text.now read.0) =
+      subst (λ (text : List ℕ). Reads t cs (input pass.choose (says t cs) (with_zeros bytes) w.address) next (node 0 0 w.context (length bytes) text read.0)) e.shows
+      (subst (λ (n : ℕ). Reads t cs (input pass.choose (says t cs) (with_zeros bytes) w.address) (address_in t (w.address + n)) (node 0 0 w.context n e.told.text read.0)) e.long read.1) in
+      let at_start = subst (λ (a : ℕ). Reads t cs (input pass.choose (says t cs) (with_zeros bytes) a) next (node 0 0 w.context (length bytes) w.text.now read.0)) (sym start_is) at_next in
+      let in_list : Says c (node 0 0 w.context (length bytes) w.text.now read.0) =
+      subst (λ (l : List ℕ). Reads t cs (input pass.choose (says t cs) l s.start) next (node 0 0 w.context (length bytes) w.text.now read.0)) (sym same) at_start in
+      (read.0, bounds c inside w.context (length bytes) w.text.now read.0 refl refl in_list)
 
-pub first_none : (w : Wanted) (roots : List Root) (count : ℕ) → FirstNone w roots count 0
-first_none w roots count = λ k below. absurd (omega (arith, below))
+-- the length of a node is among those of its bounds
+pub among : (bytes : List ℕ) (b : Bounds) (xs : List ℕ) (after : ℕ) → length bytes ≤ 255 → IsWithin b xs (length bytes) after
+    → (b.least ≤ length bytes) × (length bytes ≤ b.most)
+among bytes b xs after most within = (
+  within.least,
+  elim (cases_lt b.most unbounded) [
+    | inl below ↦ within.most below
+    | inr above ↦ omega (arith, most, above)
+  ],
+)
 
-pub first_more : (w : Wanted) (roots : List Root) (count n : ℕ) (r : Root) → n < length roots → r ≡ get_or roots n r → HasNoneBy w r count
-    → FirstNone w roots count n → FirstNone w roots count (n + 1)
-first_more w roots count n r below is none f =
-    below_more (λ k. HoldsAt (λ x. HasNoneBy w x count) roots k) n f (at_read roots (λ x. HasNoneBy w x count) n r below is none)
+-- an encoding with zeros after it is a list of the greatest length
+pub fill : (w : Wanted) (bytes : List ℕ) → Passes w bytes → (region : List Cell) → IsOpen 255 region
+    → (xs : List ℕ) × (with_zeros xs ≡ with_zeros bytes) × IsOf region xs
+fill w bytes pass region all_open =
+    let most = pass.encoding.most in
+    let rest = 255 - length bytes in
+    let xs = bytes ++ replicate rest 0 in
+    let long : length xs ≡ 255 = omega (arith, most, length-append bytes (replicate rest 0), length-replicate {A = ℕ} rest 0) in
+    (xs, filled bytes rest, all_open.all xs long (All-append (λ (b : ℕ). b < 256) bytes (replicate rest 0) pass.encoding.are_bytes (All-replicate (λ (b : ℕ). b < 256) rest 0 (omega arith))))
 
-pub first_all : (w : Wanted) (roots : List Root) (count n : ℕ) → length roots ≤ n → FirstNone w roots count n → HasNoneAt w roots count
-first_all w roots count n whole f = λ bytes long has pass.
-    let there = has.1 in
-    let lt : there.0 < n = omega (arith, there.1, whole) in
-    subst (λ (r : Root). HasNoneBy w r count) there.2 (f there.0 lt has.0) bytes long has.2 pass
-
--- ---- answers
-
-pub found_some : {X : Type 0} (items : X → List ℕ) (found : Option X) (P Q : Type 0) (w : Wanted) → true ≡ is_some found
-    → MatchOption found P (λ x. Passes w (items x)) → MatchOption found Q (λ x. Passes w (items x))
-found_some items None P Q w some h = absurd (cc)
-found_some items (Some x) P Q w some h = h
-
-pub found_none : {X : Type 0} (items : X → List ℕ) (found : Option X) (P : Type 0) (w : Wanted) → false ≡ is_some found
-    → MatchOption found P (λ x. Passes w (items x)) → P
-found_none items None P w none h = h
-found_none items (Some x) P w none h = absurd (cc)
-
--- ---- lengths
+-- ---- lengths in turn
 
 -- no list of up to n bytes is an encoding
 abbrev pub NoneUpTo : Wanted → ℕ → Type 0
-NoneUpTo w n = (k : ℕ) → k < n → (bytes : List ℕ) → length bytes ≡ k + 1 → Passes w bytes → ⊥
+NoneUpTo w n = (k : ℕ) → k < n → HasNoneOf w (k + 1)
 
-module _ (w : Wanted) (t : Tables) (cs : List (Placed Constructor)) (stands : StandsFor w.disassembly.now t cs) where
-  pub is_ready : IsReady w.disassembly.now
-  is_ready =
-      let d = w.disassembly.now in
-      subst (λ (ks : List (Placed Constructor)). StandsFor d d.disassembler.tables.now ks) (sym stands.written)
-      (subst (λ (u : Tables). StandsFor d u cs) (sym stands.decodes.tables) stands)
+pub none_yet : (w : Wanted) → NoneUpTo w 0
+none_yet w = λ k below. absurd (omega (arith, below))
 
-  pub moved : (bytes : List ℕ) → Passes w bytes → Encodes t cs w.address w.context w.text.now bytes
-  moved bytes pass =
-      subst (λ (ks : List (Placed Constructor)). Encodes t ks w.address w.context w.text.now bytes) stands.written
-      (subst (λ (u : Tables). Encodes u (all_placed w.disassembly.now.constructors.items) w.address w.context w.text.now bytes) stands.decodes.tables pass)
+pub none_longer : (w : Wanted) (n : ℕ) → HasNoneOf w (n + 1) → NoneUpTo w n → NoneUpTo w (n + 1)
+none_longer w n none f = below_more (λ k. HasNoneOf w (k + 1)) n f none
 
-  pub back : (bytes : List ℕ) → Encodes t cs w.address w.context w.text.now bytes → Passes w bytes
-  back bytes e =
-      subst (λ (u : Tables). Encodes u (all_placed w.disassembly.now.constructors.items) w.address w.context w.text.now bytes) (sym stands.decodes.tables)
-      (subst (λ (ks : List (Placed Constructor)). Encodes t ks w.address w.context w.text.now bytes) (sym stands.written) e)
+pub none_at_all : (w : Wanted) (n : ℕ) → 255 ≤ n → NoneUpTo w n → HasNone w
+none_at_all w n whole f = λ bytes pass.
+    let some = pass.encoding.some in
+    let most = pass.encoding.most in
+    f (length bytes - 1) (omega (arith, some, most, whole)) bytes (omega (arith, some)) pass
 
-  pub none_yet : NoneUpTo w 0
-  none_yet = λ k below. absurd (omega (arith, below))
+-- ---- answers
 
-  pub none_longer : (n : ℕ) (roots : List Root) → HaveRoots t cs w.text.now roots → w.context < 2 ^ 64 → HasNoneAt w roots (n + 1) → NoneUpTo w n → NoneUpTo w (n + 1)
-  none_longer n roots have fits none f = below_more (λ k. (bytes : List ℕ) → length bytes ≡ k + 1 → Passes w bytes → ⊥) n f
-      (λ bytes long pass. none bytes long (have w.address w.context bytes fits (moved bytes pass)) pass)
+pub found_some : {X : Type 0} (items : X → List ℕ) (found : Option X) (P Q : Type 0) (R : List ℕ → Type 0) → true ≡ is_some found
+    → MatchOption found P (λ x. R (items x)) → MatchOption found Q (λ x. R (items x))
+found_some items None P Q R some h = absurd cc
+found_some items (Some x) P Q R some h = h
 
-  pub none_at_all : (n : ℕ) → 255 ≤ n → NoneUpTo w n → HasNoEncoding t cs w.address w.context w.text.now
-  none_at_all n whole f = λ bytes e.
-      let some = e.encoding.some in
-      let most = e.encoding.most in
-      f (length bytes - 1) (omega (arith, some, most, whole)) bytes (omega (arith, some)) (back bytes e)
+pub found_none : {X : Type 0} (items : X → List ℕ) (found : Option X) (P : Type 0) (R : List ℕ → Type 0) → false ≡ is_some found
+    → MatchOption found P (λ x. R (items x)) → P
+found_none items None P R none h = h
+found_none items (Some x) P R none h = absurd cc
 
-  pub found_is : {X : Type 0} (items : X → List ℕ) (found : Option X) (P : Type 0) → true ≡ is_some found → MatchOption found P (λ x. Passes w (items x))
-      → MatchOption found (HasNoEncoding t cs w.address w.context w.text.now) (λ x. Encodes t cs w.address w.context w.text.now (items x))
-  found_is items None P some h = absurd (cc)
-  found_is items (Some x) P some h = moved (items x) h
+-- ---- halves
+
+-- where neither half of a narrowed region has an encoding, the region has none
+pub either_half : {X : Type 0} (items : X → List ℕ) (found : Option X) (w : Wanted) (region cells : List Cell) (b : Bit) → KeepsPassing w region cells → HasNoneIf w cells b 0
+    → MatchOption found (HasNoneIf w cells b 1) (λ x. PassesAs w (length cells) (items x)) → MatchOption found (HasNoneIn w region) (λ x. PassesAs w (length region) (items x))
+either_half items None w region cells b keeps clear set = λ bytes inside pass.
+    let there = keeps.stays bytes inside pass in
+    elim (bit_cases (get_or bytes b.index 0) b.place) [
+      | inl zero_is ↦ clear bytes there zero_is pass
+      | inr one_is ↦ set bytes there one_is pass
+    ]
+either_half items (Some x) w region cells b keeps clear set = record { passes = set.passes; long = set.long ∙ keeps.long }

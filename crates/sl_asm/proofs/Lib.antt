@@ -1,5 +1,3 @@
 pub mod PickLemmas
 pub mod WantedLemmas
-mod AssembleLemmas
-pub mod RootLemmas
-pub mod RootsLemmas
+pub mod AssembleLemmas

@@ -1,5 +1,3 @@
 pub mod Regions
-pub mod Roots
-pub mod Rooted
 pub mod Wanted
 pub mod Assembling

@@ -1,17 +1,26 @@
--- view: what has to hold of a disassembly before it is asked, and that a text has no encoding.
-use Rattle.std.specs.Prelude.{ℕ, List}
+-- view: that a text has no encoding, and what has to hold before one is searched.
+use Rattle.std.specs.Prelude.{◌≡◌, ℕ, List, length}
+use Rattle.sl_asm.specs.declared.wanted.Wanted.{Wanted}
 use Rattle.sl_asm_encodings.specs.Encodings.{Encodes}
+use Rattle.sl_asm_narrow.specs.Readers.{IsReader}
 use Rattle.sl_ast.specs.Trees.{Constructor}
 use Rattle.sl_ast.specs.Unfolding.{Placed}
-use Rattle.sl_list_instructions.specs.Disassemblies.{StandsFor}
-use Rattle.sl_list_instructions.specs.declared.disassembly.Disassembly.{Disassembly}
-use Rattle.sl_spec.specs.Unfolded.{all_placed}
 use Rattle.sl_spec.specs.declared.tables.Tables.{Tables}
 
--- It decodes and shows its own tables and constructors.
-abbrev pub IsReady : Disassembly → Type 0
-IsReady d = StandsFor d d.disassembler.tables.now (all_placed d.constructors.items)
+-- The text is read by the constructors of a sound specification.
+abbrev pub IsReady : Wanted → Type 0
+IsReady w = IsReader w.reader.now
 
--- No bytes are an encoding of the text.
-abbrev pub HasNoEncoding : Tables → List (Placed Constructor) → (address context : ℕ) → List ℕ → Type 0
-HasNoEncoding t cs address context text = (bytes : List ℕ) → Encodes t cs address context text bytes → ⊥
+module _ (t : Tables) (cs : List (Placed Constructor)) (address context : ℕ) (text : List ℕ) where
+  -- No bytes are an encoding of the text.
+  abbrev pub HasNoEncoding : Type 0
+  HasNoEncoding = (bytes : List ℕ) → Encodes t cs address context text bytes → ⊥
+
+  -- They are one of this length.
+  pub record IsEncodingOf (count : ℕ) (bytes : List ℕ) : Type 0 where
+    pub encodes : Encodes t cs address context text bytes
+    pub long : length bytes ≡ count
+
+  -- None of this length is.
+  abbrev pub HasNoEncodingOf : ℕ → Type 0
+  HasNoEncodingOf count = (bytes : List ℕ) → length bytes ≡ count → Encodes t cs address context text bytes → ⊥

@@ -2,11 +2,11 @@
 #![tactic(auto)]
 
 mod assembling;
-mod mnemonics;
 mod regions;
-mod roots;
+mod searching;
 mod wanted;
 
-pub use assembling::assemble;
+pub use assembling::{assemble, assemble_as_long};
 pub use regions::region;
+pub use sl_asm_narrow::Reader;
 pub use wanted::Wanted;

@@ -1,12 +1,14 @@
 -- view: what is known of nodes: regions, lengths, contexts and texts.
-use Rattle.std.specs.Prelude.{◌≡◌, ℕ, ◌%◌, ◌^◌, ◌<◌, ◌≤◌, List, Option, None, Some, length, get_or}
+use Rattle.std.specs.Prelude.{◌≡◌, ℕ, ◌%◌, ◌^◌, ◌<◌, ◌≤◌, List, [], Option, None, Some, length, get_or}
 use Rattle.sl_asm_fit.specs.Regions.{IsOf}
 use Rattle.sl_asm_fit.specs.Windows.{with_zeros}
 use Rattle.sl_asm_fit.specs.declared.Cell.{Cell}
+use Rattle.sl_asm_known.specs.declared.Frame.{Frame}
 use Rattle.sl_asm_bounds.specs.declared.bounds.Bounds.{Bounds}
 use Rattle.sl_cube.specs.Points.{IsInSome}
 use Rattle.sl_cube.specs.declared.Cube.{Cube}
 use Rattle.sl_decode_meaning.specs.Decoding.{point_at}
+use Rattle.sl_decode_meaning.specs.Values.{Site}
 
 -- as a greatest length: none is known
 abbrev pub unbounded : ℕ
@@ -16,10 +18,27 @@ unbounded = 4294967295
 abbrev pub IsUpTo : ℕ → ℕ → Type 0
 IsUpTo most n = most < unbounded → n ≤ most
 
+-- A length between these is the least one.
+abbrev pub IsKnown : ℕ → ℕ → Type 0
+IsKnown least most = (n : ℕ) → least ≤ n → IsUpTo most n → n ≡ least
+
 -- It is the one that is known, if any is.
 abbrev pub Fits : {A : Type 0} → Option A → A → Type 0
 Fits None x = Unit {0}
 Fits (Some known) x = known ≡ x
+
+-- A site of the actions of a node on its context: its bytes are a list of the region followed by
+-- zeros, its place and the address of the instruction are the frame's, and there are no lengths of
+-- operands, values of names and address after the instruction yet.
+pub record IsEarlySite (f : Frame) (region : List Cell) (s : Site) : Type 0 where
+  pub bytes : List ℕ
+  pub of_region : IsOf region bytes
+  pub reads : s.bytes ≡ with_zeros bytes
+  pub at : s.at ≡ f.at
+  pub lengths : s.lengths ≡ []
+  pub start : s.start ≡ f.start
+  pub next : s.next ≡ 0
+  pub values : s.values ≡ []
 
 -- The lengths are between these.
 pub record AreBetween (leasts mosts lengths : List ℕ) : Type 0 where
@@ -52,3 +71,13 @@ pub record IsInCubes (region : List Cell) (at : ℕ) (context : Option ℕ) (cub
   pub from : ℕ
   pub known : Fits context from
   pub inside : IsInSome cubes (point_at (with_zeros xs) at (from % 2 ^ 64))
+
+-- The bounds' region, if they are there, has so many bytes.
+abbrev pub AreAsLong : ℕ → Option Bounds → Type 0
+AreAsLong count None = Unit {0}
+AreAsLong count (Some b) = length b.region.items ≡ count
+
+-- So has the region, if it is there.
+abbrev pub IsAsLong : ℕ → Option (List Cell) → Type 0
+IsAsLong count None = Unit {0}
+IsAsLong count (Some region) = length region ≡ count

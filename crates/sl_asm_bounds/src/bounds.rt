@@ -2,7 +2,7 @@
 
 ghost use Rattle.std.specs.Prelude.{◌≡◌, ◌≤◌, ℕ, List, IfOk, length};
 ghost use Rattle.sl_asm_fit.specs.Regions.{IsOf};
-ghost use Rattle.sl_asm_bounds.specs.Bounds.{Fits, Holds, IsWithin};
+ghost use Rattle.sl_asm_bounds.specs.Bounds.{AreAsLong, Fits, Holds, IsWithin};
 
 use crate::hulls::hull;
 use sl_asm_fit::Cell;
@@ -41,8 +41,9 @@ pub fn copied(alloc: Global, cells: &[Cell]) -> Result<Vec<Cell>, AllocError>
 
 /// What is known where nothing is but the region. The only error is want of memory.
 pub fn unknown(alloc: Global, region: &[Cell]) -> Result<Bounds, AllocError>
-    ensures { IfOk result (λ b. (xs : List ℕ) (long after : ℕ) → IsOf region.now xs
+    ensures within { IfOk result (λ b. (xs : List ℕ) (long after : ℕ) → IsOf region.now xs
         → IsWithin b xs long after) }
+    ensures long { IfOk result (λ b. length b.region.items ≡ length region.now) }
 {
     let region = copied(alloc, region)?;
     Ok(Bounds {
@@ -59,6 +60,7 @@ fn joined(alloc: Global, count: usize, a: &Bounds, b: &Bounds) -> Result<Bounds,
         → IsWithin a.now xs long after → IsWithin out xs long after) }
     ensures second { IfOk result (λ out. (xs : List ℕ) (long after : ℕ) → length xs ≡ count
         → IsWithin b.now xs long after → IsWithin out xs long after) }
+    ensures long { IfOk result (λ out. length out.region.items ≡ count) }
 {
     let region = hull(alloc, count, &a.region, &b.region)?;
     Ok(Bounds {
@@ -80,6 +82,8 @@ pub fn either(
         → Holds a xs long after → Holds out xs long after) }
     ensures second { IfOk result (λ out. (xs : List ℕ) (long after : ℕ) → length xs ≡ count
         → Holds b xs long after → Holds out xs long after) }
+    ensures long { IfOk result (λ out. AreAsLong count a → AreAsLong count b
+        → AreAsLong count out) }
 {
     match (a, b) {
         (Some(one), Some(other)) => {

@@ -6,7 +6,7 @@ ghost use Rattle.sl_asm_fit.specs.Cells.{Fits as FitsCell};
 ghost use Rattle.sl_asm_fit.specs.Regions.{IsOf};
 ghost use Rattle.sl_asm_fit.specs.declared.Cell.{Cell as CellOf};
 ghost use Rattle.sl_asm_fit.specs.Windows.{ReadsIn};
-ghost use Rattle.sl_asm_bounds.specs.Bounds.{Fits, IsInCubes, IsOfSome};
+ghost use Rattle.sl_asm_bounds.specs.Bounds.{Fits, IsAsLong, IsInCubes, IsOfSome};
 
 use sl_asm_fit::{Cell, narrowed};
 use sl_cube::Cube;
@@ -45,6 +45,7 @@ pub fn hull(alloc: Global, count: usize, a: &[Cell], b: &[Cell]) -> Result<Vec<C
         → IsOf out.items xs) }
     ensures second { IfOk result (λ out. (xs : List ℕ) → length xs ≡ count → IsOf b.now xs
         → IsOf out.items xs) }
+    ensures long { IfOk result (λ out. length out.items ≡ count) }
 {
     let mut out = Vec::new(alloc);
     'cells: for index in 0..count {
@@ -66,6 +67,9 @@ fn either(
     ensures second { IfOk result (λ out. (xs : List ℕ) → length xs ≡ count
         → IsOfSome (option_map (λ v. v.items) b) xs
         → IsOfSome (option_map (λ v. v.items) out) xs) }
+    ensures long { IfOk result (λ out. IsAsLong count (option_map (λ v. v.items) a)
+        → IsAsLong count (option_map (λ v. v.items) b)
+        → IsAsLong count (option_map (λ v. v.items) out)) }
 {
     match (a, b) {
         (Some(one), Some(other)) => {
@@ -101,9 +105,11 @@ fn narrow_one(
 ) -> Result<Option<Vec<Cell>>, AllocError>
     requires place { at ≤ 255 }
     requires long { length region.now ≤ 255 }
-    ensures { IfOk result (λ out. (xs : List ℕ) (x : ℕ) → IsOf region.now xs → Fits context x
+    ensures keeps { IfOk result (λ out. (xs : List ℕ) (x : ℕ) → IsOf region.now xs → Fits context x
         → ReadsIn at (x % 2 ^ 64) cube.now xs
         → IsOfSome (option_map (λ v. v.items) out) xs) }
+    ensures long { IfOk result (λ out. IsAsLong (length region.now)
+        (option_map (λ v. v.items) out)) }
 {
     match context {
         Some(known) => {
@@ -129,9 +135,11 @@ pub fn narrow_some(
 ) -> Result<Option<Vec<Cell>>, AllocError>
     requires place { at ≤ 255 }
     requires long { length region.now ≤ 255 }
-    ensures { IfOk result (λ out. (xs : List ℕ)
+    ensures keeps { IfOk result (λ out. (xs : List ℕ)
         → IsInCubes region.now at context cubes.now xs
         → IsOfSome (option_map (λ v. v.items) out) xs) }
+    ensures long { IfOk result (λ out. IsAsLong (length region.now)
+        (option_map (λ v. v.items) out)) }
 {
     let mut all = None;
     for cube in cubes {

@@ -1,12 +1,13 @@
 //! Places and texts of operands, as far as they are known.
 
-ghost use Rattle.std.specs.Prelude.{◌≡◌, ◌+◌, ◌≤◌, ℕ, List, IfSome, min, option_map};
-ghost use Rattle.sl_asm_bounds.specs.Bounds.{AreBetween, Fits, IsUpTo};
+ghost use Rattle.std.specs.Prelude.{◌≡◌, ◌+◌, ◌≤◌, ℕ, List, IfSome, IsTrue, min, option_map};
+ghost use Rattle.sl_asm_bounds.specs.Bounds.{AreBetween, Fits, IsKnown, IsUpTo};
 ghost use Rattle.sl_asm_bounds.specs.Texts.{AreTexts};
 ghost use Rattle.sl_decode_leaves.specs.Extents.{extent};
 ghost use Rattle.sl_show.specs.declared.templates.Part.{Part as PartOf};
 ghost use Rattle.sl_show.specs.declared.templates.Part.TheVariants.{Table as table_part};
 
+use crate::bounds::UNBOUNDED;
 use sl_decode_leaves::{Extent, extent_of};
 use sl_show::Part;
 
@@ -24,6 +25,13 @@ fn told(bytes: u64) -> u32
     bytes.min(4_294_967_295) as u32
 }
 
+/// Whether a length between these is known.
+fn is_known(least: u32, most: u32) -> bool
+    ensures { IsTrue result → IsKnown least most }
+{
+    least == most && most < UNBOUNDED
+}
+
 impl Lengths {
     /// The least number of bytes.
     pub fn least(&self, of: &Extent) -> u32
@@ -39,6 +47,23 @@ impl Lengths {
             → IsUpTo result (extent of.now lengths) }
     {
         told(extent_of(of, &self.mosts))
+    }
+
+    /// Whether each length is known.
+    pub fn are_known(&self) -> bool
+        ensures { IsTrue result → (lengths : List ℕ)
+            → AreBetween self.now.leasts.items self.now.mosts.items lengths
+            → lengths ≡ self.now.leasts.items }
+    {
+        if self.leasts.len() != self.mosts.len() {
+            return false;
+        }
+        'operands: for index in 0..self.leasts.len() {
+            if !is_known(self.leasts[index], self.mosts[index]) {
+                return false;
+            }
+        }
+        true
     }
 
     /// The place so many bytes after another one, where it is known and at most 255.

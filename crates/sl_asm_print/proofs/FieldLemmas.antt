@@ -9,7 +9,7 @@ use Rattle.std.proofs.lemmas.Bool.{cases_lt}
 use Rattle.std.proofs.lemmas.Int.{SFits-int_wrap}
 use Rattle.std.proofs.lemmas.Nat.{pow-add, pow_pos}
 use Rattle.std.proofs.lemmas.Option.{same_Some, slice_get_past}
-use Rattle.sl_asm_print.specs.Fields.{AddsWhere, HasEntry, HasText, HasValue, IsShownBy, entries_count, number_of}
+use Rattle.sl_asm_print.specs.Fields.{AddsWhere, HasEntry, HasNumber, HasText, HasValue, IsShownBy, entries_count, number_of}
 use Rattle.sl_cube.specs.Points.{InRange}
 use Rattle.sl_cube.specs.declared.Cube.{Cube}
 use Rattle.sl_cube.specs.declared.Point.{Point}
@@ -142,12 +142,29 @@ pub value_fits : (f : Field) (n : ℕ) → FitsSigned w64 (value_of f n)
 unfolding value_of
 value_fits f n = SFits-int_wrap w64 (read_as f.signed (suc f.high - f.low) (bits_of f.low f.high n))
 
-pub text_of_value : (t : Tables) (id : ℕ) (f : Field) (v : ℤ) (text : List ℕ) (old new : List Cube) → attached_to id t.attached ≡ None
-    → ((w : ℤ) → FitsSigned w64 w → number_text f.dec w ≡ text → v ≡ w) → AddsWhere (HasValue t f v) old new → AddsWhere (HasText t id f text) old new
-text_of_value t id f v text old new plain reads adds = record {
+module _ (t : Tables) (f : Field) (found : Option ℤ) (text : List ℕ)
+    (reads : (w : ℤ) → FitsSigned w64 w → number_text f.dec w ≡ text → found ≡ Some w) where
+  found_at : (p : Point) → HasNumber t f text p → found ≡ Some (value_of f (number_of t f p))
+  found_at p h = reads (value_of f (number_of t f p)) (value_fits f (number_of t f p)) h
+
+  pub number_found : (v u : ℤ) (old new : List Cube) → found ≡ Some v → ((w : ℤ) → FitsSigned w64 w → v ≡ w → u ≡ w)
+      → AddsWhere (HasValue t f u) old new → AddsWhere (HasNumber t f text) old new
+  number_found v u old new some same adds = record {
+    kept = adds.kept;
+    all = λ p range h.
+        let w = value_of f (number_of t f p) in
+        adds.all p range (sym (same w (value_fits f (number_of t f p)) (sym (same_Some w v (sym (found_at p h) ∙ some)))));
+  }
+
+  pub no_number : (cubes : List Cube) → found ≡ None → AddsWhere (HasNumber t f text) cubes cubes
+  no_number cubes none = record {
+    kept = λ p range h. h;
+    all = λ p range h. absurd (let no : ◌≡◌ {A = Option ℤ} None (Some (value_of f (number_of t f p))) = sym none ∙ found_at p h in cc);
+  }
+
+pub text_of_number : (t : Tables) (id : ℕ) (f : Field) (text : List ℕ) (old new : List Cube) → attached_to id t.attached ≡ None
+    → AddsWhere (HasNumber t f text) old new → AddsWhere (HasText t id f text) old new
+text_of_number t id f text old new plain adds = record {
   kept = adds.kept;
-  all = λ p range h.
-      let n = number_of t f p in
-      let shows : number_text f.dec (value_of f n) ≡ text = sym (ap (λ o. field_text_by t f o n) plain) ∙ h in
-      adds.all p range (sym (reads (value_of f n) (value_fits f n) shows));
+  all = λ p range h. adds.all p range (sym (ap (λ o. field_text_by t f o (number_of t f p)) plain) ∙ h);
 }

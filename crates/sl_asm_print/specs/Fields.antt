@@ -4,6 +4,7 @@ use Rattle.sl_cube.specs.Points.{InRange, IsInSome}
 use Rattle.sl_cube.specs.declared.Cube.{Cube}
 use Rattle.sl_cube.specs.declared.Point.{Point}
 use Rattle.sl_shape_constraints.specs.Values.{point_bytes}
+use Rattle.sl_show.specs.Numbers.{number_text}
 use Rattle.sl_show.specs.Texts.{entry_text, field_text_by}
 use Rattle.sl_spec.specs.Attachments.{attached_to}
 use Rattle.sl_spec.specs.FieldValues.{bits_of, number_in, token_of, value_of}
@@ -22,6 +23,10 @@ number_of t f p = number_in (token_of t.tokens f) (point_bytes p) p.context
 -- At the point the field has the value.
 abbrev pub HasValue : Tables → Field → ℤ → Point → Type 0
 HasValue t f v p = value_of f (number_of t f p) ≡ v
+
+-- At the point the field's value is shown as the text.
+abbrev pub HasNumber : Tables → Field → List ℕ → Point → Type 0
+HasNumber t f text p = number_text f.dec (value_of f (number_of t f p)) ≡ text
 
 -- how many entries there are
 abbrev pub entries_count : Entries → ℕ

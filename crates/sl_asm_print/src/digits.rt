@@ -1,11 +1,15 @@
 //! Numbers read back.
 
 ghost use Rattle.std.specs.Prelude.{◌≡◌, ◌≤◌, ◌<◌, ◌^◌, ℕ, ℤ, pos, negsuc, suc, true, false};
+ghost use Rattle.std.specs.Prelude.{IfOk, IfSome, Some};
 ghost use Rattle.std.specs.Char.{digit_value};
 ghost use Rattle.std.specs.Int.{w64};
 ghost use Rattle.std.specs.Int.RustNames.{FitsSigned};
 ghost use Rattle.std.specs.Str.Parse.{digits_value};
 ghost use Rattle.sl_show.specs.Numbers.{number_text};
+
+use sl_show::push_number;
+use std::alloc::{AllocError, Global};
 
 /// The value of a digit, or of a letter from 10 on; 36 of any other byte.
 fn digit(byte: u8) -> u64
@@ -78,4 +82,20 @@ pub(crate) fn number_in(dec: bool, text: &[u8]) -> i64
         return signed(true, magnitude(dec, rest));
     }
     signed(false, magnitude(dec, text))
+}
+
+/// The number that is shown as the text, or `None` where none is. The only error is want of memory.
+pub fn number_with(alloc: Global, dec: bool, text: &[u8]) -> Result<Option<i64>, AllocError>
+    ensures all { IfOk result (λ found. (v : ℤ) → FitsSigned w64 v → number_text dec v ≡ text.now
+        → found ≡ Some v) }
+    ensures shown { IfOk result (λ found. IfSome found (λ v. number_text dec v ≡ text.now)) }
+{
+    let number = number_in(dec, text);
+    let mut shown = Vec::new(alloc);
+    push_number(&mut shown, dec, number)?;
+    if shown.as_slice() == text {
+        Ok(Some(number))
+    } else {
+        Ok(None)
+    }
 }

@@ -2,7 +2,7 @@
 
 ghost use Rattle.std.specs.Prelude.{◌≡◌, ◌≤◌, ◌*◌, ◌%◌, ◌^◌, IfOk, IsTrue, Some};
 ghost use Rattle.std.specs.Prelude.{map, option_map, slice_get};
-ghost use Rattle.sl_asm_print.specs.Fields.{AddsWhere, HasEntry, HasText, HasValue};
+ghost use Rattle.sl_asm_print.specs.Fields.{AddsWhere, HasEntry, HasNumber, HasText, HasValue};
 ghost use Rattle.sl_asm_print.specs.Fields.{IsShownBy, entries_count};
 ghost use Rattle.sl_decode_meaning.specs.Lookups.{entry_at};
 ghost use Rattle.sl_show.specs.Texts.{entry_text, or_nothing};
@@ -10,7 +10,7 @@ ghost use Rattle.sl_spec.specs.FieldValues.{value_of};
 ghost use Rattle.sl_spec.specs.Tables.{Field as FieldOf};
 ghost use Rattle.sl_spec.specs.Views.{entries_of};
 
-use crate::digits::number_in;
+use crate::digits::{number_in, number_with};
 use sl_cube::Cube;
 use sl_decode_leaves::{number_of, register_at};
 use sl_shape_blocks::Relation;
@@ -82,6 +82,25 @@ fn put_value(
     Ok(())
 }
 
+/// Adds the points at which the field's value is shown as the text.
+fn put_number(
+    alloc: Global,
+    t: &Tables,
+    of: &Field,
+    text: &[u8],
+    cubes: &mut Vec<Cube>,
+) -> Result<(), AllocError>
+    ensures { IfOk result (λ _. AddsWhere (HasNumber t.now of.now text.now)
+        cubes.old.items cubes.new.items) }
+{
+    let read = number_with(alloc, of.dec, text)?;
+    let Some(value) = read else {
+        return Ok(());
+    };
+    put_value(alloc, t, of, value, cubes)?;
+    Ok(())
+}
+
 /// The value of the field where its bits are the code.
 fn value_of_code(of: &Field, code: u64) -> i64
     ensures value { result ≡ value_of of.now (code * 2 ^ of.now.low % 2 ^ 64) }
@@ -145,7 +164,7 @@ fn put_text(
         → AddsWhere (HasText t.now id of.now text.now) cubes.old.items cubes.new.items) }
 {
     let Some(attached) = t.attached.get(id) else {
-        put_value(alloc, t, of, number_in(of.dec, text), cubes)?;
+        put_number(alloc, t, of, text, cubes)?;
         return Ok(true);
     };
     let known = put_attached(alloc, t, of, &attached.entries, text, cubes)?;

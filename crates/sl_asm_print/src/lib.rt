@@ -6,5 +6,6 @@ mod digits;
 mod fields;
 mod splitting;
 
+pub use digits::number_with;
 pub use fields::put_field;
 pub use splitting::splits;

@@ -15,7 +15,7 @@ use Rattle.sl_asm_known.specs.declared.Frame.{Frame}
 use Rattle.sl_asm_values.proofs.GivingLemmas.{part_all, part_more}
 use Rattle.sl_asm_values.specs.Names.{AreWanted, KeepsNames, NamesNone}
 use Rattle.sl_asm_values.specs.Narrowing.{Gives, GivesNone, IsPart, KeepsGiving}
-use Rattle.sl_asm_values.specs.Rows.{GivesNoNumber, GivesNumber, IsAt, IsNamed, IsPartOf, IsReached, IsWanted, Leaves, values_of}
+use Rattle.sl_asm_values.specs.Rows.{GivesNoNumber, GivesNumber, GivesOther, IsAt, IsExact, IsNamed, IsPartOf, IsReached, IsWanted, Leaves, values_of}
 use Rattle.sl_asm_values.specs.declared.names.Named.{Named}
 use Rattle.sl_asm_values.specs.declared.names.Reached.{Reached}
 use Rattle.sl_decode_contexts.specs.declared.commits.Commit.{Commit}
@@ -31,24 +31,23 @@ use Rattle.sl_decode_plan.specs.declared.late.Late.{Late}
 use Rattle.sl_decode_plan.specs.declared.late.Late.TheVariants as l
 use Rattle.sl_decode_plan.specs.declared.values.Value.{Value}
 use Rattle.sl_spec.specs.declared.tables.Tables.{Tables}
-
--- ---- parts
+use denote.Ref.{Bor}
 
 -- ---- a value
 
 module _ (t : Tables) (f : Frame) (region : List Cell) (v : Value) where
-  to_gives : (k : Known) (s : Site) → GivesNumber t v (Some k) s → Gives t v k s
-  to_gives k s g = record { number = g.number; is = g.is; has = g.wanted_is }
+  gives : (k : Known) (n : ℤ) (s : Site) → HasBits k n → value_in t s v ≡ Ok n → Gives t v k s
+  gives k n s has is = record { number = n; is = is; has = has }
 
-  pub wanted_bits : (x : Named) → KeepsGiving t f region v x.known x.region.items → IsNamed t f region v (Some x.known) x
-  wanted_bits x keeps = record {
+  pub exact_none : (k : Known) (n : ℤ) → HasBits k n → GivesNone t f region v k → GivesOther t f region v n
+  exact_none k n has none = λ s is e. none s is (gives k n s has e)
+
+  pub exact_some : (x : Named) (n : ℤ) → HasBits x.known n → KeepsGiving t f region v x.known x.region.items → IsExact t f region v n x
+  exact_some x n has keeps = record {
     part = keeps.part;
-    stays = λ s is g. keeps.stays s is (to_gives x.known s g);
-    has = λ s is g. g.wanted_is;
+    stays = λ s is e. keeps.stays s is (gives x.known n s has e);
+    has = has;
   }
-
-  pub wanted_none : (k : Known) → GivesNone t f region v k → GivesNoNumber t f region v (Some k)
-  wanted_none k none = λ s is g. none s is (to_gives k s g)
 
 -- ---- lists that grow
 
@@ -122,13 +121,13 @@ module _ (t : Tables) (s : Site) where
       let one = came (late_step t s step before) (in_turn (late_step t s) steps) after e in
       λ i z is. all_grow steps one.0 after one.2 i z (step_grows step before one.0 one.1 i z is)
 
-  still_wanted : (wanted : List (Option Known)) (steps : List Late) (before after : Own) → in_turn (late_step t s) steps before ≡ Ok after
+  still_wanted : (wanted : List (Option (Bor (List ℕ)))) (steps : List Late) (before after : Own) → in_turn (late_step t s) steps before ≡ Ok after
       → AreWanted wanted (values_of after) → AreWanted wanted (values_of before)
   still_wanted wanted steps before after e are = λ i k z w is. are i k z w (all_grow steps before after e i z is)
 
 -- ---- a step
 
-module _ (t : Tables) (f : Frame) (wanted : List (Option Known)) where
+module _ (t : Tables) (f : Frame) (wanted : List (Option (Bor (List ℕ)))) where
   site_there : (here : Frame) (region : List Cell) (s : Site) (xs : List ℕ) (values : List ℤ) → IsAt here s xs → IsOf region xs → AreOf here.names.now values
       → IsSiteOf here region (at_values values s)
   site_there here region s xs values is inside names = record {
@@ -143,7 +142,7 @@ module _ (t : Tables) (f : Frame) (wanted : List (Option Known)) where
     names = names;
   }
 
-  is_wanted : (values : List ℤ) (z : ℤ) (o : Option (Option Known)) → o ≡ slice_get wanted (length values) → AreWanted wanted (values ++ z ∷ [])
+  is_wanted : (values : List ℤ) (z : ℤ) (o : Option (Option (Bor (List ℕ)))) → o ≡ slice_get wanted (length values) → AreWanted wanted (values ++ z ∷ [])
       → IsWanted (option_and_then (λ n. n) o) z
   is_wanted values z None e are = tt
   is_wanted values z (Some None) e are = tt
@@ -174,7 +173,7 @@ module _ (t : Tables) (f : Frame) (wanted : List (Option Known)) where
   }
 
   module _ (here : Frame) (r : Reached) (v : Value) (at : (s : Site) (xs : List ℕ) → IsAt f s xs → IsAt here s xs) (names_are : here.names.now ≡ r.names.items) where
-    abbrev asked : Option Known
+    abbrev asked : Option (Bor (List ℕ))
     asked = option_and_then (λ n. n) (slice_get wanted (length r.names.items))
 
     site_before : (s : Site) (xs : List ℕ) (before : Own) → IsAt f s xs → IsReached r xs before → IsSiteOf here r.region.items (at_values (values_of before) s)

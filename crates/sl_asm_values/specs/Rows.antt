@@ -1,7 +1,6 @@
 -- step: what is known of a node's action names when some of its steps are done.
-use Rattle.std.specs.Prelude.{◌≡◌, ℕ, ℤ, List, Option, None, Some, Ok}
+use Rattle.std.specs.Prelude.{◌≡◌, ℕ, ℤ, List, false, Option, None, Some, Ok}
 use Rattle.sl_asm_bits.specs.Known.{HasBits}
-use Rattle.sl_asm_bits.specs.declared.Known.{Known}
 use Rattle.sl_asm_fit.specs.Regions.{IsOf}
 use Rattle.sl_asm_fit.specs.Windows.{with_zeros}
 use Rattle.sl_asm_fit.specs.declared.Cell.{Cell}
@@ -18,20 +17,22 @@ use Rattle.sl_decode_plan.specs.Steps.{late_step}
 use Rattle.sl_decode_plan.specs.Values.{value_in}
 use Rattle.sl_decode_plan.specs.declared.late.Late.{Late}
 use Rattle.sl_decode_plan.specs.declared.values.Value.{Value}
+use Rattle.sl_show.specs.Numbers.{number_text}
 use Rattle.sl_spec.specs.declared.tables.Tables.{Tables}
+use denote.Ref.{Bor}
 
--- The number has the wanted bits, if any are.
-abbrev pub IsWanted : Option Known → ℤ → Type 0
+-- The number is shown as the wanted text, if one is wanted.
+abbrev pub IsWanted : Option (Bor (List ℕ)) → ℤ → Type 0
 IsWanted None z = Unit {0}
-IsWanted (Some k) z = HasBits k z
+IsWanted (Some text) z = number_text false z ≡ text.now
 
--- There the expression has a value, with the wanted bits if any are.
-pub record GivesNumber (t : Tables) (v : Value) (wanted : Option Known) (s : Site) : Type 0 where
+-- There the expression has a value, with the wanted text if one is wanted.
+pub record GivesNumber (t : Tables) (v : Value) (wanted : Option (Bor (List ℕ))) (s : Site) : Type 0 where
   pub number : ℤ
   pub is : value_in t s v ≡ Ok number
   pub wanted_is : IsWanted wanted number
 
-module _ (t : Tables) (f : Frame) (region : List Cell) (v : Value) (wanted : Option Known) where
+module _ (t : Tables) (f : Frame) (region : List Cell) (v : Value) (wanted : Option (Bor (List ℕ))) where
   -- No list of the region gives it such a value.
   abbrev pub GivesNoNumber : Type 0
   GivesNoNumber = (s : Site) → IsSiteOf f region s → GivesNumber t v wanted s → ⊥
@@ -41,6 +42,17 @@ module _ (t : Tables) (f : Frame) (region : List Cell) (v : Value) (wanted : Opt
     pub part : IsPart region n.region.items
     pub stays : (s : Site) (is : IsSiteOf f region s) → GivesNumber t v wanted s → IsOf n.region.items is.bytes
     pub has : (s : Site) → IsSiteOf f region s → (g : GivesNumber t v wanted s) → HasBits n.known g.number
+
+module _ (t : Tables) (f : Frame) (region : List Cell) (v : Value) (number : ℤ) where
+  -- No list of the region gives it the number.
+  abbrev pub GivesOther : Type 0
+  GivesOther = (s : Site) → IsSiteOf f region s → value_in t s v ≡ Ok number → ⊥
+
+  -- Lists of the region, among them each that gives it the number, all of whose bits are known.
+  pub record IsExact (n : Named) : Type 0 where
+    pub part : IsPart region n.region.items
+    pub stays : (s : Site) (is : IsSiteOf f region s) → value_in t s v ≡ Ok number → IsOf n.region.items is.bytes
+    pub has : HasBits n.known number
 
 -- A site whose bytes are the list followed by zeros, and which is as the frame says but for the
 -- names.
@@ -72,7 +84,7 @@ IsPartOf region None = Unit {0}
 IsPartOf region (Some r) = IsPart region r.region.items
 
 -- Lists in which the steps give wanted values are left, with what is known of the names then.
-abbrev pub Leaves : Tables → Frame → List (Option Known) → Reached → List Late → Option Reached → Type 0
+abbrev pub Leaves : Tables → Frame → List (Option (Bor (List ℕ))) → Reached → List Late → Option Reached → Type 0
 Leaves t f wanted r steps found = (s : Site) (xs : List ℕ) (before after : Own) → IsAt f s xs
     → IsReached r xs before → in_turn (late_step t s) steps before ≡ Ok after
     → AreWanted wanted (values_of after) → Holds found xs after

@@ -4,13 +4,15 @@
 ghost use Rattle.std.specs.Prelude.{◌≡◌, ◌∷◌, ◌≤◌, [], IfOk, MatchOption};
 ghost use Rattle.std.specs.Prelude.{length, option_and_then, slice_get};
 ghost use Rattle.sl_asm_values.specs.Names.{KeepsNames, NamesNone};
-ghost use Rattle.sl_asm_values.specs.Rows.{GivesNoNumber, IsNamed, IsPartOf, Leaves};
+ghost use Rattle.sl_asm_values.specs.Rows.{GivesNoNumber, GivesOther, IsExact, IsNamed};
+ghost use Rattle.sl_asm_values.specs.Rows.{IsPartOf, Leaves};
 ghost use Rattle.sl_decode_plan.specs.declared.late.Late.TheVariants as l;
 
 use crate::narrowing::{copied, narrowed_by};
-use sl_asm_bits::Known;
+use sl_asm_bits::{Known, exact};
 use sl_asm_fit::Cell;
 use sl_asm_known::{Frame, known};
+use sl_asm_print::number_with;
 use sl_decode_plan::{Late, Steps, Value};
 use sl_spec::Tables;
 use std::alloc::{AllocError, Global};
@@ -29,48 +31,66 @@ struct Reached {
     names: Vec<Known>,
 }
 
-/// The bits that are wanted of a name, if any are.
-fn wanted_of(wanted: &[Option<Known>], index: usize) -> Option<Known>
-    ensures { result ≡ option_and_then (λ k. k) (slice_get wanted.now index) }
+/// The text that is wanted of a name, if one is.
+fn wanted_of<'x>(wanted: &[Option<&'x [u8]>], index: usize) -> Option<&'x [u8]>
+    ensures { result ≡ option_and_then (λ text. text) (slice_get wanted.now index) }
 {
     match wanted.get(index) {
-        Some(bits) => *bits,
+        Some(text) => *text,
         None => None,
     }
 }
 
-/// The region narrowed to lists that give the expression a value, with the wanted bits if any are.
+/// The region narrowed to lists that give the expression this value.
+fn with_number(
+    alloc: Global,
+    t: &Tables,
+    frame: &Frame,
+    region: &[Cell],
+    v: &Value,
+    number: i64,
+) -> Result<Option<Named>, AllocError>
+    requires { length region.now ≤ 255 }
+    ensures { IfOk result (λ found. MatchOption found
+        (GivesOther t.now frame.now region.now v.now number)
+        (IsExact t.now frame.now region.now v.now number)) }
+{
+    let known = exact(number);
+    let narrow = narrowed_by(alloc, t, frame, region, v, &known)?;
+    let Some(region) = narrow else {
+        return Ok(None);
+    };
+    Ok(Some(Named { region, known }))
+}
+
+/// The region narrowed to lists that give the expression a value, with the wanted text if one is
+/// wanted.
 fn with_value(
     alloc: Global,
     t: &Tables,
     frame: &Frame,
     region: &[Cell],
     v: &Value,
-    wanted: Option<Known>,
+    wanted: Option<&[u8]>,
 ) -> Result<Option<Named>, AllocError>
     requires { length region.now ≤ 255 }
     ensures { IfOk result (λ found. MatchOption found
-        (GivesNoNumber t.now frame.now region.now v.now wanted)
-        (IsNamed t.now frame.now region.now v.now wanted)) }
+        (GivesNoNumber t.now frame.now region.now v.now wanted.entry)
+        (IsNamed t.now frame.now region.now v.now wanted.entry)) }
 {
-    if let Some(bits) = wanted {
-        let narrow = narrowed_by(alloc, t, frame, region, v, &bits)?;
-        let Some(cells) = narrow else {
-            return Ok(None);
-        };
-        return Ok(Some(Named {
-            region: cells,
-            known: bits,
-        }));
-    }
     let Some(known) = known(t, frame, region, v) else {
         return Ok(None);
     };
-    let same = copied(alloc, region)?;
-    Ok(Some(Named {
-        region: same,
-        known,
-    }))
+    let Some(text) = wanted else {
+        let region = copied(alloc, region)?;
+        return Ok(Some(Named { region, known }));
+    };
+    let read = number_with(alloc, false, text)?;
+    let Some(number) = read else {
+        return Ok(None);
+    };
+    let found = with_number(alloc, t, frame, region, v, number)?;
+    Ok(found)
 }
 
 /// What is known when the next name has its value.
@@ -80,7 +100,7 @@ fn after_name(
     frame: &Frame,
     reached: Reached,
     v: &Value,
-    wanted: &[Option<Known>],
+    wanted: &[Option<&[u8]>],
 ) -> Result<Option<Reached>, AllocError>
     requires { length reached.region.items ≤ 255 }
     ensures part { IfOk result (IsPartOf reached.region.items) }
@@ -96,8 +116,8 @@ fn after_name(
         next: frame.next,
         names: names.as_slice(),
     };
-    let bits = wanted_of(wanted, here.names.len());
-    let found = with_value(alloc, t, &here, &region, v, bits)?;
+    let text = wanted_of(wanted, here.names.len());
+    let found = with_value(alloc, t, &here, &region, v, text)?;
     let Some(Named { region, known }) = found else {
         return Ok(None);
     };
@@ -112,7 +132,7 @@ fn after_step(
     frame: &Frame,
     reached: Reached,
     step: &Late,
-    wanted: &[Option<Known>],
+    wanted: &[Option<&[u8]>],
 ) -> Result<Option<Reached>, AllocError>
     requires { length reached.region.items ≤ 255 }
     ensures part { IfOk result (IsPartOf reached.region.items) }
@@ -131,7 +151,7 @@ fn after_row(
     frame: &Frame,
     reached: Reached,
     row: &[Late],
-    wanted: &[Option<Known>],
+    wanted: &[Option<&[u8]>],
 ) -> Result<Option<Reached>, AllocError>
     requires { length reached.region.items ≤ 255 }
     ensures part { IfOk result (IsPartOf reached.region.items) }
@@ -148,9 +168,9 @@ fn after_row(
     Ok(Some(left))
 }
 
-/// The region narrowed by the bits that are wanted of the values of a node's action names, by its
+/// The region narrowed by the texts that are wanted of the values of a node's action names, by its
 /// late steps in order, each name known by those before it; `None` where no list of the region has
-/// them all. `wanted` has what is wanted in the order of the names, `None` where nothing is. The
+/// them all. `wanted` has the texts in the order of the names, `None` where none is wanted. The
 /// frame's own names don't count. The only error is want of memory.
 pub fn narrowed_by_names(
     alloc: Global,
@@ -158,7 +178,7 @@ pub fn narrowed_by_names(
     frame: &Frame,
     region: &[Cell],
     steps: &Steps<Late>,
-    wanted: &[Option<Known>],
+    wanted: &[Option<&[u8]>],
 ) -> Result<Option<Vec<Cell>>, AllocError>
     requires { length region.now ≤ 255 }
     ensures { IfOk result (λ found. MatchOption found

@@ -12,5 +12,6 @@ mod templates;
 mod texts;
 
 pub use making::{make_template, make_templates};
+pub use numbers::push_number;
 pub use templates::{Part, Template};
 pub use texts::{Instruction, push_text};

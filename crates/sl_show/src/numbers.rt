@@ -50,8 +50,9 @@ fn push_hex(out: &mut Vec<u8>, number: i64) -> Result<(), AllocError>
     }
 }
 
-/// Appends a number, in decimal for a `dec` field.
-pub(crate) fn push_number(out: &mut Vec<u8>, dec: bool, number: i64) -> Result<(), AllocError>
+/// Appends a number, in decimal for a `dec` field, else in hexadecimal. The only error is want of
+/// memory.
+pub fn push_number(out: &mut Vec<u8>, dec: bool, number: i64) -> Result<(), AllocError>
     ensures { OnOk result (out.new.items ≡ out.old.items ++ number_text dec number) }
 {
     if dec {

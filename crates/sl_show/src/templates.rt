@@ -25,7 +25,7 @@ pub enum Part {
 /// The text of the nodes of a constructor, by its parts.
 #[derive(Drop)]
 pub struct Template {
-    pub(crate) parts: Vec<Part>,
+    pub parts: Vec<Part>,
     /// Whether the text of an operand is among the parts more than once.
     pub(crate) repeats: bool,
 }

@@ -1,8 +1,6 @@
 use Rattle.std.proofs.Common.{◌≡◌, ap, subst, sym, ◌∙◌}
-use Rattle.sl_asm_print.proofs.DigitLemmas.{read_as}
-use Rattle.sl_asm_print.proofs.FieldLemmas.{text_attached, text_of_value}
+use Rattle.sl_asm_print.proofs.FieldLemmas.{text_attached, text_of_number}
 use Rattle.sl_asm_print.specs.Fields.{AddsWhere, IsShownBy}
-use Rattle.sl_show.specs.Numbers.{number_text}
 use Rattle.sl_spec.specs.Tables.{Attached, Entries, Field}
 use Rattle.sl_spec.specs.Views.{entries_of}
 use Rattle.sl_asm_print.proofs.fields.put_text.Goals as goal
@@ -10,9 +8,8 @@ use Rattle.sl_asm_print.proofs.fields.put_text.Goals as goal
 pub returns-in_default : goal.returns-in_default
 returns-in_default c = λ known.
     let f : Field = c.args.of.now in
-    text_of_value c.args.t.now c.args.id f _ c.args.text.now c.args.cubes.now.items c.put_value.new.cubes.items (sym c.in_default.ensures)
-    (λ w fits shows. read_as c.number_in.result w fits (c.number_in.ensures w fits (ap (λ (g : Field). number_text g.dec w) c.of.view_is ∙ shows)))
-    c.in_ok-put_value.ensures
+    text_of_number c.args.t.now c.args.id f c.args.text.now c.args.cubes.now.items c.put_number.new.cubes.items (sym c.in_default.ensures)
+    c.in_ok-put_number.ensures
 
 pub returns : goal.returns
 returns c = λ known.

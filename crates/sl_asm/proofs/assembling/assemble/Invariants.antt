@@ -1,5 +1,0 @@
-use Rattle.sl_asm.proofs.AssembleLemmas.{NoneUpTo}
-use Rattle.sl_asm.proofs.assembling.assemble.Given as goal
-
-abbrev pub invariant-loop-shorter : goal.invariant-loop-shorter
-invariant-loop-shorter l = NoneUpTo l.wanted l.shorter

@@ -1,0 +1,5 @@
+pub mod ReadingLemmas
+pub mod NodeLemmas
+pub mod OperandLemmas
+pub mod PointLemmas
+pub mod SpotLemmas

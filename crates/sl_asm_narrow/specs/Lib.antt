@@ -1,0 +1,4 @@
+pub mod Readers
+pub mod Candidates
+pub mod Nodes
+pub mod Spots

@@ -1,0 +1,230 @@
+//! A region narrowed by the texts of a node's fields and action names.
+
+ghost use Rattle.std.specs.Prelude.{◌≡◌, ◌≤◌, ℕ, IfOk, IfSome, IsTrue, Some};
+ghost use Rattle.std.specs.Prelude.{length, min, option_map, slice_get};
+ghost use Rattle.sl_asm_bounds.specs.Bounds.{AreAsLong, IsAsLong};
+ghost use Rattle.sl_asm_narrow.specs.Nodes.{BoundsShown};
+ghost use Rattle.sl_asm_narrow.specs.Readers.{IsReader};
+ghost use Rattle.sl_asm_narrow.specs.Spots.{AreNamesTexts, IsTokenField, IsTextOfName};
+ghost use Rattle.sl_asm_narrow.specs.Spots.{KeepsField, KeepsNames, KeepsPart, KeepsParts};
+
+use crate::operands::Operands;
+use crate::reader::{Goal, Reader, Setting};
+use sl_asm_bounds::{Bounds, Lengths, narrow_some};
+use sl_asm_fit::Cell;
+use sl_asm_known::Frame;
+use sl_asm_print::put_field;
+use sl_asm_values::narrowed_by_names;
+use sl_decode_leaves::token_of;
+use sl_decode_plan::Plan;
+use sl_show::Part;
+use sl_spec::{FieldId, Tables};
+use std::alloc::{AllocError, Global};
+
+/// Whether the field is one of a token that a point has whole.
+fn is_of_token(t: &Tables, id: FieldId) -> bool
+    ensures { IsTrue result → IsTokenField t.now id }
+{
+    let Some(of) = t.fields.at(id.number() as usize) else {
+        return false;
+    };
+    match token_of(t, of) {
+        Some(token) => token.bits <= 128,
+        None => false,
+    }
+}
+
+/// The region narrowed by the text of a field whose token is at the place.
+fn by_field(
+    alloc: Global,
+    t: &Tables,
+    region: Vec<Cell>,
+    id: FieldId,
+    at: u32,
+    text: &[u8],
+) -> Result<Option<Vec<Cell>>, AllocError>
+    requires place { at ≤ 255 }
+    requires long { length region.items ≤ 255 }
+    ensures keeps { IfOk result (λ found. KeepsField t.now region.items id at text.now
+        (option_map (λ v. v.items) found)) }
+    ensures long { IfOk result (λ found. IsAsLong (length region.items)
+        (option_map (λ v. v.items) found)) }
+{
+    let mut cubes = Vec::new(alloc);
+    if !is_of_token(t, id) {
+        return Ok(Some(region));
+    }
+    let known = put_field(alloc, t, id, text, &mut cubes)?;
+    if !known {
+        return Ok(Some(region));
+    }
+    let narrow = narrow_some(alloc, &region, at, None, &cubes)?;
+    Ok(narrow)
+}
+
+/// The region narrowed by the text of a part.
+fn by_part(
+    alloc: Global,
+    t: &Tables,
+    region: Vec<Cell>,
+    lengths: &Lengths,
+    at: u32,
+    part: &Part,
+    text: &[u8],
+) -> Result<Option<Vec<Cell>>, AllocError>
+    requires long { length region.items ≤ 255 }
+    ensures keeps { IfOk result (λ found. KeepsPart t.now region.items lengths.now at part.now
+        text.now (option_map (λ v. v.items) found)) }
+    ensures long { IfOk result (λ found. IsAsLong (length region.items)
+        (option_map (λ v. v.items) found)) }
+{
+    let Part::Field(id, place) = part else {
+        return Ok(Some(region));
+    };
+    let Some(place) = lengths.place(at, place) else {
+        return Ok(Some(region));
+    };
+    let found = by_field(alloc, t, region, *id, place, text)?;
+    Ok(found)
+}
+
+/// The region narrowed by the texts of fields among the parts.
+fn by_parts(
+    alloc: Global,
+    t: &Tables,
+    region: Vec<Cell>,
+    lengths: &Lengths,
+    at: u32,
+    parts: &[Part],
+    texts: &[&[u8]],
+) -> Result<Option<Vec<Cell>>, AllocError>
+    requires long { length region.items ≤ 255 }
+    ensures keeps { IfOk result (λ found. KeepsParts t.now region.items lengths.now at parts.now
+        texts.now (option_map (λ v. v.items) found)) }
+    ensures long { IfOk result (λ found. IsAsLong (length region.items)
+        (option_map (λ v. v.items) found)) }
+{
+    let mut left = region;
+    'parts: for index in 0..parts.len() {
+        let (Some(part), Some(text)) = (parts.get(index), texts.get(index)) else {
+            return Ok(Some(left));
+        };
+        let narrow = by_part(alloc, t, left, lengths, at, part, text)?;
+        let Some(cells) = narrow else {
+            return Ok(None);
+        };
+        left = cells;
+    }
+    Ok(Some(left))
+}
+
+/// The text of an action name, by those of the parts, where it is among them.
+fn name_text<'x>(parts: &[Part], texts: &[&'x [u8]], number: usize) -> Option<&'x [u8]>
+    ensures { IfSome result (IsTextOfName parts.now texts.now number) }
+{
+    'parts: for index in 0..parts.len() {
+        if let (Some(Part::Action(of)), Some(text)) = (parts.get(index), texts.get(index)) {
+            if *of as usize == number {
+                return Some(*text);
+            }
+        }
+    }
+    None
+}
+
+/// The texts of so many action names, in their order, as far as they are among those of the parts.
+fn names_texts<'x>(
+    alloc: Global,
+    count: usize,
+    parts: &[Part],
+    texts: &[&'x [u8]],
+) -> Result<Vec<Option<&'x [u8]>>, AllocError>
+    ensures { IfOk result (λ out. AreNamesTexts parts.now texts.now out.items) }
+{
+    let mut out = Vec::new(alloc);
+    'names: for number in 0..count {
+        out.push(name_text(parts, texts, number))?;
+    }
+    Ok(out)
+}
+
+impl Reader<'_, '_, '_> {
+    /// What is known of a node whose operands are known so, and whose parts have these texts.
+    pub(crate) fn shown(
+        &self,
+        alloc: Global,
+        setting: &Setting,
+        operands: Operands,
+        plan: &Plan,
+        parts: &[Part],
+        texts: &[&[u8]],
+        goal: &Goal,
+    ) -> Result<Option<Bounds>, AllocError>
+        requires ready { IsReader self.now }
+        requires long { length operands.region.items ≤ 255 }
+        ensures bounds { IfOk result (BoundsShown self.now setting.now operands plan.now parts.now
+            texts.now goal.now) }
+        ensures long { IfOk result (AreAsLong (length operands.region.items)) }
+    {
+        let Operands {
+            region,
+            lengths,
+            context,
+        } = operands;
+        let t = self.tables();
+        let narrow = by_parts(alloc, t, region, &lengths, goal.at, parts, texts)?;
+        let Some(cells) = narrow else {
+            return Ok(None);
+        };
+        let named = self.by_names(alloc, setting, cells, &lengths, plan, parts, texts, goal)?;
+        let Some(region) = named else {
+            return Ok(None);
+        };
+        Ok(Some(Bounds {
+            region,
+            least: lengths.least(&plan.length),
+            most: lengths.most(&plan.length),
+            after: context,
+        }))
+    }
+
+    /// The region narrowed by the texts of action names, where all is known on which their values
+    /// hang.
+    fn by_names(
+        &self,
+        alloc: Global,
+        setting: &Setting,
+        region: Vec<Cell>,
+        lengths: &Lengths,
+        plan: &Plan,
+        parts: &[Part],
+        texts: &[&[u8]],
+        goal: &Goal,
+    ) -> Result<Option<Vec<Cell>>, AllocError>
+        requires ready { IsReader self.now }
+        requires long { length region.items ≤ 255 }
+        ensures keeps { IfOk result (λ found. KeepsNames self.now setting.now region.items
+            lengths.now plan.now parts.now texts.now goal.now (option_map (λ v. v.items) found)) }
+        ensures long { IfOk result (λ found. IsAsLong (length region.items)
+            (option_map (λ v. v.items) found)) }
+    {
+        let (Some(next), Some(context)) = (setting.next, goal.context) else {
+            return Ok(Some(region));
+        };
+        if !lengths.are_known() {
+            return Ok(Some(region));
+        }
+        let frame = Frame {
+            at: goal.at,
+            lengths: lengths.leasts.as_slice(),
+            context,
+            start: setting.start,
+            next,
+            names: &[],
+        };
+        let wanted = names_texts(alloc, parts.len(), parts, texts)?;
+        let t = self.tables();
+        let narrow = narrowed_by_names(alloc, t, &frame, &region, &plan.late, &wanted)?;
+        Ok(narrow)
+    }
+}
