@@ -6,6 +6,7 @@ _sleigh_options() {
     check | gaps) echo "--packed" ;;
     list | pcode) echo "--packed --base --hex" ;;
     run) echo "--packed --base --hex --steps" ;;
+    asm) echo "--packed --base --actions" ;;
     esac
 }
 
@@ -13,7 +14,7 @@ _sleigh() {
     local current="${COMP_WORDS[COMP_CWORD]}" previous="${COMP_WORDS[COMP_CWORD - 1]}" command="${COMP_WORDS[1]}" word IFS=$' \t\n'
     COMPREPLY=()
     if [ "$COMP_CWORD" -eq 1 ]; then
-        mapfile -t COMPREPLY < <(compgen -W "check list pcode run gaps pack gen" -- "$current")
+        mapfile -t COMPREPLY < <(compgen -W "check list pcode run gaps pack gen asm" -- "$current")
         return
     fi
     case "$command:$previous" in

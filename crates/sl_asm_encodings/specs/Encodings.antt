@@ -1,4 +1,4 @@
--- law: bytes that are shown as a text, and constructors that have actions.
+-- meaning: bytes that are shown as a text, and constructors that have actions.
 use Rattle.std.specs.Prelude.{◌≡◌, ◌≢◌, ℕ, ◌<◌, ◌≤◌, List, [], Some, Ok, length, slice_get}
 use Rattle.std.specs.List.{All}
 use Rattle.sl_ast.specs.Trees.{Constructor}

@@ -1,3 +1,4 @@
 pub mod Encodings
 pub mod Laws
 pub mod Readings
+pub mod Written

@@ -1,8 +1,13 @@
-//! Encodings: bytes that a specification shows as a text, as definitions and their laws.
+//! Encodings: bytes that a specification shows as a text, as definitions and their laws; and the first
+//! constructor that has an action.
 #![tactic(auto)]
 
 ghost use Rattle.sl_asm_encodings.specs.Laws.{EncodesOneText, EncodingIsListed, HasLengthToo};
 ghost use Rattle.sl_asm_encodings.specs.Readings.{DecodeIsReadBack};
+
+mod actions;
+
+pub use actions::first_with_action;
 
 /// At an aligned address the listing of an encoding is one line, with the address, the bytes and the
 /// text.

@@ -8,7 +8,7 @@ use Rattle.sl_outside.specs.Folder.{Folder}
 use Rattle.sl_outside.specs.Uses.{Names, Asks, AsksFront, UsesFiles, UsesSink}
 use Rattle.sl_base_surely.specs.Surely.{Surely}
 use Rattle.sl_base_surely.proofs.SurelyLemmas.{surely, surely_map}
-use Rattle.sl_tool.specs.Answers.{AnswersFrom, AsksForFile, AsksFrom, Due, Follows, Shows, UsesFilesFor, asked_after}
+use Rattle.sl_tool.specs.Answers.{AnswersFrom, AsksForFile, AsksFrom, Due, Follows, Shows, UsesFilesFor, asked_after, ran_of}
 use Rattle.sl_tool.specs.Answers.AsksFrom.{sound, unsound}
 use Rattle.sl_tool.specs.Asking.{AsksAfter}
 use Rattle.sl_tool.specs.Asking.AsksAfter.{asks_none, asks_rest}
@@ -72,6 +72,15 @@ streams_alike due a b c (Err ReadFault) small g = g
 streams_alike due a b c (Err WriteFault) small g = (g.0, g.1, g.2, g.3, grew_none c g.0.ran small g.4)
 streams_alike due a b c (Err NoMemory) small (inl w) = inl w
 streams_alike due a b c (Err NoMemory) small (inr g) = inr (g.0, g.1, g.2, g.3, grew_none c g.0.ran small g.4)
+
+-- the same of a result of a stage
+pub writes_alike : (S : Result Shown Refusal → Type 0) (a b : Option (List ℕ)) (c : ℕ) (x : Result Ending Halt) → c < 2 ^ 64 → Writes S a b RanNone x → Writes S a b (Grew c c) x
+writes_alike S a b c (Ok e) small g = (g.0, g.1, g.2, g.3, grew_none c g.1 small g.4)
+writes_alike S a b c (Err (Refused x)) small g = (g.0, g.1, grew_none c 0 small g.2)
+writes_alike S a b c (Err ReadFault) small g = (g.0, grew_none c 0 small g.1)
+writes_alike S a b c (Err WriteFault) small g = (g.0, g.1, g.2, g.3, grew_none c (ran_of g.0) small g.4)
+writes_alike S a b c (Err NoMemory) small (inl w) = inl w
+writes_alike S a b c (Err NoMemory) small (inr g) = inr (g.0, g.1, g.2, g.3, grew_none c (ran_of g.0) small g.4)
 
 -- a stage that stops doesn't use the sink
 pub stop_sink : {T B K : Type 0} (S : Result B Refusal → Type 0) (view : T → B) (faults calls : K → ℕ) (out : K) (h : Halt) → Obtains S view (Err h)

@@ -5,19 +5,22 @@ use Rattle.sl_outside.specs.Folder.{Folder}
 use Rattle.sl_base_surely.proofs.SurelyLemmas.{surely_map}
 use Rattle.sl_tool_request.specs.Requests.{TextFile}
 use Rattle.sl_tool.specs.Answers.{Answers, Shows, counts_of, figures_of, gaps_of, generated, packs_of, shows_of}
+use Rattle.sl_tool.specs.Assembled.{Assembles, Finds}
 use Rattle.sl_tool.specs.Ends.{Means, ReadsFiles, WritesWhole}
 use Rattle.sl_tool.specs.Ends.Means.{answer}
 use Rattle.sl_tool.specs.Laws.{AcceptedAreAnswered, Accepts, Counted, EndsSo, IsAccepted, IsComplete, IsTold, MayEnd, WritesAnswer}
 use Rattle.sl_tool.specs.Growth.{Grew}
-use Rattle.sl_tool.specs.Request.{CheckSpec, Generate, PackSpec, ReportGaps, Request, ShowImage, Listing, Operations, Run, spec_of}
+use Rattle.sl_tool.specs.Request.{AssembleText, CheckSpec, Generate, PackSpec, ReportGaps, Request, ShowImage, Listing, Operations, Run, spec_of}
 use Rattle.sl_tool.specs.Endings.{Shown}
 use Rattle.sl_tool.specs.declared.status.Status.{Status}
 use Rattle.sl_tool.specs.declared.status.Status.TheVariants.{Done, Refused, Usage, ReadFault, WriteFault, NoMemory, Stopped}
+use Rattle.sl_tool_stages.specs.Assembling.{Begins}
 use Rattle.sl_tool_stages.specs.Stage.{HasOneResult, Stage, Then}
 use Rattle.sl_tool_stages.specs.Stage.Then.{goes, stops}
 use Rattle.sl_tool_stages.specs.Stages.{Loads, Specifies}
 use Rattle.sl_tool_stages.specs.declared.refusal.Refusal.{Refusal}
 use Rattle.sl_tool.proofs.SomeAnswer.{answer_some}
+use Rattle.sl_tool_stages.proofs.AssemblingLemmas.{begins_one}
 use Rattle.sl_tool_stages.proofs.StageLemmas.{loads_told, specifies_one, specifies_told}
 use Rattle.sl_tool_stages.proofs.Thens.{not_both, ok_is}
 
@@ -36,6 +39,9 @@ no_refusal told (ReportGaps spec) is (c, h) x = refuses_none (Specifies told) (S
 no_refusal told (Generate size) is (c, h) x =
     refuses_none (Specifies (Some generated)) (Shows (figures_of size)) (spec_of (Generate size)) c (specifies_one generated) h (λ e k. k) x
 no_refusal told (PackSpec name) is (c, h) x = refuses_none (Specifies told) (Shows packs_of) (TextFile name) c (specifies_told told is) h (λ e k. k) x
+no_refusal told (AssembleText a) is e x =
+    refuses_none (Specifies told) (Assembles a) a.spec e.compiled (specifies_told told is) e.sound
+    (refuses_none (Begins a) (Finds a e.compiled) e.compiled e.context (begins_one a) e.begins (λ y none. none.0 e.bytes e.encodes)) x
 
 endings : (told : Option Folder) (r : Request) (s : Shown) → Answers told r (Ok s) → MayEnd r s.ending
 endings told (CheckSpec spec) s (goes h k) = k.ending
@@ -45,6 +51,7 @@ endings told (ShowImage t (Run steps)) s (goes h (goes i k)) = tt
 endings told (ReportGaps spec) s (goes h k) = k.ending
 endings told (Generate size) s (goes h k) = k.ending
 endings told (PackSpec name) s (goes h k) = k.ending
+endings told (AssembleText a) s (goes h (goes i k)) = k.ending
 
 -- an answer that is no refusal
 kept : (told : Option Folder) (r : Request) → ((x : Refusal) → Answers told r (Err x) → ⊥) → (x : Result Shown Refusal) × Answers told r x

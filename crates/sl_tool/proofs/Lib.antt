@@ -3,6 +3,7 @@ pub mod GapLemmas
 pub mod RunLemmas
 pub mod OneAnswer
 pub mod SomeAnswer
+pub mod AssembledLemmas
 pub mod CompleteLemmas
 pub mod CtorItemLemmas
 pub mod GapAlikeLemmas

@@ -14,12 +14,12 @@ use Rattle.sl_list_instructions.specs.Writing as lister
 use Rattle.sl_outside.specs.Uses.{UsesSink}
 use Rattle.sl_list_pcode.proofs.WholeLemmas.{begun_go_on}
 use Rattle.sl_list_pcode.specs.Writing as pcode
-use Rattle.sl_tool.specs.Answers.{Due, ShowsText, shows_of}
+use Rattle.sl_tool.specs.Answers.{Due, shows_of}
 use Rattle.sl_tool.specs.Writing.{IsOfWriting, listed}
 use Rattle.sl_tool.specs.Streams.{RanNone, Streams, StreamsFront}
 use Rattle.sl_tool.specs.Request.{Listing, Operations}
 use Rattle.sl_tool.specs.Shows.{IsOperations}
-use Rattle.sl_tool.specs.Endings.{Shown, shown}
+use Rattle.sl_tool.specs.Endings.{Shown, ShowsText, shown}
 use Rattle.sl_tool.specs.declared.status.Ending.TheVariants.{Done}
 use Rattle.sl_tool_stages.specs.Outcomes.{FailsToWrite}
 use Rattle.sl_tool_stages.specs.Values.{Loaded}

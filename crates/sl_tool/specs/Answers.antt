@@ -9,14 +9,14 @@ use Rattle.sl_outside.specs.Causes.{Rose}
 use Rattle.sl_outside.specs.Folder.{Folder}
 use Rattle.sl_outside.specs.Uses.{Names, Asks, AsksFront}
 use Rattle.sl_preproc.specs.Asks.{AsksFor as AsksForText}
-use Rattle.sl_tool.specs.Endings.{Shown, ended}
+use Rattle.sl_tool.specs.Assembled.{Assembles}
+use Rattle.sl_tool.specs.Endings.{Shown, ShowsText, ended}
 use Rattle.sl_tool.specs.GapText.{IsGapText}
 use Rattle.sl_tool.specs.Generated.{AreFigures}
 use Rattle.sl_tool.specs.Counts.{count_line}
-use Rattle.sl_tool.specs.Request.{Request, CheckSpec, ShowImage, ReportGaps, Generate, PackSpec, spec_of}
+use Rattle.sl_tool.specs.Request.{Request, CheckSpec, ShowImage, ReportGaps, Generate, PackSpec, AssembleText, spec_of}
 use Rattle.sl_tool.specs.Request.{Show, Listing, Operations, Run}
 use Rattle.sl_tool.specs.Shows.{IsOperations, ShowsRun}
-use Rattle.sl_tool.specs.declared.status.Ending.TheVariants.{Done}
 use Rattle.sl_tool.specs.declared.status.Status.{Status}
 use Rattle.sl_tool.specs.declared.status.Status.TheVariants.{Refused}
 use Rattle.sl_tool_request.specs.Requests.{PackedFile, SpecFile, TextFile}
@@ -34,12 +34,6 @@ use Rattle.sl_base_surely.specs.Surely.{Surely}
 -- what is due at the end of a request
 abbrev pub Due : Type 1
 Due = Shown → Type 0
-
--- This text is written, and no operation is run.
-pub record ShowsText (Is : List ℕ → Type 0) (s : Shown) : Type 0 where
-  pub ending : s.ending ≡ Done
-  pub text : Is s.text
-  pub ran : s.ran ≡ 0
 
 -- what is due of a sound specification: how many tables and constructors there are
 abbrev pub counts_of : Compiled → Due
@@ -80,6 +74,7 @@ Follows told (ShowImage t what) = Then (Loads told t) (Shows (shows_of what))
 Follows told (ReportGaps spec) = Shows gaps_of
 Follows told (Generate size) = Shows (figures_of size)
 Follows told (PackSpec name) = Shows packs_of
+Follows told (AssembleText a) = Assembles a
 
 -- the specification that is generated
 abbrev pub generated : Folder
@@ -92,6 +87,7 @@ folder_for told (ShowImage t what) = told
 folder_for told (ReportGaps spec) = told
 folder_for told (Generate size) = Some generated
 folder_for told (PackSpec name) = told
+folder_for told (AssembleText a) = told
 
 -- What becomes of a request that has these files.
 abbrev pub AnswersFrom : Option Folder → Request → Result Shown Refusal → Type 0
@@ -123,6 +119,7 @@ asked_after (ShowImage t what) = t.image ∷ []
 asked_after (ReportGaps spec) = []
 asked_after (Generate size) = []
 asked_after (PackSpec name) = []
+asked_after (AssembleText a) = []
 
 -- The names that are asked for to read a specification: those of its text, or that of its packed
 -- file.
@@ -145,6 +142,7 @@ AsksFor told (ShowImage t what) = AsksFrom told (ShowImage t what)
 AsksFor told (ReportGaps spec) = AsksFrom told (ReportGaps spec)
 AsksFor told (Generate size) = λ names. names ≡ []
 AsksFor told (PackSpec name) = AsksFrom told (PackSpec name)
+AsksFor told (AssembleText a) = AsksFrom told (AssembleText a)
 
 -- A call asks for the names that are due: for all of them, or, where it stops early, for the first
 -- of them. It fails only where the count of faults rose. The folder stays as it is.

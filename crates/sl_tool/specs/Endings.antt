@@ -1,5 +1,5 @@
 -- meaning: what a command shows, and the status of each ending.
-use Rattle.std.specs.Prelude.{ℕ, List, Bool, true, false}
+use Rattle.std.specs.Prelude.{◌≡◌, ℕ, List, Bool, true, false}
 use Rattle.sl_tool.specs.declared.status.Ending.{Ending}
 use Rattle.sl_tool.specs.declared.status.Ending.TheVariants as ending
 use Rattle.sl_tool.specs.declared.status.Status.{Status}
@@ -10,6 +10,12 @@ pub record Shown : Type 0 where
   pub ending : Ending
   pub text : List ℕ
   pub ran : ℕ
+
+-- This text is written, and no operation is run.
+pub record ShowsText (Is : List ℕ → Type 0) (s : Shown) : Type 0 where
+  pub ending : s.ending ≡ ending.Done
+  pub text : Is s.text
+  pub ran : s.ran ≡ 0
 
 abbrev pub shown : Ending → List ℕ → (ran : ℕ) → Shown
 shown ending text ran = record { ending = ending; text = text; ran = ran }

@@ -1,20 +1,25 @@
 -- meaning: laws above the definitions.
-use Rattle.std.specs.Prelude.{◌≡◌, ℕ, ◌≤◌, ◌⊎◌, List, length, Option, Some, IsSome, Result, Ok, Err, ⊤}
+use Rattle.std.specs.Prelude.{◌≡◌, ℕ, ◌≤◌, ◌⊎◌, List, length, Option, Some, IsSome, Result, Ok, Err, ⊤, if◌then◌else◌}
 use Rattle.std.specs.Io.KnownBytes.{Appends}
+use Rattle.sl_bind_compile.specs.Outcomes.{all_constructors}
+use Rattle.sl_list_instructions.specs.Listing.{IsListing, image_from}
 use Rattle.sl_outside.specs.Causes.{Rose}
 use Rattle.sl_outside.specs.Folder.{Folder, size_limit}
 use Rattle.sl_store_format.specs.Packed.{IsPacked}
 use Rattle.sl_store_write.specs.Packs.{IsFileOf}
-use Rattle.sl_tool_request.specs.Requests.{PackedFile, SpecFile, TextFile}
+use Rattle.sl_tool_contexts.specs.Words.{starting_context}
+use Rattle.sl_tool_request.specs.Requests.{Assembly, PackedFile, SpecFile, TextFile}
 use Rattle.sl_tool.specs.Answers.{Answers, generated}
+use Rattle.sl_tool.specs.Assembled.{EncodesText}
 use Rattle.sl_tool.specs.Endings.{Shown, ended}
 use Rattle.sl_tool.specs.Ends.{Ends, ReadsFiles}
 use Rattle.sl_tool.specs.Growth.{Grew}
-use Rattle.sl_tool.specs.Request.{CheckSpec, Generate, PackSpec, ReportGaps, Request, ShowImage, Listing, Operations, Run, spec_of}
+use Rattle.sl_tool.specs.Request.{AssembleText, CheckSpec, Generate, PackSpec, ReportGaps, Request, ShowImage, Listing, Operations, Run, spec_of}
 use Rattle.sl_tool.specs.declared.status.Ending.{Ending}
 use Rattle.sl_tool.specs.declared.status.Ending.TheVariants.{Done}
 use Rattle.sl_tool.specs.declared.status.Status.{Status}
 use Rattle.sl_tool.specs.declared.status.Status.TheVariants.{NoMemory, ReadFault, WriteFault}
+use Rattle.sl_tool_stages.specs.Assembling.{Begins}
 use Rattle.sl_tool_stages.specs.Packing.{packed_form_of}
 use Rattle.sl_tool_stages.specs.Stage.{Then}
 use Rattle.sl_tool_stages.specs.Stages.{Loads, Specifies}
@@ -29,15 +34,16 @@ AreAlike (Ok s) (Ok u) = (s.ending ≡ u.ending) × (s.text ≡ u.text)
 AreAlike (Err x) (Err y) = x ≡ y
 AreAlike _ _ = ⊥
 
--- Any list of operations that does what an instruction does may be printed.
-abbrev pub PrintsNoList : Request → Type 0
-PrintsNoList (CheckSpec spec) = ⊤
-PrintsNoList (ShowImage t Listing) = ⊤
-PrintsNoList (ShowImage t Operations) = ⊥
-PrintsNoList (ShowImage t (Run steps)) = ⊤
-PrintsNoList (ReportGaps spec) = ⊤
-PrintsNoList (Generate size) = ⊤
-PrintsNoList (PackSpec name) = ⊤
+-- Any list of operations that does what an instruction does may be printed, and any encoding of a text.
+abbrev pub HasOneText : Request → Type 0
+HasOneText (CheckSpec spec) = ⊤
+HasOneText (ShowImage t Listing) = ⊤
+HasOneText (ShowImage t Operations) = ⊥
+HasOneText (ShowImage t (Run steps)) = ⊤
+HasOneText (ReportGaps spec) = ⊤
+HasOneText (Generate size) = ⊤
+HasOneText (PackSpec name) = ⊤
+HasOneText (AssembleText a) = ⊥
 
 -- The folder is told, or what is asked for needs none.
 abbrev pub IsTold : Option Folder → Request → Type 0
@@ -46,10 +52,11 @@ IsTold told (ShowImage t what) = IsSome told
 IsTold told (ReportGaps spec) = IsSome told
 IsTold told (Generate size) = ⊤
 IsTold told (PackSpec name) = IsSome told
+IsTold told (AssembleText a) = IsSome told
 
--- But for those lists a request has one answer at most.
+-- But for those lists and encodings a request has one answer at most.
 abbrev pub HasOneAnswer : Type 0
-HasOneAnswer = (told : Option Folder) (r : Request) (x y : Result Shown Refusal) → IsTold told r → PrintsNoList r
+HasOneAnswer = (told : Option Folder) (r : Request) (x y : Result Shown Refusal) → IsTold told r → HasOneText r
     → Answers told r x → Answers told r y → AreAlike x y
 
 -- What is packed has a file: each name of a file is UTF-8, and there are few enough for a file to count them. Of a text that the
@@ -64,13 +71,24 @@ HasSomeAnswer = (told : Option Folder) (r : Request) → MayPack told r → Sure
 
 -- ---- what is accepted is answered
 
--- What a request names is accepted: the specification is sound, and where an image is shown, there is one beside it.
+-- The text has an encoding where it is to be assembled.
+pub record HasEncoding (told : Option Folder) (a : Assembly) : Type 0 where
+  pub compiled : Compiled
+  pub context : ℕ
+  pub bytes : List ℕ
+  pub sound : Specifies told a.spec (Ok compiled)
+  pub begins : Begins a compiled (Ok context)
+  pub encodes : EncodesText a compiled context bytes
+
+-- What a request names is accepted: the specification is sound, where an image is shown, there is one beside it, and where a text
+-- is assembled, it has an encoding.
 abbrev pub Accepts : Option Folder → Request → Type 0
 Accepts told (CheckSpec spec) = (c : Compiled) × Specifies told spec (Ok c)
 Accepts told (ShowImage t what) = (l : Loaded) × Then (Specifies told) (Loads told t) t.spec (Ok l)
 Accepts told (ReportGaps spec) = (c : Compiled) × Specifies told spec (Ok c)
 Accepts told (Generate size) = (c : Compiled) × Specifies (Some generated) (spec_of (Generate size)) (Ok c)
 Accepts told (PackSpec name) = (c : Compiled) × Specifies told (TextFile name) (Ok c)
+Accepts told (AssembleText a) = HasEncoding told a
 
 pub record IsAccepted (told : Option Folder) (r : Request) : Type 0 where
   pub is_told : IsTold told r
@@ -86,6 +104,7 @@ MayEnd (ShowImage t (Run steps)) ending = ⊤
 MayEnd (ReportGaps spec) ending = ending ≡ Done
 MayEnd (Generate size) ending = ending ≡ Done
 MayEnd (PackSpec name) ending = ending ≡ Done
+MayEnd (AssembleText a) ending = ending ≡ Done
 
 -- It can't be that the request has no answer with an ending, and it has no other.
 pub record IsAnswered (told : Option Folder) (r : Request) : Type 0 where
@@ -98,13 +117,15 @@ AcceptedAreAnswered = (told : Option Folder) (r : Request) → IsAccepted told r
 
 -- ---- packed specifications
 
--- the request over this file of a specification; `gen` and `pack` are over none that could be packed
+-- the request over this file of a specification; `gen` and `pack` are over none that could be packed, and the law leaves
+-- what is assembled as it is where constructors with actions are refused
 abbrev pub over : SpecFile → Request → Request
 over file (CheckSpec spec) = CheckSpec file
 over file (ShowImage t what) = ShowImage (record t { spec = file }) what
 over file (ReportGaps spec) = ReportGaps file
 over file (Generate size) = Generate size
 over file (PackSpec name) = PackSpec name
+over file (AssembleText a) = if a.takes_actions then AssembleText (record a { spec = file }) else AssembleText a
 
 -- Two requests have the same answers.
 abbrev pub AreAnsweredAlike : Option Folder → Request → Request → Type 0
@@ -116,6 +137,21 @@ abbrev pub PackedIsAlike : Type 0
 PackedIsAlike = (folder : Folder) (main name bytes : List ℕ) (c : Compiled) (r : Request)
     → Specifies (Some folder) (TextFile main) (Ok c) → IsFileOf (packed_form_of c.tree) bytes → length bytes ≤ size_limit
     → folder name ≡ Some bytes → AreAnsweredAlike (Some folder) (over (TextFile main) r) (over (PackedFile name) r)
+
+-- ---- what is assembled
+
+-- The text is the listing of some bytes by the specification, from the base on and with the context that the words give.
+pub record ListsSome (told : Option Folder) (a : Assembly) (text : List ℕ) : Type 0 where
+  pub compiled : Compiled
+  pub context : ℕ
+  pub bytes : List ℕ
+  pub sound : Specifies told a.spec (Ok compiled)
+  pub given : starting_context compiled.tables a.context ≡ Ok context
+  pub lists : IsListing compiled.tables (all_constructors compiled.tree.items) (image_from bytes a.base context) text
+
+-- What is printed of a text that is assembled is what `list` prints of the bytes there.
+abbrev pub AssembledIsListed : Type 0
+AssembledIsListed = (told : Option Folder) (a : Assembly) (s : Shown) → Answers told (AssembleText a) (Ok s) → ListsSome told a s.text
 
 -- ---- the whole call
 

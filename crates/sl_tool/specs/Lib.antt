@@ -6,6 +6,7 @@ pub mod Shows
 pub mod GapText
 pub mod Generated
 pub mod Figures
+pub mod Assembled
 pub mod Answers
 pub mod Asking
 pub mod Streams

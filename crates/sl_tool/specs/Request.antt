@@ -1,6 +1,6 @@
 -- meaning: the requests, and the usage line.
 use Rattle.std.specs.Prelude.{ℕ, List, Option, codes, option_map}
-use Rattle.sl_tool_request.specs.Requests.{Asked, Checks, Lists, Prints, Runs, Generates, Reports, Packs, Target, asked_of}
+use Rattle.sl_tool_request.specs.Requests.{Asked, Assembles, Assembly, Checks, Lists, Prints, Runs, Generates, Reports, Packs, Target, asked_of}
 use Rattle.sl_tool_request.specs.Requests.{SpecFile, TextFile}
 
 -- What is shown of an image: its listing, the listing with the operations of each instruction, or its
@@ -11,14 +11,15 @@ pub data Show : Type 0 where
   Run : (steps : ℕ) → Show
 
 -- A specification, by its file, is checked; an image is shown by it; what it leaves unmatched is
--- reported; one is generated, and listed and run for so many instructions; or the text with this
--- main file is packed.
+-- reported; one is generated, and listed and run for so many instructions; the text with this main
+-- file is packed; or an instruction is assembled.
 pub data Request : Type 0 where
   CheckSpec : SpecFile → Request
   ShowImage : Target → Show → Request
   ReportGaps : SpecFile → Request
   Generate : (size : ℕ) → Request
   PackSpec : List ℕ → Request
+  AssembleText : Assembly → Request
 
 -- the file of the specification
 abbrev pub spec_of : Request → SpecFile
@@ -27,6 +28,7 @@ spec_of (ShowImage t what) = t.spec
 spec_of (ReportGaps spec) = spec
 spec_of (Generate size) = TextFile (codes "gen")
 spec_of (PackSpec name) = TextFile name
+spec_of (AssembleText a) = a.spec
 
 abbrev pub request_for : Asked → Request
 request_for (Checks spec) = CheckSpec spec
@@ -36,10 +38,11 @@ request_for (Runs t steps) = ShowImage t (Run steps)
 request_for (Generates size) = Generate size
 request_for (Reports spec) = ReportGaps spec
 request_for (Packs name) = PackSpec name
+request_for (Assembles a) = AssembleText a
 
 -- What the words of a command line, the program's name first, ask for.
 abbrev pub request_of : List (List ℕ) → Option Request
 request_of words = option_map request_for (asked_of words)
 
 abbrev pub usage_line : List ℕ
-usage_line = codes "usage: sleigh check SPEC | list SPEC IMAGE | pcode SPEC IMAGE | run SPEC IMAGE | gen NUMBER | gaps SPEC | pack SPEC\n"
+usage_line = codes "usage: sleigh check SPEC | list SPEC IMAGE | pcode SPEC IMAGE | run SPEC IMAGE | gen NUMBER | gaps SPEC | pack SPEC | asm SPEC TEXT\n"

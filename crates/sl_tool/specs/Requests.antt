@@ -1,8 +1,8 @@
 -- step: a request as the program keeps it.
-use Rattle.sl_tool_request.specs.Views.{spec_file, target}
+use Rattle.sl_tool_request.specs.Views.{assembly, spec_file, target}
 use Rattle.sl_tool.specs.Request as spec
 use Rattle.sl_tool.specs.declared.request.Request.{Request}
-use Rattle.sl_tool.specs.declared.request.Request.TheVariants.{Check, Gaps, Generate, Pack, Show as ShowImage}
+use Rattle.sl_tool.specs.declared.request.Request.TheVariants.{Assemble, Check, Gaps, Generate, Pack, Show as ShowImage}
 use Rattle.sl_tool.specs.declared.request.Show.{Show}
 use Rattle.sl_tool.specs.declared.request.Show.TheVariants.{Listing, Operations, Run}
 
@@ -17,3 +17,4 @@ request (ShowImage t what) = spec.ShowImage (target t) (show_of what)
 request (Gaps file) = spec.ReportGaps (spec_file file)
 request (Generate size) = spec.Generate size
 request (Pack name) = spec.PackSpec name.now
+request (Assemble a) = spec.AssembleText (assembly a)

@@ -17,6 +17,7 @@ ghost use Rattle.sl_tool_stages.specs.Stage.{Then};
 ghost use Rattle.sl_tool_stages.specs.Stages.{Compiles};
 ghost use Rattle.sl_tool_stages.specs.StageViews.{tree_view};
 
+use crate::assemble::assemble;
 use crate::check::check;
 use crate::figures::figures;
 use crate::generated::generated;
@@ -57,6 +58,7 @@ pub fn answered<F: Files, K: Sink, R: Runner>(
         Request::Show(_, _) => answered_from(alloc, request, files, out, runner),
         Request::Gaps(_) => answered_from(alloc, request, files, out, runner),
         Request::Pack(_) => answered_from(alloc, request, files, out, runner),
+        Request::Assemble(_) => answered_from(alloc, request, files, out, runner),
     }
 }
 
@@ -164,6 +166,7 @@ fn answered_by<F: Files, K: Sink, R: Runner>(
         Request::Show(target, what) => { show(alloc, target, *what, compiled, files, out, runner) }
         Request::Gaps(_) => report(alloc, &compiled, out),
         Request::Pack(_) => pack(alloc, &compiled, out),
+        Request::Assemble(assembly) => assemble(alloc, assembly, &compiled, out),
         Request::Generate(size) => figures(alloc, *size, &compiled, out, runner),
     }
 }

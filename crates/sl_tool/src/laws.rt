@@ -1,7 +1,7 @@
 //! Laws of the definitions.
 
 ghost use Rattle.sl_tool.specs.Laws.{AcceptedAreAnswered, HasOneAnswer, HasSomeAnswer, IsComplete};
-ghost use Rattle.sl_tool.specs.Laws.{PackedIsAlike};
+ghost use Rattle.sl_tool.specs.Laws.{AssembledIsListed, PackedIsAlike};
 ghost use Rattle.sl_tool.specs.SureLaws.{PrintedSureIsMatched};
 
 /// A request has one answer at most, where the folder is told or it is a `gen`: an ending and a
@@ -38,4 +38,10 @@ pub fn packed_is_alike()
 /// the context.
 pub fn printed_sure_is_matched()
     ensures { PrintedSureIsMatched }
+{}
+
+/// What `asm` prints of a text is what `list` prints of the bytes in it, at the base and in the
+/// context that the words give.
+pub fn assembled_is_listed()
+    ensures { AssembledIsListed }
 {}

@@ -6,17 +6,20 @@
 //! the listing with the operations of each instruction, and `run SPEC IMAGE` runs instructions and
 //! prints registers, changed memory and the fault; the image may be hexadecimal text, and begin at
 //! a base. `gaps SPEC` prints what a specification leaves unmatched. `gen NUMBER` checks, lists and
-//! runs a specification and an image of its own. A specification's main file is expanded, the text
+//! runs a specification and an image of its own. `asm SPEC TEXT` prints the line of bytes that a
+//! listing shows as the text. A specification's main file is expanded, the text
 //! is split into tokens, the tokens are parsed, the rules are judged, sizes inferred, and tables
 //! settled, or the first reason is told why it is refused.
 //!
 //! `sl_tool_stages` has the stages: source, tree, sound tables, and the image beside them.
 //! `answer.rt` has the row of them for each request, and then what follows: `check.rt` counts;
-//! `show.rt` shows an image; `report.rt` reports gaps; `figures.rt` has what `gen` tells.
+//! `show.rt` shows an image; `report.rt` reports gaps; `assemble.rt` finds the bytes of a text;
+//! `figures.rt` has what `gen` tells.
 //! `specs/Answers.antt` says what is due of a request.
 #![tactic(auto)]
 
 mod answer;
+mod assemble;
 mod check;
 mod figures;
 mod generated;
@@ -30,8 +33,8 @@ mod tool;
 mod writing;
 
 pub use laws::{
-    accepted_are_answered, complete, one_answer, packed_is_alike, printed_sure_is_matched,
-    some_answer,
+    accepted_are_answered, assembled_is_listed, complete, one_answer, packed_is_alike,
+    printed_sure_is_matched, some_answer,
 };
 pub use status::Status;
 pub use tool::run_tool;

@@ -5,7 +5,7 @@ ghost use Rattle.sl_tool_request.specs.Views.{request as asked_view, spec_file};
 ghost use Rattle.sl_tool.specs.Request.{request_for, request_of, spec_of};
 ghost use Rattle.sl_tool.specs.Requests.{request};
 
-use sl_tool_request::{Request as Asked, SpecFile, Target};
+use sl_tool_request::{Assembly, Request as Asked, SpecFile, Target};
 use std::alloc::{AllocError, Global};
 
 /// What is shown of an image.
@@ -31,6 +31,8 @@ pub enum Request<'a> {
     Generate(u64),
     /// The specification with this main file is packed.
     Pack(&'a str),
+    /// The bytes of an instruction are looked for by its text.
+    Assemble(Assembly<'a>),
 }
 
 impl<'a> Request<'a> {
@@ -44,6 +46,7 @@ impl<'a> Request<'a> {
             Request::Gaps(file) => *file,
             Request::Generate(_) => SpecFile::Text("gen"),
             Request::Pack(name) => SpecFile::Text(*name),
+            Request::Assemble(assembly) => assembly.spec,
         }
     }
 }
@@ -60,6 +63,7 @@ fn request_for(asked: Asked<'_>) -> Request<'_>
         Asked::Gen(size) => Request::Generate(size),
         Asked::Gaps(file) => Request::Gaps(file),
         Asked::Pack(name) => Request::Pack(name),
+        Asked::Asm(assembly) => Request::Assemble(assembly),
     }
 }
 

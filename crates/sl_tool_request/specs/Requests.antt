@@ -29,6 +29,15 @@ pub record Target : Type 0 where
   pub is_hex : Bool
   pub context : List Field
 
+-- What is assembled: the file of the specification, the text, the address, the context's values, and
+-- whether constructors may have actions.
+pub record Assembly : Type 0 where
+  pub spec : SpecFile
+  pub text : Text
+  pub base : ℕ
+  pub context : List Field
+  pub takes_actions : Bool
+
 pub data Asked : Type 0 where
   Checks : SpecFile → Asked
   Lists : Target → Asked
@@ -37,6 +46,7 @@ pub data Asked : Type 0 where
   Generates : ℕ → Asked
   Reports : SpecFile → Asked
   Packs : Text → Asked
+  Assembles : Assembly → Asked
 
 -- ---- what a command is given
 
@@ -47,6 +57,7 @@ pub record Arguments : Type 0 where
   pub steps : Option Text
   pub is_hex : Bool
   pub is_packed : Bool
+  pub takes_actions : Bool
 
 abbrev pub arguments : List Part → Arguments
 arguments ps = record {
@@ -55,6 +66,7 @@ arguments ps = record {
   steps = given_value (codes "steps") ps;
   is_hex = is_given (codes "hex") ps;
   is_packed = is_given (codes "packed") ps;
+  takes_actions = is_given (codes "actions") ps;
 }
 
 abbrev pub arguments_once : List Part → Option Arguments
@@ -104,6 +116,20 @@ target_of_words s _ = None
 abbrev pub target_of : Arguments → Option Target
 target_of s = target_of_words s s.words
 
+-- The text in the place of the image's name.
+abbrev pub assembly : (takes_actions : Bool) → Target → Assembly
+assembly takes_actions t = record {
+  spec = t.spec;
+  text = t.image;
+  base = t.base;
+  context = t.context;
+  takes_actions = takes_actions;
+}
+
+-- SPEC TEXT FIELD=VALUE ..
+abbrev pub assembly_of : Arguments → Option Assembly
+assembly_of s = option_map (assembly s.takes_actions) (target_of s)
+
 -- The only word.
 abbrev pub only_word : List Text → Option Text
 only_word (word ∷ []) = Some word
@@ -143,6 +169,9 @@ target_options = flag (codes "packed") ∷ takes (codes "base") ∷ flag (codes 
 abbrev pub run_options : List OptionRule
 run_options = flag (codes "packed") ∷ takes (codes "base") ∷ flag (codes "hex") ∷ takes (codes "steps") ∷ []
 
+abbrev pub asm_options : List OptionRule
+asm_options = flag (codes "packed") ∷ takes (codes "base") ∷ flag (codes "actions") ∷ []
+
 abbrev pub check_asked : Arguments → Option Asked
 check_asked s = option_map Checks (only_spec s)
 
@@ -164,6 +193,9 @@ gaps_asked s = option_map Reports (only_spec s)
 abbrev pub pack_asked : Arguments → Option Asked
 pack_asked s = option_map Packs (only_word s.words)
 
+abbrev pub asm_asked : Arguments → Option Asked
+asm_asked s = option_map Assembles (assembly_of s)
+
 -- A command: its name, its options, and what is asked by what it is given.
 pub record Command : Type 0 where
   pub name : Text
@@ -182,6 +214,7 @@ commands =
     ∷ command (codes "gen") [] gen_asked
     ∷ command (codes "gaps") spec_options gaps_asked
     ∷ command (codes "pack") [] pack_asked
+    ∷ command (codes "asm") asm_options asm_asked
     ∷ []
 
 abbrev pub command_named : Text → Option Command

@@ -1,9 +1,10 @@
 -- view: a request as the program keeps it
 use Rattle.std.specs.Prelude.{map, option_map}
 use Rattle.sl_tool_request.specs.Requests as spec
+use Rattle.sl_tool_request.specs.declared.request.Assembly.{Assembly}
 use Rattle.sl_tool_request.specs.declared.request.FieldValue.{FieldValue}
 use Rattle.sl_tool_request.specs.declared.request.Request.{Request}
-use Rattle.sl_tool_request.specs.declared.request.Request.TheVariants.{Check, List, Pcode, Run, Gen, Gaps, Pack}
+use Rattle.sl_tool_request.specs.declared.request.Request.TheVariants.{Asm, Check, List, Pcode, Run, Gen, Gaps, Pack}
 use Rattle.sl_tool_request.specs.declared.request.SpecFile.{SpecFile}
 use Rattle.sl_tool_request.specs.declared.request.SpecFile.TheVariants.{Text, Packed}
 use Rattle.sl_tool_request.specs.declared.request.Target.{Target}
@@ -25,6 +26,15 @@ target t = record {
   context = map field t.context.items;
 }
 
+abbrev pub assembly : Assembly → spec.Assembly
+assembly a = record {
+  spec = spec_file a.spec;
+  text = a.text.now;
+  base = a.base;
+  context = map field a.context.items;
+  takes_actions = a.takes_actions;
+}
+
 abbrev pub request : Request → spec.Asked
 request (Check file) = spec.Checks (spec_file file)
 request (List t) = spec.Lists (target t)
@@ -33,6 +43,7 @@ request (Run t steps) = spec.Runs (target t) steps
 request (Gen size) = spec.Generates size
 request (Gaps file) = spec.Reports (spec_file file)
 request (Pack name) = spec.Packs name.now
+request (Asm a) = spec.Assembles (assembly a)
 
 abbrev pub arguments : Arguments → spec.Arguments
 arguments s = record {
@@ -41,4 +52,5 @@ arguments s = record {
   steps = option_map (λ w. w.now) s.steps;
   is_hex = s.is_hex;
   is_packed = s.is_packed;
+  takes_actions = s.takes_actions;
 }

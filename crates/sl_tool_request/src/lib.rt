@@ -11,8 +11,9 @@ mod request;
 pub use image::decode_hex;
 pub use laws::parts_of_words;
 pub use reading::asked_by;
-pub use request::{Arguments, FieldValue, Request, SpecFile, Target};
+pub use request::{Arguments, Assembly, FieldValue, Request, SpecFile, Target};
 
 /// The usage line, with its line end.
 pub const USAGE: &str = "usage: sleigh check SPEC | list SPEC IMAGE | pcode SPEC IMAGE \
-    | run SPEC IMAGE | gen NUMBER | gaps SPEC | pack SPEC\n";
+    | run SPEC IMAGE | gen NUMBER | gaps SPEC | pack SPEC \
+    | asm SPEC TEXT\n";

@@ -1,16 +1,17 @@
 //! From what a command is given to a request.
 
 ghost use Rattle.std.specs.Prelude.{◌≡◌, IfOk, map, option_map, string_bytes};
-ghost use Rattle.sl_tool_request.specs.Requests.{asked_by, check_asked, field_of, fields_of};
+ghost use Rattle.sl_tool_request.specs.Requests.{asked_by, asm_asked, assembly_of};
+ghost use Rattle.sl_tool_request.specs.Requests.{check_asked, field_of, fields_of};
 ghost use Rattle.sl_tool_request.specs.Requests.{gaps_asked, gen_asked};
 ghost use Rattle.sl_tool_request.specs.Requests.{list_asked, number_or, only_spec, only_word};
 ghost use Rattle.sl_tool_request.specs.Requests.{pack_asked, pcode_asked, run_asked, size_of};
 ghost use Rattle.sl_tool_request.specs.Requests.{spec_file, target_of};
-ghost use Rattle.sl_tool_request.specs.Views.{field, request, arguments, target};
+ghost use Rattle.sl_tool_request.specs.Views.{arguments, assembly, field, request, target};
 ghost use Rattle.sl_tool_request.specs.Views.{spec_file as file_view};
 
 use crate::numbers::{number_of, value_of};
-use crate::request::{Arguments, FieldValue, Request, SpecFile, Target};
+use crate::request::{Arguments, Assembly, FieldValue, Request, SpecFile, Target};
 use std::alloc::{AllocError, Global};
 
 /// The largest number that `gen` takes.
@@ -86,6 +87,23 @@ fn target_of<'a>(alloc: Global, given: &Arguments<'a>) -> Result<Option<Target<'
         base,
         is_hex: given.is_hex,
         context,
+    }))
+}
+
+/// SPEC TEXT FIELD=VALUE .., with the options of `asm`: the words are those over an image, with the
+/// text in the place of its name.
+fn assembly_of<'a>(alloc: Global, given: &Arguments<'a>) -> Result<Option<Assembly<'a>>, AllocError>
+    ensures { IfOk result (λ r. option_map assembly r ≡ assembly_of (arguments given.now)) }
+{
+    let Some(target) = target_of(alloc, given)? else {
+        return Ok(None);
+    };
+    Ok(Some(Assembly {
+        spec: target.spec,
+        text: target.image,
+        base: target.base,
+        context: target.context,
+        takes_actions: given.takes_actions,
     }))
 }
 
@@ -184,6 +202,16 @@ fn pack_asked<'a>(given: &Arguments<'a>) -> Option<Request<'a>>
     Some(Request::Pack(name))
 }
 
+/// What `asm` asks for.
+fn asm_asked<'a>(alloc: Global, given: &Arguments<'a>) -> Result<Option<Request<'a>>, AllocError>
+    ensures { IfOk result (λ r. option_map request r ≡ asm_asked (arguments given.now)) }
+{
+    match assembly_of(alloc, given)? {
+        Some(assembly) => Ok(Some(Request::Asm(assembly))),
+        None => Ok(None),
+    }
+}
+
 /// What the command of this name asks for by what it is given; none where there is no such command,
 /// or where a word is too many, missing, or no number or field.
 pub fn asked_by<'a>(
@@ -201,6 +229,7 @@ pub fn asked_by<'a>(
         "gen" => Ok(gen_asked(given)),
         "gaps" => Ok(gaps_asked(given)),
         "pack" => Ok(pack_asked(given)),
+        "asm" => asm_asked(alloc, given),
         _ => Ok(None),
     }
 }

@@ -31,6 +31,21 @@ pub struct Target<'a> {
     pub context: Vec<FieldValue<'a>>,
 }
 
+/// What is assembled.
+#[derive(Debug, Drop)]
+pub struct Assembly<'a> {
+    /// The file of the specification.
+    pub spec: SpecFile<'a>,
+    /// The instruction, as a listing shows it.
+    pub text: &'a str,
+    /// The address of the instruction, in the default space.
+    pub base: u64,
+    /// The values of context fields, in the order of the words.
+    pub context: Vec<FieldValue<'a>>,
+    /// Whether constructors may have actions.
+    pub takes_actions: bool,
+}
+
 /// What is asked for.
 #[derive(Debug, Drop)]
 pub enum Request<'a> {
@@ -48,6 +63,8 @@ pub enum Request<'a> {
     Gaps(SpecFile<'a>),
     /// The specification with this main file is packed.
     Pack(&'a str),
+    /// The bytes of an instruction are looked for.
+    Asm(Assembly<'a>),
 }
 
 /// What a command is given, before any value is read: its positional words, and the values of its
@@ -59,4 +76,5 @@ pub struct Arguments<'a> {
     pub steps: Option<&'a str>,
     pub is_hex: bool,
     pub is_packed: bool,
+    pub takes_actions: bool,
 }

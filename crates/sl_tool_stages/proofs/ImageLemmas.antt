@@ -1,9 +1,15 @@
 -- The number of addresses, and stages that stop as a part of a longer one.
-use Rattle.std.proofs.Common.{◌≡◌, ℕ, ◌+◌, ◌*◌, ◌%◌, ◌^◌, ◌<◌, ◌≤◌, List, length, Result, Err, ◌∙◌, sym, arith}
+use Rattle.std.proofs.Common.{◌≡◌, ℕ, ◌+◌, ◌*◌, ◌%◌, ◌^◌, ◌<◌, ◌≤◌, List, length, map, Result, Err, ap, ◌∙◌, sym, arith}
 use Rattle.std.proofs.Math.Nat.{mod-eq_of_lt}
 use Rattle.std.proofs.Math.Pow.{pow_mono}
 use Rattle.sl_word.proofs.Powers.{bytes-bits, bytes_mono}
+use Rattle.sl_spec.specs.declared.tables.Tables.{Tables}
+use Rattle.sl_tool_contexts.specs.Words.{starting_context}
+use Rattle.sl_tool_request.specs.Requests.{Field, Target}
+use Rattle.sl_tool_request.specs.Views.{field}
+use Rattle.sl_tool_request.specs.declared.request.FieldValue.{FieldValue}
 use Rattle.sl_tool_stages.specs.Outcomes.{Gives, Obtains}
+use Rattle.sl_tool_stages.specs.Stages.{Starts, opened, started}
 use Rattle.sl_step_run.specs.Running.{HasRoom}
 use Rattle.sl_tool_stages.specs.declared.halt.Halt.{Halt}
 use Rattle.sl_tool_stages.specs.declared.halt.Halt.TheVariants.{Refused, ReadFault, WriteFault, NoMemory}
@@ -36,3 +42,18 @@ pub image_fits : (bytes base : ℕ) (image : List ℕ) → bytes ≤ 8 → HasRo
 image_fits bytes base image within room =
     let most = bytes_mono bytes 8 within in
     omega (arith, most, room.ends)
+
+-- ---- contexts
+
+-- the context that words give
+abbrev pub Opening : Tables → List FieldValue → Result ℕ Refusal → Type 0
+Opening tables words r = r ≡ opened (starting_context tables (map field words))
+
+abbrev pub context : ℕ → ℕ
+context start = start
+
+-- is that of an image, where these are the words of its target
+pub opening_starts : (tables : Tables) (words : List FieldValue) (t : Target) (bytes : List ℕ) (r : Result ℕ Refusal) → map field words ≡ t.context
+    → Opening tables words r → Starts tables t bytes (started bytes t.base r)
+opening_starts tables words t bytes r is e =
+    ap (started bytes t.base) (e ∙ ap (λ (l : List Field). opened (starting_context tables l)) is)

@@ -10,6 +10,7 @@ pub mod NameLemmas
 pub mod ImageLemmas
 pub mod UnpackLemmas
 pub mod StageLemmas
+pub mod AssemblingLemmas
 pub mod HaltLemmas
 pub mod ReadLemmas
 pub mod PackingLemmas

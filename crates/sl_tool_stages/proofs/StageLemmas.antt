@@ -32,7 +32,7 @@ use Rattle.sl_parse_terminals.specs.Symbols.{symbols_of}
 use Rattle.sl_tool_stages.specs.Places.{indexes_in, place_of_byte, place_of_token}
 use Rattle.sl_tool_stages.specs.Problems.{refusal, refusal_at}
 use Rattle.sl_tool_stages.specs.Stage.{HasOneResult, HasSomeResult, Then}
-use Rattle.sl_tool_stages.specs.Stages.{Compiles, Expands, Tokenizes, Parses, Unpacks, Reads, Fetches, Decodes, Fits, Images, Loads, Readies, Specifies, Starts, decoded, image_in, problem_of_fault, problem_of_reason, refusal_told, source_of, started, stored_tree}
+use Rattle.sl_tool_stages.specs.Stages.{Compiles, Expands, Tokenizes, Parses, Unpacks, Reads, Fetches, Decodes, Fits, Images, Loads, Readies, Specifies, Starts, decoded, image_in, problem_of_fault, problem_of_reason, opened, refusal_told, source_of, started, stored_tree}
 use Rattle.sl_tool_stages.specs.Stages.Reads.{of_packed, of_text}
 use Rattle.sl_tool_stages.specs.Values.{Source, Tokens, InText, Origin, Tree, Compiled, Loaded, compiled, loaded, tokens, tree}
 use Rattle.sl_tool_stages.specs.declared.problem.Problem.TheVariants.{Cut, Damaged, NoFile, NotPacked, TooLong}
@@ -221,7 +221,7 @@ starts_one : (tables : spec.Tables) (t : Target) → HasOneResult (Starts tables
 starts_one tables t bytes r q h g = h ∙ sym g
 
 starts_some : (tables : spec.Tables) (t : Target) (bytes : List ℕ) → HasSomeResult (Starts tables t) bytes
-starts_some tables t bytes = surely (let p : (r : Result Image Refusal) × Starts tables t bytes r = (started bytes t.base (starting_context tables t.context), refl) in p)
+starts_some tables t bytes = surely (let p : (r : Result Image Refusal) × Starts tables t bytes r = (started bytes t.base (opened (starting_context tables t.context)), refl) in p)
 
 readies_one : (folder : Folder) (t : Target) (b : spec.Tables) (r q : Result Image Refusal) → Readies (Some folder) t b r → Readies (Some folder) t b q → r ≡ q
 readies_one folder t b = then_one _ _ (images_one folder (256 ^ address_bytes b) t) (starts_one b t) t.image

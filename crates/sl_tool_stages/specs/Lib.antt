@@ -5,6 +5,7 @@ pub mod Values
 pub mod Places
 pub mod ItemLines
 pub mod Stages
+pub mod Assembling
 pub mod Outcomes
 pub mod SourceView
 pub mod TokensView

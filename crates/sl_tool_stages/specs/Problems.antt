@@ -9,11 +9,11 @@ use Rattle.sl_cube_sets.specs.declared.report.Apart.TheVariants.{Same, Two}
 use Rattle.sl_tool_stages.specs.Lines.{place_text, point_text}
 use Rattle.sl_tool_stages.specs.declared.problem.Conflict.{Conflict}
 use Rattle.sl_tool_stages.specs.declared.problem.Problem.{Problem}
-use Rattle.sl_tool_stages.specs.declared.problem.Problem.TheVariants.{NotPacked, Cut, Damaged, NoFile, TooLong, IncludeDepth, UndefinedName, ReplaceDepth, BadDirective, Unbalanced, BadByte, OpenString, WideInteger, Syntax, Nesting, NotSupported, Rule, SizeClash, SizeUnfixed, InteriorEllipsis, TokensDiffer, Impossible, TooManyCubes, WindowTooLong, Ambiguous, BadHex, NoContextField, ValueOutOfRange}
+use Rattle.sl_tool_stages.specs.declared.problem.Problem.TheVariants.{NotPacked, Cut, Damaged, NoFile, TooLong, IncludeDepth, UndefinedName, ReplaceDepth, BadDirective, Unbalanced, BadByte, OpenString, WideInteger, Syntax, Nesting, NotSupported, Rule, SizeClash, SizeUnfixed, InteriorEllipsis, TokensDiffer, Impossible, TooManyCubes, WindowTooLong, Ambiguous, BadHex, NoContextField, ValueOutOfRange, HasActions, Misaligned, NoEncoding}
 use Rattle.sl_tool_stages.specs.declared.place.Place.{Place}
 use Rattle.sl_tool_stages.specs.declared.refusal.Refusal.{Refusal}
 use Rattle.sl_tool_stages.specs.declared.refusal.Subject.{Subject}
-use Rattle.sl_tool_stages.specs.declared.refusal.Subject.TheVariants.{Line, Field}
+use Rattle.sl_tool_stages.specs.declared.refusal.Subject.TheVariants.{Line, Field, Base, Nothing}
 
 -- ---- words
 
@@ -65,6 +65,9 @@ words_of (Damaged at) = codes "damaged at " ++ decimal at
 words_of BadHex = codes "bad hex"
 words_of NoContextField = codes "no such context field"
 words_of ValueOutOfRange = codes "value out of range"
+words_of HasActions = codes "has actions"
+words_of Misaligned = codes "misaligned"
+words_of NoEncoding = codes "no encoding"
 
 -- ---- the report of a conflict
 
@@ -88,14 +91,16 @@ abbrev pub lines_after : Problem → List ℕ
 lines_after (Ambiguous conflict) = report_lines conflict
 lines_after problem = []
 
--- a line of a file, or the name of a context field
+-- a line of a file, the name of a context field, or the base, before a colon; of a request as a whole nothing
 abbrev pub subject_text : Subject → List ℕ
-subject_text (Line place) = place_text place.file place.line
-subject_text (Field name) = name
+subject_text (Line place) = place_text place.file place.line ++ codes ": "
+subject_text (Field name) = name ++ codes ": "
+subject_text Base = codes "base: "
+subject_text Nothing = []
 
 -- the subject, the problem's words, and what is printed after that line
 abbrev pub refusal_text : Refusal → List ℕ
-refusal_text x = subject_text x.subject ++ (codes ": " ++ (words_of x.problem ++ (codes "\n" ++ lines_after x.problem)))
+refusal_text x = subject_text x.subject ++ (words_of x.problem ++ (codes "\n" ++ lines_after x.problem))
 
 abbrev pub refusal_at : Place → Problem → Refusal
 refusal_at place problem = record { subject = Line place; problem = problem }
@@ -107,3 +112,11 @@ refusal file line problem = refusal_at (record { file = file; line = line }) pro
 -- the refusal of a context field of this name
 abbrev pub refusal_of_field : List ℕ → Problem → Refusal
 refusal_of_field name problem = record { subject = Field name; problem = problem }
+
+-- the refusal of the base
+abbrev pub refusal_of_base : Problem → Refusal
+refusal_of_base problem = record { subject = Base; problem = problem }
+
+-- the refusal of a request as a whole
+abbrev pub bare_refusal : Problem → Refusal
+bare_refusal problem = record { subject = Nothing; problem = problem }

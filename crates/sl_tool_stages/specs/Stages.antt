@@ -179,13 +179,18 @@ abbrev pub problem_of_word : context.Cause → Problem
 problem_of_word word.NoField = NoContextField
 problem_of_word word.OutOfRange = ValueOutOfRange
 
--- the image with the context that words give it, or the first word that is refused
-abbrev pub started : List ℕ → ℕ → Result ℕ Bad → Result Image Refusal
+-- the context that words give, or the first word that is refused
+abbrev pub opened : Result ℕ Bad → Result ℕ Refusal
+opened (Ok start) = Ok start
+opened (Err bad) = Err (refusal_of_field bad.field (problem_of_word bad.cause))
+
+-- the image with this context
+abbrev pub started : List ℕ → ℕ → Result ℕ Refusal → Result Image Refusal
 started bytes base (Ok start) = Ok (image_from bytes base start)
-started bytes base (Err bad) = Err (refusal_of_field bad.field (problem_of_word bad.cause))
+started bytes base (Err x) = Err x
 
 abbrev pub Starts : spec.Tables → Target → Stage Refusal (List ℕ) Image
-Starts tables t bytes r = r ≡ started bytes t.base (starting_context tables t.context)
+Starts tables t bytes r = r ≡ started bytes t.base (opened (starting_context tables t.context))
 
 -- The image that the target tells, for the default space of the tables.
 abbrev pub Readies : Option Folder → Target → spec.Tables → Result Image Refusal → Type 0

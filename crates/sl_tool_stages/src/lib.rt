@@ -13,6 +13,8 @@
 //! let loaded = Loaded::read(alloc, target, compiled, files)?;
 //! ```
 //!
+//! [`begin`] gives the context in which an instruction is assembled, in the place of an image.
+//!
 //! Where a stage gives nothing, a [`Halt`] says why. Of a specification, an image or a word for the
 //! context that is refused it has a [`Refusal`]: the line of a file or the name of a field, and the
 //! [`Problem`] there. Its text is what the tool prints of it.
@@ -21,6 +23,7 @@
 //! call promises of that, and `specs/Problems.antt` what is printed of each refusal.
 #![tactic(auto)]
 
+mod beginning;
 mod compiled;
 mod fetching;
 mod halt;
@@ -36,6 +39,7 @@ mod source;
 mod tokens;
 mod tree;
 
+pub use beginning::begin;
 pub use compiled::Compiled;
 pub use fetching::fetched;
 pub use halt::Halt;

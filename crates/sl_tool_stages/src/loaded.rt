@@ -1,10 +1,11 @@
 //! The last stage: the image beside the sound specification.
 
-ghost use Rattle.std.specs.Prelude.{◌≡◌, ℕ, List, IfOk};
-ghost use Rattle.sl_list_instructions.specs.Listing.{image_from};
+ghost use Rattle.std.specs.Prelude.{◌≡◌, IfOk, map};
+ghost use Rattle.sl_tool_contexts.specs.Words.{starting_context as context_meant};
+ghost use Rattle.sl_tool_request.specs.Views.{field};
 ghost use Rattle.sl_tool_request.specs.Views.{target as target_view};
 ghost use Rattle.sl_tool_stages.specs.Outcomes.{Gives};
-ghost use Rattle.sl_tool_stages.specs.Stages.{Starts, problem_of_word};
+ghost use Rattle.sl_tool_stages.specs.Stages.{opened, problem_of_word};
 
 use crate::compiled::Compiled;
 use crate::fetching::fetched;
@@ -16,7 +17,7 @@ use sl_decode::address_size;
 use sl_outside::Files;
 use sl_spec::Tables;
 use sl_tool_contexts::{Cause, starting_context};
-use sl_tool_request::Target;
+use sl_tool_request::{FieldValue, Target};
 use std::alloc::Global;
 
 /// An image that fits the default space from its base on.
@@ -49,12 +50,12 @@ fn problem_of(cause: Cause) -> Problem
     }
 }
 
-/// The context that the target's words give.
-fn started(alloc: Global, target: &Target<'_>, tables: &Tables<'_>) -> Result<u64, Halt>
-    ensures { (bytes : List ℕ) → Gives (Starts tables.now (target_view target.now) bytes)
-        (λ start. image_from bytes target.now.base start) result }
+/// The context that words give.
+pub fn opened(alloc: Global, words: &[FieldValue<'_>], tables: &Tables<'_>) -> Result<u64, Halt>
+    ensures { Gives (λ r. r ≡ opened (context_meant tables.now (map field words.now)))
+        (λ start. start) result }
 {
-    match starting_context(tables, target.context.as_slice()) {
+    match starting_context(tables, words) {
         Ok(start) => Ok(start),
         Err(word) => {
             let refusal = Refusal::of_field(alloc, word.field, problem_of(word.cause))?;
@@ -91,7 +92,7 @@ impl Image {
         let bytes = fetched(alloc, target.image, files)?;
         let address_bytes = u64::from(address_size(tables).bytes);
         let bytes = prepared(alloc, target, address_bytes, bytes)?;
-        let start = started(alloc, target, tables)?;
+        let start = opened(alloc, target.context.as_slice(), tables)?;
         Ok(Image {
             bytes,
             base: target.base,

@@ -82,8 +82,15 @@ pub enum Problem {
     BadHex,
     /// No field of the context has this name.
     NoContextField,
-    /// The field of the context can't have the value that is given.
+    /// The field of the context can't have the value that is given, or the default space not the
+    /// address.
     ValueOutOfRange,
+    /// A constructor has an action or a `globalset`, and none may have one.
+    HasActions,
+    /// The address is no multiple of the alignment.
+    Misaligned,
+    /// No bytes are shown as the text.
+    NoEncoding,
 }
 
 /// Appends the words of the form.
@@ -151,5 +158,8 @@ pub fn push_words(out: &mut Vec<u8>, problem: &Problem) -> Result<(), AllocError
         Problem::BadHex => out.extend_from_slice(b"bad hex"),
         Problem::NoContextField => out.extend_from_slice(b"no such context field"),
         Problem::ValueOutOfRange => out.extend_from_slice(b"value out of range"),
+        Problem::HasActions => out.extend_from_slice(b"has actions"),
+        Problem::Misaligned => out.extend_from_slice(b"misaligned"),
+        Problem::NoEncoding => out.extend_from_slice(b"no encoding"),
     }
 }

@@ -18,12 +18,16 @@ pub enum Subject {
     Line(Place),
     /// A context field that a word names.
     Field(Name),
+    /// The base.
+    Base,
+    /// The request as a whole.
+    Nothing,
 }
 
-/// What is refused: the place or the field, and the problem there.
+/// What is refused: its subject, and the problem there.
 #[derive(Debug, Drop)]
 pub struct Refusal {
-    /// The line of a file, or the field of the context.
+    /// The line of a file, the field of the context or another subject.
     pub subject: Subject,
     /// What is wrong with it.
     pub problem: Problem,
@@ -31,7 +35,8 @@ pub struct Refusal {
 
 impl Refusal {
     ghost use Rattle.std.specs.Prelude.{◌≡◌, IfOk};
-    ghost use Rattle.sl_tool_stages.specs.Problems.{refusal, refusal_of_field, refusal_text};
+    ghost use Rattle.sl_tool_stages.specs.Problems.{bare_refusal, refusal, refusal_of_base};
+    ghost use Rattle.sl_tool_stages.specs.Problems.{refusal_of_field, refusal_text};
 
     /// The refusal of a whole file, which is its line 0.
     pub fn of_file(alloc: Global, file: &str, problem: Problem) -> Result<Self, AllocError>
@@ -51,6 +56,26 @@ impl Refusal {
         Ok(Refusal { subject, problem })
     }
 
+    /// The refusal of the base.
+    pub fn of_base(problem: Problem) -> Self
+        ensures { result ≡ refusal_of_base problem }
+    {
+        Refusal {
+            subject: Subject::Base,
+            problem,
+        }
+    }
+
+    /// The refusal of a request as a whole.
+    pub fn bare(problem: Problem) -> Self
+        ensures { result ≡ bare_refusal problem }
+    {
+        Refusal {
+            subject: Subject::Nothing,
+            problem,
+        }
+    }
+
     /// The text that is printed of it, whole lines: the subject with the words of the problem, and
     /// for a conflict the lines of its report.
     pub fn text(&self, alloc: Global) -> Result<Vec<u8>, AllocError>
@@ -58,7 +83,6 @@ impl Refusal {
     {
         let mut out = Vec::new(alloc);
         push_subject(&mut out, &self.subject)?;
-        out.extend_from_slice(b": ")?;
         push_words(&mut out, &self.problem)?;
         out.extend_from_slice(b"\n")?;
         push_after(&mut out, &self.problem)?;
@@ -66,13 +90,21 @@ impl Refusal {
     }
 }
 
-/// Appends a line of a file, or the name of a context field.
+/// Appends what the refusal speaks of, with a colon behind it; nothing of a request as a whole.
 fn push_subject(out: &mut Vec<u8>, subject: &Subject) -> Result<(), AllocError>
     ensures { OnOk result (out.new.items ≡ out.old.items ++ subject_text subject.now) }
 {
     match subject {
-        Subject::Line(place) => push_place(out, place),
-        Subject::Field(name) => out.extend_from_slice(name.as_bytes()),
+        Subject::Line(place) => {
+            push_place(out, place)?;
+            out.extend_from_slice(b": ")
+        }
+        Subject::Field(name) => {
+            out.extend_from_slice(name.as_bytes())?;
+            out.extend_from_slice(b": ")
+        }
+        Subject::Base => out.extend_from_slice(b"base: "),
+        Subject::Nothing => Ok(()),
     }
 }
 

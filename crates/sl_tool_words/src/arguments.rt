@@ -48,5 +48,6 @@ pub fn arguments_of<'a>(
         steps: matches.get_str("steps"),
         is_hex: is_given(matches, "hex"),
         is_packed: is_given(matches, "packed"),
+        takes_actions: is_given(matches, "actions"),
     })
 }

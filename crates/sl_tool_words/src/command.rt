@@ -5,7 +5,8 @@ ghost use Rattle.clap.specs.Simple.{app_of, shape_of};
 ghost use Rattle.clap.specs.Walk.{rule_of};
 ghost use Rattle.clap.specs.declared.builder.command.Command.TheViews.{out-Command as fields_of};
 ghost use Rattle.sl_tool_words.specs.Layout.{app, leaf, long_rule, words_rule};
-ghost use Rattle.sl_tool_request.specs.Requests.{run_options, spec_options, target_options};
+ghost use Rattle.sl_tool_request.specs.Requests.{asm_options, run_options, spec_options};
+ghost use Rattle.sl_tool_request.specs.Requests.{target_options};
 
 use clap::{Arg, ArgAction, Command};
 use std::alloc::{AllocError, Global};
@@ -64,6 +65,17 @@ fn runner<'a>(alloc: Global, name: &'a str) -> Result<Command<'a>, AllocError>
     Ok(command)
 }
 
+/// The command that assembles an instruction.
+fn assembler<'a>(alloc: Global, name: &'a str) -> Result<Command<'a>, AllocError>
+    ensures shape { IfOk result (λ c. shape_of c ≡ leaf name.entry.now asm_options) }
+    ensures local { IfOk result (λ c. (fields_of c).has_globals ≡ false) }
+{
+    let command = over_spec(alloc, name)?
+        .arg(option(alloc, "base", ArgAction::Set))?
+        .arg(option(alloc, "actions", ArgAction::SetTrue))?;
+    Ok(command)
+}
+
 /// The whole command line.
 pub fn sleigh<'a>(alloc: Global) -> Result<Command<'a>, AllocError>
     ensures { IfOk result (λ c. app_of c ≡ app) }
@@ -77,6 +89,7 @@ pub fn sleigh<'a>(alloc: Global) -> Result<Command<'a>, AllocError>
         .subcommand(runner(alloc, "run")?)?
         .subcommand(bare(alloc, "gen")?)?
         .subcommand(over_spec(alloc, "gaps")?)?
-        .subcommand(bare(alloc, "pack")?)?;
+        .subcommand(bare(alloc, "pack")?)?
+        .subcommand(assembler(alloc, "asm")?)?;
     Ok(command)
 }

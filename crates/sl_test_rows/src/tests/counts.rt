@@ -15,6 +15,7 @@ define token t (8) op=(4,7) lo=(0,3);
 :div is op=2 { A = 5; B = A / C; A = 1; }
 :down is op=3 { A = 3; <again> A = A - 1; if (A) goto <again>; }
 :stay is op=4 { goto inst_start; }
+:halt is op=6 & lo=15 { goto inst_start; }
 ";
 
 /// The words, the image `i`, how the call ends, what it writes, and how many operations run: one for each operator, and
@@ -28,9 +29,9 @@ struct Row {
 }
 
 const USAGE: &str = "usage: sleigh check SPEC | list SPEC IMAGE | pcode SPEC IMAGE \
-    | run SPEC IMAGE | gen NUMBER | gaps SPEC | pack SPEC\n";
+    | run SPEC IMAGE | gen NUMBER | gaps SPEC | pack SPEC | asm SPEC TEXT\n";
 
-static ROWS: [Row; 11] = [
+static ROWS: [Row; 13] = [
     Row {
         words: &[],
         image: b"",
@@ -42,7 +43,7 @@ static ROWS: [Row; 11] = [
         words: &["sleigh", "check", "s"],
         image: b"",
         status: Status::Done,
-        text: "ok: 1 tables, 4 constructors\n",
+        text: "ok: 1 tables, 5 constructors\n",
         count: 0,
     },
     Row {
@@ -103,6 +104,20 @@ static ROWS: [Row; 11] = [
         image: b"",
         status: Status::Done,
         text: "instruction: gap 00000000000000000000000000000000 0000000000000000\nnot sure\n",
+        count: 0,
+    },
+    Row {
+        words: &["sleigh", "asm", "s", "halt", "--base", "0x12"],
+        image: b"",
+        status: Status::Done,
+        text: "0012: 6f halt\n",
+        count: 0,
+    },
+    Row {
+        words: &["sleigh", "asm", "s", "halted"],
+        image: b"",
+        status: Status::Refused,
+        text: "no encoding\n",
         count: 0,
     },
     // Two sums an instruction.

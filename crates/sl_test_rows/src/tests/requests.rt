@@ -4,7 +4,7 @@ use sl_tool_words::request_of;
 use std::test::Fail;
 
 /// What is printed of a request of each kind.
-static ASKED: [(&[&str], &str); 4] = [
+static ASKED: [(&[&str], &str); 5] = [
     (
         &["sleigh", "check", "--", "-s"],
         "Some(Check(Text(\"-s\")))",
@@ -16,6 +16,10 @@ static ASKED: [(&[&str], &str); 4] = [
     (
         &["sleigh", "run", "--steps", "0", "--base=0xAb", "s", "i"],
         "Some(Run(Target { spec: Text(\"s\"), image: \"i\", base: 171, is_hex: false, context: [] }, 0))",
+    ),
+    (
+        &["sleigh", "asm", "s", "add 0x5", "--actions"],
+        "Some(Asm(Assembly { spec: Text(\"s\"), text: \"add 0x5\", base: 0, context: [], takes_actions: true }))",
     ),
     (&["sleigh", "list", "s"], "None"),
 ];

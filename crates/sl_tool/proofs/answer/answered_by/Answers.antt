@@ -1,8 +1,9 @@
 use Rattle.std.proofs.Common.{ℕ, Some, refl, subst, sym}
 use Rattle.std.proofs.lemmas.Result.{err_from_is_err_and}
 use Rattle.sl_outside.specs.Uses.{UsesFiles}
-use Rattle.sl_tool_request.specs.Views.{target}
+use Rattle.sl_tool_request.specs.Views.{assembly, target}
 use Rattle.sl_tool.specs.Answers.{Follows, Shows, asked_after, counts_of, figures_of, gaps_of, packs_of, shows_of}
+use Rattle.sl_tool.specs.Assembled.{Assembles}
 use Rattle.sl_tool.specs.Ends.{RunsNothing}
 use Rattle.sl_tool.specs.Growth.{Grew}
 use Rattle.sl_tool.specs.Requests.{request, show_of}
@@ -12,7 +13,7 @@ use Rattle.sl_tool_stages.specs.Stage.{Then}
 use Rattle.sl_tool_stages.specs.Stage.Then.{stops, goes}
 use Rattle.sl_tool_stages.specs.Stages.{Compiles, Loads}
 use Rattle.sl_tool_stages.specs.StageViews.{compiled_view, tree_view}
-use Rattle.sl_tool.proofs.AnsweredLemmas.{follows, grew_none, idle, never_reads, show_unwritten, show_writes, stop_after, stop_sink, stop_writes, streams_alike, writes_map}
+use Rattle.sl_tool.proofs.AnsweredLemmas.{follows, grew_none, idle, never_reads, show_unwritten, show_writes, stop_after, stop_sink, stop_writes, streams_alike, writes_alike, writes_map}
 use Rattle.sl_tool_stages.proofs.HaltLemmas.{gives_obtains}
 use Rattle.sl_tool.proofs.answer.answered_by.Goals as goal
 
@@ -117,6 +118,31 @@ returns-in-Pack-clause-files g c =
 
 pub returns-in-Pack-clause-unwritten : goal.returns-in-Pack-clause-unwritten
 returns-in-Pack-clause-unwritten g c = show_unwritten (packs_of (compiled_view c.in_ok-compiled.compiled)) _ _ _ c.pack.result c.pack.ensures.streams
+
+-- ---- a text is assembled
+
+pub returns-in-Assemble-clause-writes : goal.returns-in-Assemble-clause-writes
+returns-in-Assemble-clause-writes g c =
+    let told = g.F.Files.told c.args.files.now in
+    let r = request c.args.request.now in
+    let n = g.R.Runner.count c.args.runner.now in
+    let v = compiled_view c.in_ok-compiled.compiled in
+    let S = Assembles (assembly c.in-Assemble.assembly) in
+    writes_map (S v) (Then Compiles (Follows told r) (tree_view c.args.tree)) _ _ (Grew n n) c.assemble.result
+    (λ x t. goes c.in_ok-compiled.ensures.gives (subst (λ (q : Request). Follows told (request q) v x) (sym c.in-Assemble.is) t))
+    (writes_alike (S v) _ _ n c.assemble.result (g.R.Runner.small c.args.runner.now) c.assemble.ensures.writes)
+
+pub returns-in-Assemble-clause-files : goal.returns-in-Assemble-clause-files
+returns-in-Assemble-clause-files g c =
+    let v = compiled_view c.in_ok-compiled.compiled in
+    let f = c.args.files.now in
+    follows g.F.Files.told g.F.Files.faults g.F.Files.asked (request c.args.request.now) _ _ (tree_view c.args.tree) v _ _ c.in_ok-compiled.ensures.gives
+    (subst (λ (q : Request). UsesFiles g.F.Files.told g.F.Files.faults g.F.Files.asked f f (asked_after (request q))
+    (IsEarly c.assemble.result) (FailsToRead c.assemble.result)) (sym c.in-Assemble.is)
+    (idle g.F.Files.told g.F.Files.faults g.F.Files.asked f _ _ c.assemble.ensures.unread))
+
+pub returns-in-Assemble-clause-unwritten : goal.returns-in-Assemble-clause-unwritten
+returns-in-Assemble-clause-unwritten g c = λ fails. absurd (c.assemble.ensures.unread fails)
 
 -- ---- an image is shown
 

@@ -7,4 +7,4 @@ use Rattle.sl_tool_words.proofs.arguments.arguments_of.Goals as goal
 pub returns : goal.returns
 returns c =
     arguments_made c.in_ok-words.ensures (c.get_str.ensures ∙ first_value-rows (found_of c.args.matches.now) (codes "base"))
-    (c.get_str-2.ensures ∙ first_value-rows (found_of c.args.matches.now) (codes "steps")) c.is_given.ensures c.is_given-2.ensures
+    (c.get_str-2.ensures ∙ first_value-rows (found_of c.args.matches.now) (codes "steps")) c.is_given.ensures c.is_given-2.ensures c.is_given-3.ensures

@@ -15,4 +15,5 @@ returns c =
     let with_run = c.in_ok-subcommand-4.ensures.shape c.in_ok-runner.ensures.local ∙ ap₂ with_subcommand with_pcode c.in_ok-runner.ensures.shape in
     let with_gen = c.in_ok-subcommand-5.ensures.shape c.in_ok-bare.ensures.local ∙ ap₂ with_subcommand with_run c.in_ok-bare.ensures.shape in
     let with_gaps = c.in_ok-subcommand-6.ensures.shape c.in_ok-over_spec-2.ensures.local ∙ ap₂ with_subcommand with_gen c.in_ok-over_spec-2.ensures.shape in
-    c.in_ok-command.ensures.shape c.in_ok-bare-2.ensures.local ∙ ap₂ with_subcommand with_gaps c.in_ok-bare-2.ensures.shape
+    let with_pack = c.in_ok-subcommand-7.ensures.shape c.in_ok-bare-2.ensures.local ∙ ap₂ with_subcommand with_gaps c.in_ok-bare-2.ensures.shape in
+    c.in_ok-command.ensures.shape c.in_ok-assembler.ensures.local ∙ ap₂ with_subcommand with_pack c.in_ok-assembler.ensures.shape

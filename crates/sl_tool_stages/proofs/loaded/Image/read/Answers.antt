@@ -1,15 +1,14 @@
-use Rattle.std.proofs.Common.{◌≡◌, ◌^◌, ℕ, List, length, Vec, Global, Ok, Err, subst, ◌∙◌, arith}
+use Rattle.std.proofs.Common.{◌≡◌, ◌^◌, ℕ, List, length, map, Vec, Global, Ok, Err, ap, subst, ◌∙◌, arith}
 use Rattle.std.proofs.lemmas.Result.{err_from_is_err_and}
 use Rattle.sl_decode_meaning.specs.Actions.{address_bytes}
-use Rattle.sl_list_instructions.specs.Listing.{image_from}
-use Rattle.sl_tool_request.specs.Views.{target}
+use Rattle.sl_tool_request.specs.Views.{field, target}
 use Rattle.sl_step_run.specs.Running.{HasRoom}
 use Rattle.sl_tool_stages.specs.Outcomes.{Gives}
 use Rattle.sl_tool_stages.specs.Stage.Then.{stops, goes}
-use Rattle.sl_tool_stages.specs.Stages.{Fetches, Prepares, Readies, Starts}
+use Rattle.sl_tool_stages.specs.Stages.{Fetches, Prepares, Readies}
 use Rattle.sl_tool_stages.specs.StageViews.{image_view}
 use Rattle.sl_tool_stages.proofs.HaltLemmas.{gives_obtains, reads_on}
-use Rattle.sl_tool_stages.proofs.ImageLemmas.{image_fits, obtains_err}
+use Rattle.sl_tool_stages.proofs.ImageLemmas.{Opening, context, image_fits, obtains_err, opening_starts}
 use Rattle.sl_tool_stages.proofs.loaded.Image.read.Goals as goal
 
 abbrev items : Vec ℕ Global → List ℕ
@@ -42,19 +41,16 @@ returns-in_err-start-clause-gives g c =
     let bytes = c.in_ok-bytes-2.bytes.items in
     let same : c.from-address_bytes.result ≡ address_bytes c.args.tables.now = c.from-address_bytes.ensures ∙ c.address_size.ensures in
     let prepared = subst (λ (n : ℕ). Prepares (256 ^ n) t c.in_ok-bytes.bytes.items (Ok bytes)) same c.in_ok-bytes-2.ensures.gives in
-    let S = Starts c.args.tables.now t bytes in
-    let view = λ (start : ℕ). image_from bytes c.args.target.now.base start in
-    rw (p.1, p.2) (obtains_err S (Readies told t c.args.tables.now) view image_view h (λ x s. goes (goes c.in_ok-bytes.ensures.gives prepared) s)
-    (gives_obtains S view h (c.in_err-start.ensures bytes)))
+    let words = c.as_slice.result.now in
+    rw (p.1, p.2) (obtains_err (Opening c.args.tables.now words) (Readies told t c.args.tables.now) context image_view h
+    (λ x s. goes (goes c.in_ok-bytes.ensures.gives prepared) (opening_starts c.args.tables.now words t bytes (Err x) (ap (map field) c.as_slice.ensures.value) s))
+    (gives_obtains (Opening c.args.tables.now words) context h c.in_err-start.ensures))
 
 pub returns-in_err-start-clause-files : goal.returns-in_err-start-clause-files
 returns-in_err-start-clause-files g c =
     let p = err_from_is_err_and c.from_residual-in_err-start.result c.from_residual-in_err-start.ensures.1 in
-    let t = target c.args.target.now in
-    let bytes = c.in_ok-bytes-2.bytes.items in
-    let view = λ (start : ℕ). image_from bytes c.args.target.now.base start in
-    rw (p.1, p.2) (reads_on g.F.Files.told g.F.Files.faults g.F.Files.asked _ _ _ (Starts c.args.tables.now t bytes) view c.in_err-start.field-0.0
-    (c.in_err-start.ensures bytes) c.in_ok-bytes.ensures.files)
+    rw (p.1, p.2) (reads_on g.F.Files.told g.F.Files.faults g.F.Files.asked _ _ _ (Opening c.args.tables.now c.as_slice.result.now) context c.in_err-start.field-0.0
+    c.in_err-start.ensures c.in_ok-bytes.ensures.files)
 
 pub returns-clause-gives : goal.returns-clause-gives
 returns-clause-gives g c =
@@ -62,7 +58,9 @@ returns-clause-gives g c =
     let bytes = c.in_ok-bytes-2.bytes.items in
     let same : c.from-address_bytes.result ≡ address_bytes c.args.tables.now = c.from-address_bytes.ensures ∙ c.address_size.ensures in
     let prepared = subst (λ (n : ℕ). Prepares (256 ^ n) t c.in_ok-bytes.bytes.items (Ok bytes)) same c.in_ok-bytes-2.ensures.gives in
-    goes (goes c.in_ok-bytes.ensures.gives prepared) (c.in_ok-start.ensures bytes)
+    let words = c.as_slice.result.now in
+    goes (goes c.in_ok-bytes.ensures.gives prepared)
+    (opening_starts c.args.tables.now words t bytes (Ok c.in_ok-start.start) (ap (map field) c.as_slice.ensures.value) c.in_ok-start.ensures)
 
 pub returns-clause-fits : goal.returns-clause-fits
 returns-clause-fits g c = image_fits c.from-address_bytes.result c.args.target.now.base c.in_ok-bytes-2.bytes.items (omega arith) c.in_ok-bytes-2.ensures.room

@@ -1,0 +1,64 @@
+//! `asm`: the bytes of an instruction, by its text.
+
+ghost use Rattle.sl_bind_compile.specs.Compiled.{IsCompiled};
+ghost use Rattle.sl_outside.specs.Uses.{UsesSink};
+ghost use Rattle.sl_tool.specs.Assembled.{Assembles, Finds};
+ghost use Rattle.sl_tool.specs.Endings.{shown};
+ghost use Rattle.sl_tool.specs.Streams.{RanNone, Writes};
+ghost use Rattle.sl_tool.specs.declared.status.Ending.TheVariants.{Done};
+ghost use Rattle.sl_tool_request.specs.Views.{assembly as assembly_view};
+ghost use Rattle.sl_tool_stages.specs.Outcomes.{FailsToRead, FailsToWrite, Gives};
+ghost use Rattle.sl_tool_stages.specs.StageViews.{compiled_view};
+
+use crate::status::Ending;
+use crate::writing::write_all;
+use sl_decode::address_size;
+use sl_list_instructions::{Disassembly, push_listed};
+use sl_outside::Sink;
+use sl_tool_request::Assembly;
+use sl_tool_stages::{Compiled, Halt, Problem, Refusal, begin};
+use std::alloc::Global;
+
+/// Writes the line of bytes that are shown as the text, or refuses it where there are none.
+pub fn assemble<K: Sink>(
+    alloc: Global,
+    assembly: &Assembly<'_>,
+    compiled: &Compiled<'_, '_>,
+    out: &mut K,
+) -> Result<Ending, Halt>
+    requires { IsCompiled compiled.now.specification }
+    ensures writes { Writes (Assembles (assembly_view assembly.now) (compiled_view compiled.now))
+        (K.taken out.old) (K.taken out.new) RanNone result }
+    ensures sink { UsesSink K.faults K.calls out.old out.new (FailsToWrite result) }
+    ensures unread { FailsToRead result → ⊥ }
+{
+    let context = begin(alloc, assembly, compiled)?;
+    let line = line_at(alloc, assembly, compiled, context)?;
+    write_all(out, line.as_slice())?;
+    Ok(Ending::Done)
+}
+
+/// The line of bytes that are shown as the text in this context.
+fn line_at(
+    alloc: Global,
+    assembly: &Assembly<'_>,
+    compiled: &Compiled<'_, '_>,
+    context: u64,
+) -> Result<Vec<u8>, Halt>
+    requires { IsCompiled compiled.now.specification }
+    ensures { Gives (Finds (assembly_view assembly.now) (compiled_view compiled.now) context)
+        (λ line. shown Done line.items 0) result }
+{
+    let specification = &compiled.specification;
+    let disassembly = Disassembly::new(alloc, specification)?;
+    let text = assembly.text.as_bytes();
+    let base = assembly.base;
+    let found = sl_asm::assemble(alloc, specification, &disassembly, text, base, context)?;
+    let Some(bytes) = found else {
+        return Err(Halt::Refused(Refusal::bare(Problem::NoEncoding)));
+    };
+    let size = address_size(&specification.bound.tables);
+    let mut line = Vec::new(alloc);
+    push_listed(&mut line, size, base, bytes.as_slice(), text)?;
+    Ok(line)
+}
