@@ -1,6 +1,11 @@
 //! `asm`: the bytes of an instruction, by its text.
 
+ghost use Rattle.std.specs.Prelude.{IfOk, MatchOption};
+ghost use Rattle.sl_asm.specs.Wanted.{HasNoEncoding};
+ghost use Rattle.sl_asm_encodings.specs.Encodings.{Encodes};
+ghost use Rattle.sl_ast.specs.Views.{items_of};
 ghost use Rattle.sl_bind_compile.specs.Compiled.{IsCompiled};
+ghost use Rattle.sl_bind_compile.specs.Outcomes.{all_constructors};
 ghost use Rattle.sl_outside.specs.Uses.{UsesSink};
 ghost use Rattle.sl_tool.specs.Assembled.{Assembles, Finds};
 ghost use Rattle.sl_tool.specs.Endings.{shown};
@@ -12,12 +17,13 @@ ghost use Rattle.sl_tool_stages.specs.StageViews.{compiled_view};
 
 use crate::status::Ending;
 use crate::writing::write_all;
+use sl_bind_compile::Compiled as Specification;
 use sl_decode::address_size;
 use sl_list_instructions::{Disassembly, push_listed};
 use sl_outside::Sink;
 use sl_tool_request::Assembly;
 use sl_tool_stages::{Compiled, Halt, Problem, Refusal, begin};
-use std::alloc::Global;
+use std::alloc::{AllocError, Global};
 
 /// Writes the line of bytes that are shown as the text, or refuses it where there are none.
 pub fn assemble<K: Sink>(
@@ -38,6 +44,28 @@ pub fn assemble<K: Sink>(
     Ok(Ending::Done)
 }
 
+/// Bytes that are shown as the text at the address in this context, or `None` exactly where there are
+/// none. The only error is want of memory.
+fn encoding(
+    alloc: Global,
+    specification: &Specification<'_>,
+    text: &[u8],
+    address: u64,
+    context: u64,
+) -> Result<Option<Vec<u8>>, AllocError>
+    requires { IsCompiled specification.now }
+    ensures { IfOk result (λ found. MatchOption found
+        (HasNoEncoding specification.now.bound.tables
+        (all_constructors (items_of specification.now.bound.spec)) address context text.now)
+        (λ bytes. Encodes specification.now.bound.tables
+        (all_constructors (items_of specification.now.bound.spec)) address context text.now
+        bytes.items)) }
+{
+    let disassembly = Disassembly::new(alloc, specification)?;
+    let found = sl_asm::assemble(alloc, specification, &disassembly, text, address, context)?;
+    Ok(found)
+}
+
 /// The line of bytes that are shown as the text in this context.
 fn line_at(
     alloc: Global,
@@ -50,10 +78,9 @@ fn line_at(
         (λ line. shown Done line.items 0) result }
 {
     let specification = &compiled.specification;
-    let disassembly = Disassembly::new(alloc, specification)?;
     let text = assembly.text.as_bytes();
     let base = assembly.base;
-    let found = sl_asm::assemble(alloc, specification, &disassembly, text, base, context)?;
+    let found = encoding(alloc, specification, text, base, context)?;
     let Some(bytes) = found else {
         return Err(Halt::Refused(Refusal::bare(Problem::NoEncoding)));
     };
