@@ -3,7 +3,8 @@
 # The options of a command.
 _sleigh_options() {
     case "$1" in
-    check | gaps) echo "--packed" ;;
+    check) echo "--packed --explain" ;;
+    gaps) echo "--packed" ;;
     list | pcode) echo "--packed --base --hex" ;;
     run) echo "--packed --base --hex --steps" ;;
     asm) echo "--packed --base --actions" ;;

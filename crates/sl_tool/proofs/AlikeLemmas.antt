@@ -172,7 +172,7 @@ module _ (folder : Folder) (main name bytes : List ℕ) (c : Compiled) (sound : 
       (assembles_same (Stored form.files form.places) c.tree.origin c.tree.items c.tables a (PackedFile name) (TextFile main) (λ e. absurd (true≢false (sym is ∙ e)))) x h
 
   forth : (r : Request) (x : Result Shown Refusal) → Answers (Some folder) (over (TextFile main) r) x → Answers (Some folder) (over (PackedFile name) r) x
-  forth (CheckSpec spec) x h =
+  forth (CheckSpec spec explains) x h =
       alike_then (Specifies (Some folder)) (Shows counts_of) (Shows counts_of) _ _ c opened_spec (specifies_one folder) sound opens
       (counts_same c.tree.origin stored c.tree.items c.tables) x h
   forth (ShowImage t what) x h =
@@ -186,7 +186,7 @@ module _ (folder : Folder) (main name bytes : List ℕ) (c : Compiled) (sound : 
   forth (AssembleText a) x h = assembled_forth a a.takes_actions refl x h
 
   back : (r : Request) (x : Result Shown Refusal) → Answers (Some folder) (over (PackedFile name) r) x → Answers (Some folder) (over (TextFile main) r) x
-  back (CheckSpec spec) x h =
+  back (CheckSpec spec explains) x h =
       alike_then (Specifies (Some folder)) (Shows counts_of) (Shows counts_of) _ _ opened_spec c (specifies_one folder) opens sound
       (counts_same stored c.tree.origin c.tree.items c.tables) x h
   back (ShowImage t what) x h =

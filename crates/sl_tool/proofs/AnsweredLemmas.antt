@@ -8,7 +8,7 @@ use Rattle.sl_outside.specs.Folder.{Folder}
 use Rattle.sl_outside.specs.Uses.{Names, Asks, AsksFront, UsesFiles, UsesSink}
 use Rattle.sl_base_surely.specs.Surely.{Surely}
 use Rattle.sl_base_surely.proofs.SurelyLemmas.{surely, surely_map}
-use Rattle.sl_tool.specs.Answers.{AnswersFrom, AsksForFile, AsksFrom, Due, Follows, Shows, UsesFilesFor, asked_after, ran_of}
+use Rattle.sl_tool.specs.Answers.{AnswersFrom, AsksForFile, AsksFrom, Due, Follows, Shows, UsesFilesFor, asked_after}
 use Rattle.sl_tool.specs.Answers.AsksFrom.{sound, unsound}
 use Rattle.sl_tool.specs.Asking.{AsksAfter}
 use Rattle.sl_tool.specs.Asking.AsksAfter.{asks_none, asks_rest}
@@ -42,7 +42,7 @@ stop_writes S view R a G WriteFault f n g = absurd g
 stop_writes S view R a G NoMemory f n g = inl (Appends-nil a)
 
 front_map : (S R : Result Shown Refusal → Type 0) (a b : Option (List ℕ)) (G : ℕ → Type 0) → ((r : Result Shown Refusal) → S r → R r) → WritesFront S a b G → WritesFront R a b G
-front_map S R a b G f w = (w.0, w.1, f w.0 w.2, w.3, w.4)
+front_map S R a b G f w = (w.0, w.1, f (Ok w.0) w.2, w.3, w.4)
 
 -- what was written of one stage was written of a row of stages that comes to the same
 pub writes_map : (S R : Result Shown Refusal → Type 0) (a b : Option (List ℕ)) (G : ℕ → Type 0) (x : Result Ending Halt)
@@ -60,9 +60,9 @@ pub show_writes : {A : Type 0} (due : A → Due) (l : A) (a b : Option (List ℕ
 show_writes due l a b G (Ok e) g = g
 show_writes due l a b G (Err (Refused x)) g = absurd g
 show_writes due l a b G (Err ReadFault) g = absurd g
-show_writes due l a b G (Err WriteFault) g = (Ok g.0, g.1, g.2, g.3, g.4)
+show_writes due l a b G (Err WriteFault) g = g
 show_writes due l a b G (Err NoMemory) (inl w) = inl w
-show_writes due l a b G (Err NoMemory) (inr g) = inr (Ok g.0, g.1, g.2, g.3, g.4)
+show_writes due l a b G (Err NoMemory) (inr g) = inr g
 
 -- what is written without a runner leaves the count of each as it was
 pub streams_alike : (due : Due) (a b : Option (List ℕ)) (c : ℕ) (x : Result Ending Halt) → c < 2 ^ 64 → Streams due a b RanNone x → Streams due a b (Grew c c) x
@@ -78,9 +78,9 @@ pub writes_alike : (S : Result Shown Refusal → Type 0) (a b : Option (List ℕ
 writes_alike S a b c (Ok e) small g = (g.0, g.1, g.2, g.3, grew_none c g.1 small g.4)
 writes_alike S a b c (Err (Refused x)) small g = (g.0, g.1, grew_none c 0 small g.2)
 writes_alike S a b c (Err ReadFault) small g = (g.0, grew_none c 0 small g.1)
-writes_alike S a b c (Err WriteFault) small g = (g.0, g.1, g.2, g.3, grew_none c (ran_of g.0) small g.4)
+writes_alike S a b c (Err WriteFault) small g = (g.0, g.1, g.2, g.3, grew_none c g.0.ran small g.4)
 writes_alike S a b c (Err NoMemory) small (inl w) = inl w
-writes_alike S a b c (Err NoMemory) small (inr g) = inr (g.0, g.1, g.2, g.3, grew_none c (ran_of g.0) small g.4)
+writes_alike S a b c (Err NoMemory) small (inr g) = inr (g.0, g.1, g.2, g.3, grew_none c g.0.ran small g.4)
 
 -- a stage that stops doesn't use the sink
 pub stop_sink : {T B K : Type 0} (S : Result B Refusal → Type 0) (view : T → B) (faults calls : K → ℕ) (out : K) (h : Halt) → Obtains S view (Err h)

@@ -31,7 +31,7 @@ refuses_none S T a b one h none e (stops k) = not_both e b (one a _ _ k h)
 refuses_none {E = E} {B = B} S T a b one h none e (goes {b = c} k t) = none e (subst (λ (x : B). T x (Err e)) (ok_is E c b (one a _ _ k h)) t)
 
 no_refusal : (told : Option Folder) (r : Request) → IsTold told r → Accepts told r → (x : Refusal) → Answers told r (Err x) → ⊥
-no_refusal told (CheckSpec spec) is (c, h) x = refuses_none (Specifies told) (Shows counts_of) spec c (specifies_told told is) h (λ e k. k) x
+no_refusal told (CheckSpec spec explains) is (c, h) x = refuses_none (Specifies told) (Shows counts_of) spec c (specifies_told told is) h (λ e k. k) x
 no_refusal told (ShowImage t what) is (l, goes {b = c} h i) x =
     refuses_none (Specifies told) (Then (Loads told t) (Shows (shows_of what))) t.spec c (specifies_told told is) h
     (refuses_none (Loads told t) (Shows (shows_of what)) c l (loads_told told t is) i (λ e k. k)) x
@@ -44,7 +44,7 @@ no_refusal told (AssembleText a) is e x =
     (refuses_none (Begins a) (Finds a e.compiled) e.compiled e.context (begins_one a) e.begins (λ y none. none.0 e.bytes e.encodes)) x
 
 endings : (told : Option Folder) (r : Request) (s : Shown) → Answers told r (Ok s) → MayEnd r s.ending
-endings told (CheckSpec spec) s (goes h k) = k.ending
+endings told (CheckSpec spec explains) s (goes h k) = k.ending
 endings told (ShowImage t Listing) s (goes h (goes i k)) = k.ending
 endings told (ShowImage t Operations) s (goes h (goes i k)) = k.ending
 endings told (ShowImage t (Run steps)) s (goes h (goes i k)) = tt

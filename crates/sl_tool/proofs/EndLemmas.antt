@@ -9,7 +9,7 @@ use Rattle.sl_preproc.specs.Expanded.{asked_by}
 use Rattle.sl_preproc.proofs.MainLemmas.{asked_first}
 use Rattle.sl_base_surely.specs.Surely.{Surely}
 use Rattle.sl_base_surely.proofs.SurelyLemmas.{surely}
-use Rattle.sl_tool.specs.Answers.{Answers, AsksFor, AsksForFile, UsesFilesFor, ran_of, text_of, status_of}
+use Rattle.sl_tool.specs.Answers.{Answers, AsksFor, AsksForFile, UsesFilesFor}
 use Rattle.sl_tool.specs.Endings.{Shown, ended}
 use Rattle.sl_tool.specs.Ends.{Means, WritesWhole, WritesFirst, Ends, RunsFor}
 use Rattle.sl_tool.specs.Ends.Means.{answer}
@@ -70,7 +70,7 @@ pub ends_ended : (told : Option Folder) (r : Request) (a b : Option (List ℕ)) 
 ends_ended told r a b G e w = ends_whole told (Some r) a b G (ended e) (ended_whole e) (w.0, w.1, answer w.2, w.3, w.4)
 
 first_of_front : (told : Option Folder) (r : Request) (a b : Option (List ℕ)) (G : ℕ → Type 0) → WritesFront (Answers told r) a b G → WritesFirst told (Some r) a b G
-first_of_front told r a b G w = (status_of w.0, text_of w.0, ran_of w.0, w.1, answer w.2, w.3, w.4)
+first_of_front told r a b G w = (ended w.0.ending, w.0.text, w.0.ran, w.1, answer w.2, w.3, w.4)
 
 -- what was written where the halt is this one
 pub writes_at : (S : Result Shown Refusal → Type 0) (a b : Option (List ℕ)) (G : ℕ → Type 0) (h k : Halt) → h ≡ k → Writes S a b G (Err h) → Writes S a b G (Err k)
@@ -123,9 +123,9 @@ some_names told (PackedFile name) = (name ∷ [], refl)
 
 -- nothing was asked for, which is the front of what is due
 none_due : (told : Option Folder) (r : Request) (a : Names) → Surely ((due : List (List ℕ)) × AsksFor told r due × AsksFront a a due)
-none_due told (CheckSpec spec) a =
+none_due told (CheckSpec spec explains) a =
     let names = some_names told spec in
-    front_due told (CheckSpec spec) names.0 a a names.1 (0, Asks-nil a)
+    front_due told (CheckSpec spec explains) names.0 a a names.1 (0, Asks-nil a)
 none_due told (ShowImage t what) a =
     let names = some_names told t.spec in
     front_due told (ShowImage t what) names.0 a a names.1 (0, Asks-nil a)

@@ -31,7 +31,7 @@ tells_one Is one s u h g = (h.ending ∙ sym g.ending, one s.text u.text h.text 
 
 follows_one : (told : Option Folder) (r : Request) → IsTold told r → HasOneText r → (c : Compiled) (x y : Result Shown Refusal)
     → Follows told r c x → Follows told r c y → AreAlike x y
-follows_one told (CheckSpec spec) is plain c x y h g =
+follows_one told (CheckSpec spec explains) is plain c x y h g =
     shows_one counts_of c (tells_one _ (λ text other e f. e ∙ sym f)) x y h g
 follows_one told (ShowImage t Listing) is plain c x y h g =
     then_alike _ _ AreAlike (loads_told told t is) (λ e. refl) (λ l.
@@ -46,8 +46,8 @@ follows_one told (PackSpec name) is plain c x y h g =
 follows_one told (AssembleText a) is plain c x y h g = absurd plain
 
 pub answer_one : HasOneAnswer
-answer_one told (CheckSpec spec) x y is plain h g =
-    then_alike _ _ AreAlike (specifies_told told is) (λ e. refl) (follows_one told (CheckSpec spec) is plain) spec x y h g
+answer_one told (CheckSpec spec explains) x y is plain h g =
+    then_alike _ _ AreAlike (specifies_told told is) (λ e. refl) (follows_one told (CheckSpec spec explains) is plain) spec x y h g
 answer_one told (ShowImage t what) x y is plain h g =
     then_alike _ _ AreAlike (specifies_told told is) (λ e. refl) (follows_one told (ShowImage t what) is plain) t.spec x y h g
 answer_one told (ReportGaps spec) x y is plain h g =

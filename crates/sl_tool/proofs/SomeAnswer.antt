@@ -111,7 +111,7 @@ module _ (l : Loaded) (is : IsSpecified l.compiled) (known : IsAccepted l.compil
 -- ---- of a request
 
 pub answer_some : (told : Option Folder) (r : Request) → MayPack told r → Surely ((x : Result Shown Refusal) × Answers told r x)
-answer_some told (CheckSpec spec) has = then_some _ _ spec (specifies_some told spec) (λ c h. counts_some c)
+answer_some told (CheckSpec spec explains) has = then_some _ _ spec (specifies_some told spec) (λ c h. counts_some c)
 answer_some told (ShowImage t what) has =
     then_some _ _ t.spec (specifies_some told t.spec) (λ c h.
     then_some _ _ c (loads_some told t c) (λ l i.

@@ -1,6 +1,6 @@
 -- meaning: the answer to a request, and the files that it asks for.
 use Rattle.std.specs.Prelude.{◌≡◌, ℕ, ◌≤◌, List, [], ◌∷◌, ◌++◌, codes, length}
-use Rattle.std.specs.Prelude.{Option, None, Some, Result, Ok, Err, if◌then◌else◌}
+use Rattle.std.specs.Prelude.{Bool, Option, None, Some, Result, Ok, Err, if◌then◌else◌}
 use Rattle.std.specs.Str.{bytes_eq}
 use Rattle.sl_bind_compile.specs.Outcomes.{all_constructors}
 use Rattle.sl_tool_generator.specs.Specification.{specification}
@@ -14,7 +14,7 @@ use Rattle.sl_tool.specs.Endings.{Shown, ShowsText, ended}
 use Rattle.sl_tool.specs.GapText.{IsGapText}
 use Rattle.sl_tool.specs.Generated.{AreFigures}
 use Rattle.sl_tool.specs.Counts.{count_line}
-use Rattle.sl_tool.specs.Request.{Request, CheckSpec, ShowImage, ReportGaps, Generate, PackSpec, AssembleText, spec_of}
+use Rattle.sl_tool.specs.Request.{Request, CheckSpec, ShowImage, ReportGaps, Generate, PackSpec, AssembleText, is_explained, spec_of}
 use Rattle.sl_tool.specs.Request.{Show, Listing, Operations, Run}
 use Rattle.sl_tool.specs.Shows.{IsOperations, ShowsRun}
 use Rattle.sl_tool.specs.declared.status.Status.{Status}
@@ -22,7 +22,7 @@ use Rattle.sl_tool.specs.declared.status.Status.TheVariants.{Refused}
 use Rattle.sl_tool_request.specs.Requests.{PackedFile, SpecFile, TextFile}
 use Rattle.sl_store_write.specs.Packs.{IsFileOf}
 use Rattle.sl_tool_stages.specs.Packing.{packed_form_of}
-use Rattle.sl_tool_stages.specs.Problems.{refusal_text}
+use Rattle.sl_tool_stages.specs.Problems.{explained_text, refusal_text}
 use Rattle.sl_tool_stages.specs.Stage.{Stage, Then}
 use Rattle.sl_tool_stages.specs.Stages.{Loads, Specifies}
 use Rattle.sl_tool_stages.specs.Values.{Compiled, Loaded}
@@ -69,7 +69,7 @@ Shows due a (Err x) = ⊥
 -- What becomes of a sound specification, a line for each kind of request: what is shown, or a
 -- refusal.
 abbrev pub Follows : Option Folder → Request → Stage Refusal Compiled Shown
-Follows told (CheckSpec spec) = Shows counts_of
+Follows told (CheckSpec spec explains) = Shows counts_of
 Follows told (ShowImage t what) = Then (Loads told t) (Shows (shows_of what))
 Follows told (ReportGaps spec) = Shows gaps_of
 Follows told (Generate size) = Shows (figures_of size)
@@ -82,7 +82,7 @@ generated name = if bytes_eq (codes "gen") name then Some specification else Non
 
 -- the files of a request: those outside, or the generated one
 abbrev pub folder_for : Option Folder → Request → Option Folder
-folder_for told (CheckSpec spec) = told
+folder_for told (CheckSpec spec explains) = told
 folder_for told (ShowImage t what) = told
 folder_for told (ReportGaps spec) = told
 folder_for told (Generate size) = Some generated
@@ -97,9 +97,13 @@ AnswersFrom told r = Then (Specifies told) (Follows told r) (spec_of r)
 abbrev pub Answers : Option Folder → Request → Result Shown Refusal → Type 0
 Answers told r = AnswersFrom (folder_for told r) r
 
-abbrev pub text_of : Result Shown Refusal → List ℕ
-text_of (Ok s) = s.text
-text_of (Err x) = refusal_text x
+-- the text of a refusal, with what more is said of it or without
+abbrev pub told_of : (explains : Bool) → Refusal → List ℕ
+told_of explains x = if explains then explained_text x else refusal_text x
+
+abbrev pub text_of : Request → Result Shown Refusal → List ℕ
+text_of r (Ok s) = s.text
+text_of r (Err x) = told_of (is_explained r) x
 
 abbrev pub status_of : Result Shown Refusal → Status
 status_of (Ok s) = ended s.ending
@@ -114,7 +118,7 @@ ran_of (Err x) = 0
 
 -- The names that a request asks for once the specification is there: that of the image.
 abbrev pub asked_after : Request → List (List ℕ)
-asked_after (CheckSpec spec) = []
+asked_after (CheckSpec spec explains) = []
 asked_after (ShowImage t what) = t.image ∷ []
 asked_after (ReportGaps spec) = []
 asked_after (Generate size) = []
@@ -137,7 +141,7 @@ pub data AsksFrom (told : Option Folder) (r : Request) : List (List ℕ) → Typ
 
 -- The names that a request asks for. What is generated isn't asked for.
 abbrev pub AsksFor : Option Folder → Request → List (List ℕ) → Type 0
-AsksFor told (CheckSpec spec) = AsksFrom told (CheckSpec spec)
+AsksFor told (CheckSpec spec explains) = AsksFrom told (CheckSpec spec explains)
 AsksFor told (ShowImage t what) = AsksFrom told (ShowImage t what)
 AsksFor told (ReportGaps spec) = AsksFrom told (ReportGaps spec)
 AsksFor told (Generate size) = λ names. names ≡ []

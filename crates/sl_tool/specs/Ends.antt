@@ -17,7 +17,7 @@ use Rattle.sl_tool_stages.specs.declared.refusal.Refusal.{Refusal}
 pub data Means (told : Option Folder) : Option Request → Status → List ℕ → (ran : ℕ) → Type 0 where
   usage : Means told None Usage usage_line 0
   answer : {r : Request} {x : Result Shown Refusal} → Answers told r x
-      → Means told (Some r) (status_of x) (text_of x) (ran_of x)
+      → Means told (Some r) (status_of x) (text_of r x) (ran_of x)
 
 -- The whole text that is due with this status was written, and the count grew as it says.
 abbrev pub WritesWhole : Option Folder → Option Request → Option (List ℕ) → Option (List ℕ)
@@ -35,7 +35,7 @@ WritesFirst told r old new Grown =
 -- It asks for files of the caller, as what is generated doesn't.
 abbrev pub ReadsFiles : Option Request → Type 0
 ReadsFiles None = ⊥
-ReadsFiles (Some (CheckSpec spec)) = ⊤
+ReadsFiles (Some (CheckSpec spec explains)) = ⊤
 ReadsFiles (Some (ShowImage t what)) = ⊤
 ReadsFiles (Some (ReportGaps spec)) = ⊤
 ReadsFiles (Some (Generate size)) = ⊥
@@ -51,7 +51,7 @@ IsStill (Run steps) = ⊥
 -- Nothing is run.
 abbrev pub RunsNothing : Option Request → Type 0
 RunsNothing None = ⊤
-RunsNothing (Some (CheckSpec spec)) = ⊤
+RunsNothing (Some (CheckSpec spec explains)) = ⊤
 RunsNothing (Some (ShowImage t what)) = IsStill what
 RunsNothing (Some (ReportGaps spec)) = ⊤
 RunsNothing (Some (Generate size)) = ⊥

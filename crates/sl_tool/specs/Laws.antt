@@ -36,7 +36,7 @@ AreAlike _ _ = ⊥
 
 -- Any list of operations that does what an instruction does may be printed, and any encoding of a text.
 abbrev pub HasOneText : Request → Type 0
-HasOneText (CheckSpec spec) = ⊤
+HasOneText (CheckSpec spec explains) = ⊤
 HasOneText (ShowImage t Listing) = ⊤
 HasOneText (ShowImage t Operations) = ⊥
 HasOneText (ShowImage t (Run steps)) = ⊤
@@ -47,7 +47,7 @@ HasOneText (AssembleText a) = ⊥
 
 -- The folder is told, or what is asked for needs none.
 abbrev pub IsTold : Option Folder → Request → Type 0
-IsTold told (CheckSpec spec) = IsSome told
+IsTold told (CheckSpec spec explains) = IsSome told
 IsTold told (ShowImage t what) = IsSome told
 IsTold told (ReportGaps spec) = IsSome told
 IsTold told (Generate size) = ⊤
@@ -83,7 +83,7 @@ pub record HasEncoding (told : Option Folder) (a : Assembly) : Type 0 where
 -- What a request names is accepted: the specification is sound, where an image is shown, there is one beside it, and where a text
 -- is assembled, it has an encoding.
 abbrev pub Accepts : Option Folder → Request → Type 0
-Accepts told (CheckSpec spec) = (c : Compiled) × Specifies told spec (Ok c)
+Accepts told (CheckSpec spec explains) = (c : Compiled) × Specifies told spec (Ok c)
 Accepts told (ShowImage t what) = (l : Loaded) × Then (Specifies told) (Loads told t) t.spec (Ok l)
 Accepts told (ReportGaps spec) = (c : Compiled) × Specifies told spec (Ok c)
 Accepts told (Generate size) = (c : Compiled) × Specifies (Some generated) (spec_of (Generate size)) (Ok c)
@@ -97,7 +97,7 @@ pub record IsAccepted (told : Option Folder) (r : Request) : Type 0 where
 
 -- how a request may end that isn't refused: but for a run, which may stop, as done
 abbrev pub MayEnd : Request → Ending → Type 0
-MayEnd (CheckSpec spec) ending = ending ≡ Done
+MayEnd (CheckSpec spec explains) ending = ending ≡ Done
 MayEnd (ShowImage t Listing) ending = ending ≡ Done
 MayEnd (ShowImage t Operations) ending = ending ≡ Done
 MayEnd (ShowImage t (Run steps)) ending = ⊤
@@ -120,7 +120,7 @@ AcceptedAreAnswered = (told : Option Folder) (r : Request) → IsAccepted told r
 -- the request over this file of a specification; `gen` and `pack` are over none that could be packed, and the law leaves
 -- what is assembled as it is where constructors with actions are refused
 abbrev pub over : SpecFile → Request → Request
-over file (CheckSpec spec) = CheckSpec file
+over file (CheckSpec spec explains) = CheckSpec file explains
 over file (ShowImage t what) = ShowImage (record t { spec = file }) what
 over file (ReportGaps spec) = ReportGaps file
 over file (Generate size) = Generate size

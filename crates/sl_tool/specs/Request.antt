@@ -1,5 +1,5 @@
 -- meaning: the requests, and the usage line.
-use Rattle.std.specs.Prelude.{ℕ, List, Option, codes, option_map}
+use Rattle.std.specs.Prelude.{ℕ, Bool, false, List, Option, codes, option_map}
 use Rattle.sl_tool_request.specs.Requests.{Asked, Assembles, Assembly, Checks, Lists, Prints, Runs, Generates, Reports, Packs, Target, asked_of}
 use Rattle.sl_tool_request.specs.Requests.{SpecFile, TextFile}
 
@@ -10,11 +10,11 @@ pub data Show : Type 0 where
   Operations : Show
   Run : (steps : ℕ) → Show
 
--- A specification, by its file, is checked; an image is shown by it; what it leaves unmatched is
--- reported; one is generated, and listed and run for so many instructions; the text with this main
--- file is packed; or an instruction is assembled.
+-- A specification, by its file, is checked, and where it is refused that is explained or not; an
+-- image is shown by it; what it leaves unmatched is reported; one is generated, and listed and run
+-- for so many instructions; the text with this main file is packed; or an instruction is assembled.
 pub data Request : Type 0 where
-  CheckSpec : SpecFile → Request
+  CheckSpec : SpecFile → (explains : Bool) → Request
   ShowImage : Target → Show → Request
   ReportGaps : SpecFile → Request
   Generate : (size : ℕ) → Request
@@ -23,15 +23,24 @@ pub data Request : Type 0 where
 
 -- the file of the specification
 abbrev pub spec_of : Request → SpecFile
-spec_of (CheckSpec spec) = spec
+spec_of (CheckSpec spec explains) = spec
 spec_of (ShowImage t what) = t.spec
 spec_of (ReportGaps spec) = spec
 spec_of (Generate size) = TextFile (codes "gen")
 spec_of (PackSpec name) = TextFile name
 spec_of (AssembleText a) = a.spec
 
+-- A refusal is explained.
+abbrev pub is_explained : Request → Bool
+is_explained (CheckSpec spec explains) = explains
+is_explained (ShowImage t what) = false
+is_explained (ReportGaps spec) = false
+is_explained (Generate size) = false
+is_explained (PackSpec name) = false
+is_explained (AssembleText a) = false
+
 abbrev pub request_for : Asked → Request
-request_for (Checks spec) = CheckSpec spec
+request_for (Checks spec explains) = CheckSpec spec explains
 request_for (Lists t) = ShowImage t Listing
 request_for (Prints t) = ShowImage t Operations
 request_for (Runs t steps) = ShowImage t (Run steps)

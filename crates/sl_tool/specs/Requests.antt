@@ -12,7 +12,7 @@ show_of Operations = spec.Operations
 show_of (Run steps) = spec.Run steps
 
 abbrev pub request : Request → spec.Request
-request (Check file) = spec.CheckSpec (spec_file file)
+request (Check file explains) = spec.CheckSpec (spec_file file) explains
 request (ShowImage t what) = spec.ShowImage (target t) (show_of what)
 request (Gaps file) = spec.ReportGaps (spec_file file)
 request (Generate size) = spec.Generate size

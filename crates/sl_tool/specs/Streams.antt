@@ -1,7 +1,7 @@
 -- step: what was written of what is due, and how many operations ran.
 use Rattle.std.specs.Prelude.{◌≡◌, ℕ, ◌⊎◌, List, [], take, Option, Result, Ok, Err}
 use Rattle.std.specs.Io.KnownBytes.{Appends}
-use Rattle.sl_tool.specs.Answers.{Due, ran_of, text_of}
+use Rattle.sl_tool.specs.Answers.{Due}
 use Rattle.sl_tool.specs.Endings.{Shown, shown}
 use Rattle.sl_tool.specs.declared.status.Ending.{Ending}
 use Rattle.sl_tool_stages.specs.declared.halt.Halt.{Halt}
@@ -29,11 +29,11 @@ Streams due old new Grown (Err ReadFault) = ⊥
 Streams due old new Grown (Err WriteFault) = StreamsFront due old new Grown
 Streams due old new Grown (Err NoMemory) = Appends old new [] ⊎ StreamsFront due old new Grown
 
--- The first bytes of the text of some result were written, and the count grew as it says.
+-- The first bytes of a text that is shown were written, and the count grew as it says.
 abbrev pub WritesFront : (Result Shown Refusal → Type 0) → Option (List ℕ) → Option (List ℕ)
     → (Grown : ℕ → Type 0) → Type 0
-WritesFront S old new Grown = (r : Result Shown Refusal) × (count : ℕ) × S r
-    × Appends old new (take count (text_of r)) × Grown (ran_of r)
+WritesFront S old new Grown = (s : Shown) × (count : ℕ) × S (Ok s)
+    × Appends old new (take count s.text) × Grown s.ran
 
 -- What was written of a result of the stage: the whole text at an ending; nothing at a refusal and
 -- where a file could not be read, where no operation ran; and otherwise the first bytes. The count

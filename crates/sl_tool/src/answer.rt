@@ -54,7 +54,7 @@ pub fn answered<F: Files, K: Sink, R: Runner>(
 {
     match request {
         Request::Generate(size) => generated(alloc, *size, out, runner),
-        Request::Check(_) => answered_from(alloc, request, files, out, runner),
+        Request::Check(_, _) => answered_from(alloc, request, files, out, runner),
         Request::Show(_, _) => answered_from(alloc, request, files, out, runner),
         Request::Gaps(_) => answered_from(alloc, request, files, out, runner),
         Request::Pack(_) => answered_from(alloc, request, files, out, runner),
@@ -162,7 +162,7 @@ fn answered_by<F: Files, K: Sink, R: Runner>(
 {
     let compiled = Compiled::read(alloc, tree)?;
     match request {
-        Request::Check(_) => check(alloc, &compiled, out),
+        Request::Check(_, _) => check(alloc, &compiled, out),
         Request::Show(target, what) => { show(alloc, target, *what, compiled, files, out, runner) }
         Request::Gaps(_) => report(alloc, &compiled, out),
         Request::Pack(_) => pack(alloc, &compiled, out),

@@ -82,7 +82,7 @@ fn line_at(
     let base = assembly.base;
     let found = encoding(alloc, specification, text, base, context)?;
     let Some(bytes) = found else {
-        return Err(Halt::Refused(Refusal::bare(Problem::NoEncoding)));
+        return Err(Halt::Refused(Refusal::bare(alloc, Problem::NoEncoding)));
     };
     let size = address_size(&specification.bound.tables);
     let mut line = Vec::new(alloc);

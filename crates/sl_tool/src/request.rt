@@ -2,7 +2,7 @@
 
 ghost use Rattle.std.specs.Prelude.{◌≡◌, IfOk, map, option_map, string_bytes};
 ghost use Rattle.sl_tool_request.specs.Views.{request as asked_view, spec_file};
-ghost use Rattle.sl_tool.specs.Request.{request_for, request_of, spec_of};
+ghost use Rattle.sl_tool.specs.Request.{is_explained, request_for, request_of, spec_of};
 ghost use Rattle.sl_tool.specs.Requests.{request};
 
 use sl_tool_request::{Assembly, Request as Asked, SpecFile, Target};
@@ -21,8 +21,8 @@ pub enum Show {
 /// What is asked for.
 #[derive(Debug, Drop)]
 pub enum Request<'a> {
-    /// Whether the specification of this file is sound.
-    Check(SpecFile<'a>),
+    /// Whether the specification of this file is sound, and why not where that is asked for.
+    Check(SpecFile<'a>, bool),
     /// What is shown of an image by a specification.
     Show(Target<'a>, Show),
     /// What the specification of this file leaves unmatched.
@@ -41,7 +41,7 @@ impl<'a> Request<'a> {
         ensures { spec_file result ≡ spec_of (request self.now) }
     {
         match self {
-            Request::Check(file) => *file,
+            Request::Check(file, _) => *file,
             Request::Show(target, _) => target.spec,
             Request::Gaps(file) => *file,
             Request::Generate(_) => SpecFile::Text("gen"),
@@ -51,12 +51,22 @@ impl<'a> Request<'a> {
     }
 }
 
+/// Whether a refusal is explained.
+pub fn is_explained(asked: &Request<'_>) -> bool
+    ensures { result ≡ is_explained (request asked.now) }
+{
+    match asked {
+        Request::Check(_, explains) => *explains,
+        _ => false,
+    }
+}
+
 /// What the words ask for, as it is answered.
 fn request_for(asked: Asked<'_>) -> Request<'_>
     ensures { request result ≡ request_for (asked_view asked.entry) }
 {
     match asked {
-        Asked::Check(file) => Request::Check(file),
+        Asked::Check(file, explains) => Request::Check(file, explains),
         Asked::List(target) => Request::Show(target, Show::Listing),
         Asked::Pcode(target) => Request::Show(target, Show::Operations),
         Asked::Run(target, steps) => Request::Show(target, Show::Run(steps)),

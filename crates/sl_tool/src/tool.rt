@@ -1,22 +1,22 @@
 //! The whole call: words, files and an output.
 
-ghost use Rattle.std.specs.Prelude.{◌≡◌, ◌≢◌, map, string_bytes};
+ghost use Rattle.std.specs.Prelude.{◌≡◌, ◌≢◌, IfOk, map, string_bytes};
 ghost use Rattle.sl_outside.specs.Uses.{UsesSink};
 ghost use Rattle.sl_tool.specs.Ends.{Ends, RunsFor, RunsNothing};
 ghost use Rattle.sl_tool.specs.Growth.{Grew};
 ghost use Rattle.sl_tool.specs.Request.{request_of as request_meant};
 ghost use Rattle.sl_tool.specs.Writing.{IsWritten};
-ghost use Rattle.sl_tool_stages.specs.Problems.{refusal_text};
+ghost use Rattle.sl_tool.specs.Answers.{told_of};
 
 use crate::answer::answered;
-use crate::request::request_of;
+use crate::request::{is_explained, request_of};
 use crate::status::{Status, ended};
 use crate::writing::write_all;
 use sl_emu::Runner;
 use sl_outside::{Files, Sink};
 use sl_tool_request::USAGE;
 use sl_tool_stages::{Halt, Refusal};
-use std::alloc::Global;
+use std::alloc::{AllocError, Global};
 
 /// Answers the words of a command line, the program's name first, from these files, and writes the
 /// answer to the sink.
@@ -54,20 +54,31 @@ pub fn run_tool<F: Files, K: Sink, R: Runner>(
     };
     match answered(alloc, &request, files, out, runner) {
         Ok(ending) => ended(ending),
-        Err(Halt::Refused(refusal)) => refused(alloc, &refusal, out),
+        Err(Halt::Refused(refusal)) => refused(alloc, is_explained(&request), &refusal, out),
         Err(Halt::ReadFault) => Status::ReadFault,
         Err(Halt::WriteFault) => Status::WriteFault,
         Err(Halt::NoMemory) => Status::NoMemory,
     }
 }
 
+/// The text of a refusal, explained or not.
+fn told(alloc: Global, explains: bool, refusal: &Refusal) -> Result<Vec<u8>, AllocError>
+    ensures { IfOk result (λ text. text.items ≡ told_of explains refusal.now) }
+{
+    if explains {
+        refusal.explained(alloc)
+    } else {
+        refusal.text(alloc)
+    }
+}
+
 /// Writes the text of a refusal.
-fn refused<K: Sink>(alloc: Global, refusal: &Refusal, out: &mut K) -> Status
-    ensures whole { IsWritten (K.taken out.old) (K.taken out.new) (refusal_text refusal.now)
+fn refused<K: Sink>(alloc: Global, explains: bool, refusal: &Refusal, out: &mut K) -> Status
+    ensures whole { IsWritten (K.taken out.old) (K.taken out.new) (told_of explains refusal.now)
         Status.Refused result }
     ensures sink { UsesSink K.faults K.calls out.old out.new (result ≡ Status.WriteFault) }
 {
-    match refusal.text(alloc) {
+    match told(alloc, explains, refusal) {
         Ok(text) => written(out, text.as_slice(), Status::Refused),
         Err(_) => Status::NoMemory,
     }

@@ -39,7 +39,7 @@ pub record Assembly : Type 0 where
   pub takes_actions : Bool
 
 pub data Asked : Type 0 where
-  Checks : SpecFile → Asked
+  Checks : SpecFile → (explains : Bool) → Asked
   Lists : Target → Asked
   Prints : Target → Asked
   Runs : Target → ℕ → Asked
@@ -58,6 +58,7 @@ pub record Arguments : Type 0 where
   pub is_hex : Bool
   pub is_packed : Bool
   pub takes_actions : Bool
+  pub explains : Bool
 
 abbrev pub arguments : List Part → Arguments
 arguments ps = record {
@@ -67,6 +68,7 @@ arguments ps = record {
   is_hex = is_given (codes "hex") ps;
   is_packed = is_given (codes "packed") ps;
   takes_actions = is_given (codes "actions") ps;
+  explains = is_given (codes "explain") ps;
 }
 
 abbrev pub arguments_once : List Part → Option Arguments
@@ -158,6 +160,10 @@ takes name = record { name = name; takes_value = true }
 abbrev pub flag : Text → OptionRule
 flag name = record { name = name; takes_value = false }
 
+-- Of `check`.
+abbrev pub check_options : List OptionRule
+check_options = flag (codes "packed") ∷ flag (codes "explain") ∷ []
+
 -- Of a command over a specification.
 abbrev pub spec_options : List OptionRule
 spec_options = flag (codes "packed") ∷ []
@@ -173,7 +179,7 @@ abbrev pub asm_options : List OptionRule
 asm_options = flag (codes "packed") ∷ takes (codes "base") ∷ flag (codes "actions") ∷ []
 
 abbrev pub check_asked : Arguments → Option Asked
-check_asked s = option_map Checks (only_spec s)
+check_asked s = option_map (λ spec. Checks spec s.explains) (only_spec s)
 
 abbrev pub list_asked : Arguments → Option Asked
 list_asked s = option_map Lists (target_of s)
@@ -207,7 +213,7 @@ command name options asked = record { name = name; options = options; asked = as
 
 abbrev pub commands : List Command
 commands =
-    command (codes "check") spec_options check_asked
+    command (codes "check") check_options check_asked
     ∷ command (codes "list") target_options list_asked
     ∷ command (codes "pcode") target_options pcode_asked
     ∷ command (codes "run") run_options run_asked

@@ -36,7 +36,7 @@ assembly a = record {
 }
 
 abbrev pub request : Request → spec.Asked
-request (Check file) = spec.Checks (spec_file file)
+request (Check file explains) = spec.Checks (spec_file file) explains
 request (List t) = spec.Lists (target t)
 request (Pcode t) = spec.Prints (target t)
 request (Run t steps) = spec.Runs (target t) steps
@@ -53,4 +53,5 @@ arguments s = record {
   is_hex = s.is_hex;
   is_packed = s.is_packed;
   takes_actions = s.takes_actions;
+  explains = s.explains;
 }

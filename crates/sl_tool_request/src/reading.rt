@@ -155,7 +155,7 @@ fn check_asked<'a>(given: &Arguments<'a>) -> Option<Request<'a>>
     ensures { option_map request result ≡ check_asked (arguments given.now) }
 {
     let spec = only_spec(given)?;
-    Some(Request::Check(spec))
+    Some(Request::Check(spec, given.explains))
 }
 
 /// What `list` asks for.

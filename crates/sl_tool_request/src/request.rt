@@ -49,8 +49,8 @@ pub struct Assembly<'a> {
 /// What is asked for.
 #[derive(Debug, Drop)]
 pub enum Request<'a> {
-    /// The specification of this file is checked.
-    Check(SpecFile<'a>),
+    /// The specification of this file is checked, and a refusal is explained where that is asked for.
+    Check(SpecFile<'a>, bool),
     /// The image is listed.
     List(Target<'a>),
     /// The image is listed with the p-code of its instructions.
@@ -77,4 +77,5 @@ pub struct Arguments<'a> {
     pub is_hex: bool,
     pub is_packed: bool,
     pub takes_actions: bool,
+    pub explains: bool,
 }

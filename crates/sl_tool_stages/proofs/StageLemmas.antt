@@ -29,10 +29,10 @@ use Rattle.sl_base_surely.specs.Surely.{Surely}
 use Rattle.sl_base_surely.proofs.SurelyLemmas.{surely, surely_map}
 use Rattle.sl_spec.specs.declared.tables.Tables as spec
 use Rattle.sl_parse_terminals.specs.Symbols.{symbols_of}
-use Rattle.sl_tool_stages.specs.Places.{indexes_in, place_of_byte, place_of_token}
-use Rattle.sl_tool_stages.specs.Problems.{refusal, refusal_at}
+use Rattle.sl_tool_stages.specs.Places.{indexes_in}
+use Rattle.sl_tool_stages.specs.Problems.{refusal}
 use Rattle.sl_tool_stages.specs.Stage.{HasOneResult, HasSomeResult, Then}
-use Rattle.sl_tool_stages.specs.Stages.{Compiles, Expands, Tokenizes, Parses, Unpacks, Reads, Fetches, Decodes, Fits, Images, Loads, Readies, Specifies, Starts, decoded, image_in, problem_of_fault, problem_of_reason, opened, refusal_told, source_of, started, stored_tree}
+use Rattle.sl_tool_stages.specs.Stages.{Compiles, Expands, Tokenizes, Parses, Unpacks, Reads, Fetches, Decodes, Fits, Images, Loads, Readies, Specifies, Starts, decoded, image_in, opened, refused_byte, refused_token, refusal_told, source_of, started, stored_tree}
 use Rattle.sl_tool_stages.specs.Stages.Reads.{of_packed, of_text}
 use Rattle.sl_tool_stages.specs.Values.{Source, Tokens, InText, Origin, Tree, Compiled, Loaded, compiled, loaded, tokens, tree}
 use Rattle.sl_tool_stages.specs.declared.problem.Problem.TheVariants.{Cut, Damaged, NoFile, NotPacked, TooLong}
@@ -67,12 +67,12 @@ tokenizes_one s (Ok k) (Err x) h g = absurd (reads_well s.text.bytes k.tokens g.
 tokenizes_one s (Err x) (Ok k) h g = absurd (reads_well s.text.bytes k.tokens h.0 h.1 g.1 h.2)
 tokenizes_one s (Err x) (Err y) h g =
     let one = one_bad_place s.text.bytes h.0 g.0 h.1 g.1 h.2 g.2 in
-    ap Err (h.3 ∙ ap (λ (f : Fault). refusal_at (place_of_byte s.text h.1) (problem_of_fault f)) one.0
-    ∙ ap (λ (n : ℕ). refusal_at (place_of_byte s.text n) (problem_of_fault g.0)) one.1 ∙ sym g.3)
+    ap Err (h.3 ∙ ap (λ (f : Fault). refused_byte s f h.1) one.0
+    ∙ ap (λ (n : ℕ). refused_byte s g.0 n) one.1 ∙ sym g.3)
 
 tokenizes_by : (s : Source) → HasReading s.text.bytes → (r : Result Tokens Refusal) × Tokenizes s r
 tokenizes_by s (inl t) = (Ok (tokens s t.0), (refl, t.1))
-tokenizes_by s (inr f) = (Err (refusal_at (place_of_byte s.text f.1) (problem_of_fault f.0)), (f.0, f.1, f.2, refl))
+tokenizes_by s (inr f) = (Err (refused_byte s f.0 f.1), (f.0, f.1, f.2, refl))
 
 tokenizes_some : (s : Source) → HasSomeResult Tokenizes s
 tokenizes_some s = surely (tokenizes_by s (each_text_reads s.text.bytes))
@@ -85,12 +85,12 @@ parses_one k (Ok t) (Err x) h g = absurd (trees_have_none (symbols_of k.tokens) 
 parses_one k (Err x) (Ok t) h g = absurd (trees_have_none (symbols_of k.tokens) h.0 h.1 (t.items, g.2, sym g.1) h.2)
 parses_one k (Err x) (Err y) h g =
     let one = faults_are_one (symbols_of k.tokens) h.0 g.0 h.1 g.1 h.2 g.2 in
-    ap Err (h.3 ∙ ap (λ (r : Reason). refusal_at (place_of_token k h.1) (problem_of_reason r)) one.1
-    ∙ ap (λ (n : ℕ). refusal_at (place_of_token k n) (problem_of_reason g.0)) one.0 ∙ sym g.3)
+    ap Err (h.3 ∙ ap (λ (r : Reason). refused_token k r h.1) one.1
+    ∙ ap (λ (n : ℕ). refused_token k g.0 n) one.0 ∙ sym g.3)
 
 parses_by : (k : Tokens) → IsSpelled (symbols_of k.tokens) ⊎ ((reason : Reason) × (index : ℕ) × IsFault (symbols_of k.tokens) reason index) → (r : Result Tree Refusal) × Parses k r
 parses_by k (inl t) = (Ok (tree (InText k) t.0), (refl, sym t.2, t.1))
-parses_by k (inr f) = (Err (refusal_at (place_of_token k f.1) (problem_of_reason f.0)), (f.0, f.1, f.2, refl))
+parses_by k (inr f) = (Err (refused_token k f.0 f.1), (f.0, f.1, f.2, refl))
 
 parses_some : (k : Tokens) → HasSomeResult Parses k
 parses_some k = surely (parses_by k (any_have (symbols_of k.tokens)))

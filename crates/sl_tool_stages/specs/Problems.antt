@@ -1,11 +1,14 @@
 -- meaning: the words of each problem, and the text of a refusal.
-use Rattle.std.specs.Prelude.{ℕ, List, [], ◌++◌, codes}
+use Rattle.std.specs.Prelude.{ℕ, List, [], ◌++◌, Option, None, Some, codes}
 use Rattle.std.specs.Fmt.{decimal}
 use Rattle.sl_ast.specs.declared.symbols.Feature.{Feature}
 use Rattle.sl_ast.specs.declared.symbols.Feature.TheVariants as feature
 use Rattle.sl_cube.specs.declared.Point.{Point}
 use Rattle.sl_cube_sets.specs.declared.report.Apart.{Apart}
 use Rattle.sl_cube_sets.specs.declared.report.Apart.TheVariants.{Same, Two}
+use Rattle.sl_explain.specs.Facts.{cause_facts}
+use Rattle.sl_preproc_directives.specs.declared.fault.Cause.{Cause}
+use Rattle.sl_preproc_directives.specs.declared.fault.Cause.TheVariants as cause
 use Rattle.sl_tool_stages.specs.Lines.{place_text, point_text}
 use Rattle.sl_tool_stages.specs.declared.problem.Conflict.{Conflict}
 use Rattle.sl_tool_stages.specs.declared.problem.Problem.{Problem}
@@ -102,8 +105,34 @@ subject_text Nothing = []
 abbrev pub refusal_text : Refusal → List ℕ
 refusal_text x = subject_text x.subject ++ (words_of x.problem ++ (codes "\n" ++ lines_after x.problem))
 
+abbrev pub cause_of : Problem → Option Cause
+cause_of NoFile = Some cause.NoFile
+cause_of TooLong = Some cause.TooLong
+cause_of IncludeDepth = Some cause.IncludeDepth
+cause_of UndefinedName = Some cause.UndefinedName
+cause_of ReplaceDepth = Some cause.ReplaceDepth
+cause_of BadDirective = Some cause.BadDirective
+cause_of Unbalanced = Some cause.Unbalanced
+cause_of problem = None
+
+abbrev pub facts_of_cause : Option Cause → List ℕ
+facts_of_cause None = []
+facts_of_cause (Some cause) = cause_facts cause
+
+-- what more is said of a problem whatever is known of the text: of a file that can't be had and of a directive
+abbrev pub more_of : Problem → List ℕ
+more_of problem = facts_of_cause (cause_of problem)
+
+-- the same text, and what more is said
+abbrev pub explained_text : Refusal → List ℕ
+explained_text x = refusal_text x ++ (x.facts ++ more_of x.problem)
+
+-- the refusal of a line of which these lines say more
+abbrev pub refusal_with : Place → Problem → (facts : List ℕ) → Refusal
+refusal_with place problem facts = record { subject = Line place; problem = problem; facts = facts }
+
 abbrev pub refusal_at : Place → Problem → Refusal
-refusal_at place problem = record { subject = Line place; problem = problem }
+refusal_at place problem = refusal_with place problem []
 
 -- the refusal of a line of a file; line 0 is the whole file
 abbrev pub refusal : List ℕ → ℕ → Problem → Refusal
@@ -111,12 +140,12 @@ refusal file line problem = refusal_at (record { file = file; line = line }) pro
 
 -- the refusal of a context field of this name
 abbrev pub refusal_of_field : List ℕ → Problem → Refusal
-refusal_of_field name problem = record { subject = Field name; problem = problem }
+refusal_of_field name problem = record { subject = Field name; problem = problem; facts = [] }
 
 -- the refusal of the base
 abbrev pub refusal_of_base : Problem → Refusal
-refusal_of_base problem = record { subject = Base; problem = problem }
+refusal_of_base problem = record { subject = Base; problem = problem; facts = [] }
 
 -- the refusal of a request as a whole
 abbrev pub bare_refusal : Problem → Refusal
-bare_refusal problem = record { subject = Nothing; problem = problem }
+bare_refusal problem = record { subject = Nothing; problem = problem; facts = [] }

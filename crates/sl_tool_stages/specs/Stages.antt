@@ -1,5 +1,5 @@
 -- meaning: the stages from the name of a specification to what a command works on.
-use Rattle.std.specs.Prelude.{◌≡◌, ℕ, ◌^◌, ◌≤◌, ◌⊎◌, List, length, Option, Some, None, Bool, if◌then◌else◌, Result, Ok, Err, ⊤}
+use Rattle.std.specs.Prelude.{◌≡◌, ℕ, ◌^◌, ◌≤◌, ◌⊎◌, List, [], length, Option, Some, None, Bool, if◌then◌else◌, Result, Ok, Err, ⊤}
 use Rattle.sl_ast.specs.Spelling.{spell}
 use Rattle.sl_ast.specs.Validity.{AreItems}
 use Rattle.sl_bind_compile.specs.Ambiguity.{Ambiguity}
@@ -11,12 +11,13 @@ use Rattle.sl_bind_compile.specs.declared.error.Flaw.TheVariants as flaw
 use Rattle.sl_tool_contexts.specs.Words.{Bad, starting_context}
 use Rattle.sl_tool_contexts.specs.declared.words.Cause as context
 use Rattle.sl_tool_contexts.specs.declared.words.Cause.TheVariants as word
+use Rattle.sl_explain.specs.Facts.{ambiguity_facts, byte_facts, flaw_facts, token_facts}
 use Rattle.sl_decode_meaning.specs.Actions.{address_bytes}
 use Rattle.sl_preproc_directives.specs.declared.fault.Cause.{Cause}
 use Rattle.sl_preproc_directives.specs.declared.fault.Cause.TheVariants as cause
 use Rattle.sl_lex.specs.Faults.{Fault}
 use Rattle.sl_lex.specs.Faults.Fault.{NoLexeme, OpenQuote, TooWide}
-use Rattle.sl_lex.specs.Reading.{ReadsAs, HasBadPlace}
+use Rattle.sl_lex.specs.Reading.{HasBadPlace, ReadsAs, Token}
 use Rattle.sl_list_instructions.specs.Listing.{Image, image_from}
 use Rattle.sl_outside.specs.Folder.{Folder, FolderHas, Lacks, HoldsTooLong, size_limit}
 use Rattle.sl_parse_faults.specs.Causes.{IsFault, Reason, no_spelling, too_deep, left_out}
@@ -33,7 +34,7 @@ use Rattle.sl_store_bytes.specs.Verdicts.{HasMark}
 use Rattle.sl_store_format.specs.Packed.{Packed, mark}
 use Rattle.sl_store_write.specs.Packs.{IsFileOf}
 use Rattle.sl_tool_stages.specs.Places.{indexes_in, place_in, place_of_byte, place_of_token}
-use Rattle.sl_tool_stages.specs.Problems.{refusal, refusal_at, refusal_of_field}
+use Rattle.sl_tool_stages.specs.Problems.{refusal, refusal_of_field, refusal_with}
 use Rattle.sl_tool_stages.specs.Stage.{Stage, Then}
 use Rattle.sl_tool_stages.specs.Values.{Source, Tokens, InText, Origin, Stored, Tree, Compiled, Loaded, source, tree}
 use Rattle.sl_tool_stages.specs.declared.problem.Conflict.{Conflict}
@@ -72,11 +73,16 @@ problem_of_fault NoLexeme = BadByte
 problem_of_fault OpenQuote = OpenString
 problem_of_fault TooWide = WideInteger
 
+-- why a text is refused that doesn't go on at this byte
+abbrev pub refused_byte : Source → Fault → ℕ → Refusal
+refused_byte s bad place =
+    refusal_with (place_of_byte s.text place) (problem_of_fault bad) (byte_facts s.text bad place)
+
 -- The text reads as these tokens, or has a first bad place.
 abbrev pub Tokenizes : Stage Refusal Source Tokens
 Tokenizes s (Ok k) = (k.source ≡ s) × ReadsAs s.text.bytes k.tokens
 Tokenizes s (Err x) = (bad : Fault) × (place : ℕ) × HasBadPlace s.text.bytes bad place
-    × (x ≡ refusal_at (place_of_byte s.text place) (problem_of_fault bad))
+    × (x ≡ refused_byte s bad place)
 
 -- ---- 3: the tokens to the tree that they spell
 
@@ -85,11 +91,16 @@ problem_of_reason no_spelling = Syntax
 problem_of_reason too_deep = Nesting
 problem_of_reason (left_out form) = NotSupported form
 
+-- why tokens are refused that have their first fault at the one of this index
+abbrev pub refused_token : Tokens → Reason → ℕ → Refusal
+refused_token k reason index = refusal_with (place_of_token k index) (problem_of_reason reason)
+    (token_facts k.source.text k.tokens reason index)
+
 -- The tokens spell this tree, which has no fault, or they have a first fault.
 abbrev pub Parses : Stage Refusal Tokens Tree
 Parses k (Ok t) = (t.origin ≡ InText k) × (symbols_of k.tokens ≡ spell t.items) × AreItems t.items
 Parses k (Err x) = (reason : Reason) × (index : ℕ) × IsFault (symbols_of k.tokens) reason index
-    × (x ≡ refusal_at (place_of_token k index) (problem_of_reason reason))
+    × (x ≡ refused_token k reason index)
 
 -- ---- the bytes of a packed file to the tree that they hold
 
@@ -132,10 +143,16 @@ problem_of_flaw (flaw.WindowTooLong count) = WindowTooLong count
 abbrev pub conflict_of : Origin → Ambiguity → Conflict
 conflict_of o a = record { table = a.table; other = place_in o a.second; both = a.both; apart = a.apart }
 
+-- the tokens of a text; stored places come without
+abbrev pub tokens_in : Origin → List Token
+tokens_in (InText k) = k.tokens
+tokens_in (Stored files places) = []
+
 -- why a specification is refused, at the place of an item that is told by its index, or at the text's end where there is none
 abbrev pub refusal_told : Origin → outcome.Refusal → Refusal
-refusal_told o (flawed flaw index) = refusal_at (place_in o index) (problem_of_flaw flaw)
-refusal_told o (ambiguous a) = refusal_at (place_in o a.first) (Ambiguous (conflict_of o a))
+refusal_told o (flawed flaw index) =
+    refusal_with (place_in o index) (problem_of_flaw flaw) (flaw_facts (tokens_in o) flaw index)
+refusal_told o (ambiguous a) = refusal_with (place_in o a.first) (Ambiguous (conflict_of o a)) (ambiguity_facts (tokens_in o) a)
 
 -- The specification that the tree is keeps all rules and its tables are sound, or this is why it is refused.
 abbrev pub Compiles : Stage Refusal Tree Compiled

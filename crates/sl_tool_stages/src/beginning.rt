@@ -10,6 +10,7 @@ ghost use Rattle.sl_tool_stages.specs.Problems.{refusal_at};
 ghost use Rattle.sl_tool_stages.specs.StageViews.{compiled_view};
 
 use crate::compiled::Compiled;
+use crate::facts::Facts;
 use crate::halt::Halt;
 use crate::image::has_room;
 use crate::loaded::opened;
@@ -31,7 +32,12 @@ fn acting(alloc: Global, compiled: &Compiled<'_, '_>, ctor: CtorId) -> Result<Re
     let place = places.place(alloc, ctor)?;
     let subject = Subject::Line(place);
     let problem = Problem::HasActions;
-    Ok(Refusal { subject, problem })
+    let facts = Facts::none(alloc);
+    Ok(Refusal {
+        subject,
+        problem,
+        facts,
+    })
 }
 
 /// Refuses the first constructor that has an action or a `globalset`, where none may have one.
@@ -53,7 +59,7 @@ fn permit(alloc: Global, assembly: &Assembly<'_>, compiled: &Compiled<'_, '_>) -
 }
 
 /// Refuses a base that is no address of the default space, or no multiple of the alignment.
-fn rest_on(assembly: &Assembly<'_>, compiled: &Compiled<'_, '_>) -> Result<(), Halt>
+fn rest_on(alloc: Global, assembly: &Assembly<'_>, compiled: &Compiled<'_, '_>) -> Result<(), Halt>
     requires { IsCompiled compiled.now.specification }
     ensures { Gives (Bases (assembly_view assembly.now) (compiled_view compiled.now))
         (λ _. compiled_view compiled.now) result }
@@ -61,10 +67,10 @@ fn rest_on(assembly: &Assembly<'_>, compiled: &Compiled<'_, '_>) -> Result<(), H
     let tables = &compiled.specification.bound.tables;
     let address_bytes = u64::from(address_size(tables).bytes);
     if !has_room(address_bytes, assembly.base, 0) {
-        return Err(Halt::Refused(Refusal::of_base(Problem::ValueOutOfRange)));
+        return Err(Halt::Refused(Refusal::of_base(alloc, Problem::ValueOutOfRange)));
     }
     if assembly.base % u64::from(tables.alignment) > 0 {
-        return Err(Halt::Refused(Refusal::of_base(Problem::Misaligned)));
+        return Err(Halt::Refused(Refusal::of_base(alloc, Problem::Misaligned)));
     }
     Ok(())
 }
@@ -81,7 +87,7 @@ pub fn begin(
         (λ context. context) result }
 {
     permit(alloc, assembly, compiled)?;
-    rest_on(assembly, compiled)?;
+    rest_on(alloc, assembly, compiled)?;
     let tables = &compiled.specification.bound.tables;
     let context = opened(alloc, assembly.context.as_slice(), tables)?;
     Ok(context)

@@ -2,13 +2,15 @@
 
 ghost use Rattle.std.specs.Prelude.{◌≡◌, IfOk};
 ghost use Rattle.sl_ast.specs.Views.{indexes_of, items_of};
+ghost use Rattle.sl_bind_compile.specs.Outcomes as outcome;
+ghost use Rattle.sl_bind_compile.specs.Outcomes.{flawed};
 ghost use Rattle.sl_faithful_accepted.specs.Laws.{IsShort};
 ghost use Rattle.sl_tool_stages.specs.Halts.{TellsRefusal};
 ghost use Rattle.sl_tool_stages.specs.OriginView.{origin_view};
-ghost use Rattle.sl_tool_stages.specs.Places.{indexes_in, place_in};
-ghost use Rattle.sl_tool_stages.specs.Problems.{refusal_at};
-ghost use Rattle.sl_tool_stages.specs.Stages.{conflict_of, problem_of_flaw};
+ghost use Rattle.sl_tool_stages.specs.Places.{indexes_in};
+ghost use Rattle.sl_tool_stages.specs.Stages.{conflict_of, problem_of_flaw, refusal_told};
 
+use crate::facts::Facts;
 use crate::halt::Halt;
 use crate::origin::Origin;
 use crate::place::Name;
@@ -16,6 +18,7 @@ use crate::problem::{Conflict, Problem};
 use crate::refusal::{Refusal, Subject};
 use crate::tree::Tree;
 use sl_bind_compile::{Ambiguity, CompileError, Compiled as Specification, Flaw, compile};
+use sl_explain::{push_ambiguity_facts, push_flaw_facts};
 use sl_store_text::pack_text;
 use sl_store_write::pack_parts;
 use std::alloc::{AllocError, Global};
@@ -56,13 +59,19 @@ fn flawed(
     flaw: Flaw,
     index: Option<usize>,
 ) -> Result<Refusal, AllocError>
-    ensures { IfOk result (λ x. x
-        ≡ refusal_at (place_in (origin_view origin.now) index) (problem_of_flaw flaw)) }
+    ensures { IfOk result (λ x. x ≡ refusal_told (origin_view origin.now) (flawed flaw index)) }
 {
     let place = origin.place_of(alloc, index)?;
+    let mut lines = Vec::new(alloc);
+    push_flaw_facts(alloc, &mut lines, origin.tokens(), flaw, index)?;
     let subject = Subject::Line(place);
     let problem = problem_of(flaw);
-    Ok(Refusal { subject, problem })
+    let facts = Facts::of(lines);
+    Ok(Refusal {
+        subject,
+        problem,
+        facts,
+    })
 }
 
 /// The conflict of a table that isn't settled.
@@ -89,14 +98,21 @@ fn ambiguous(
     origin: &Origin<'_, '_>,
     told: &Ambiguity<'_>,
 ) -> Result<Refusal, AllocError>
-    ensures { IfOk result (λ x. x ≡ refusal_at (place_in (origin_view origin.now)
-        told.now.first) (Problem.Ambiguous (conflict_of (origin_view origin.now) told.now))) }
+    ensures { IfOk result (λ x. x
+        ≡ refusal_told (origin_view origin.now) (outcome.ambiguous told.now)) }
 {
     let place = origin.place_of(alloc, told.first)?;
     let conflict = conflict(alloc, origin, told)?;
+    let mut lines = Vec::new(alloc);
+    push_ambiguity_facts(alloc, &mut lines, origin.tokens(), told)?;
     let subject = Subject::Line(place);
     let problem = Problem::Ambiguous(conflict);
-    Ok(Refusal { subject, problem })
+    let facts = Facts::of(lines);
+    Ok(Refusal {
+        subject,
+        problem,
+        facts,
+    })
 }
 
 /// Why there are no sound tables, with places.

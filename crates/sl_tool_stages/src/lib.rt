@@ -25,6 +25,7 @@
 
 mod beginning;
 mod compiled;
+mod facts;
 mod fetching;
 mod halt;
 mod image;
@@ -41,6 +42,7 @@ mod tree;
 
 pub use beginning::begin;
 pub use compiled::Compiled;
+pub use facts::Facts;
 pub use fetching::fetched;
 pub use halt::Halt;
 pub use image::has_room;

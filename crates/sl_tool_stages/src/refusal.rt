@@ -1,14 +1,17 @@
 //! Refusals, and the text that is printed of them.
 
 ghost use Rattle.std.specs.Prelude.{◌≡◌, ◌++◌, IfOk, OnOk};
-ghost use Rattle.sl_tool_stages.specs.Problems.{apart_lines, lines_after, point_line};
+ghost use Rattle.sl_tool_stages.specs.Problems.{apart_lines, lines_after, more_of, point_line};
 ghost use Rattle.sl_tool_stages.specs.Problems.{report_lines, subject_text};
 
+use crate::facts::Facts;
 use crate::lines::{push_place, push_point};
 use crate::place::{Name, Place};
 use crate::problem::{Conflict, Problem, push_words};
 use sl_bind_compile::Apart;
 use sl_cube::Point;
+use sl_explain::push_cause_facts;
+use sl_preproc_directives::fault::Cause;
 use std::alloc::{AllocError, Global};
 
 /// What a refusal speaks of.
@@ -24,19 +27,22 @@ pub enum Subject {
     Nothing,
 }
 
-/// What is refused: its subject, and the problem there.
+/// What is refused: its subject, the problem there, and what more is said of it.
 #[derive(Debug, Drop)]
 pub struct Refusal {
     /// The line of a file, the field of the context or another subject.
     pub subject: Subject,
     /// What is wrong with it.
     pub problem: Problem,
+    /// Where it is to be seen, in which constructor, and what is asked of a text.
+    pub facts: Facts,
 }
 
 impl Refusal {
     ghost use Rattle.std.specs.Prelude.{◌≡◌, IfOk};
-    ghost use Rattle.sl_tool_stages.specs.Problems.{bare_refusal, refusal, refusal_of_base};
-    ghost use Rattle.sl_tool_stages.specs.Problems.{refusal_of_field, refusal_text};
+    ghost use Rattle.sl_tool_stages.specs.Problems.{bare_refusal, explained_text, refusal};
+    ghost use Rattle.sl_tool_stages.specs.Problems.{refusal_of_base, refusal_of_field};
+    ghost use Rattle.sl_tool_stages.specs.Problems.{refusal_text};
 
     /// The refusal of a whole file, which is its line 0.
     pub fn of_file(alloc: Global, file: &str, problem: Problem) -> Result<Self, AllocError>
@@ -44,7 +50,11 @@ impl Refusal {
     {
         let file = Name::copied(alloc, file)?;
         let subject = Subject::Line(Place { file, line: 0 });
-        Ok(Refusal { subject, problem })
+        Ok(Refusal {
+            subject,
+            problem,
+            facts: Facts::none(alloc),
+        })
     }
 
     /// The refusal of the context field of this name.
@@ -53,26 +63,32 @@ impl Refusal {
     {
         let name = Name::copied(alloc, name)?;
         let subject = Subject::Field(name);
-        Ok(Refusal { subject, problem })
+        Ok(Refusal {
+            subject,
+            problem,
+            facts: Facts::none(alloc),
+        })
     }
 
     /// The refusal of the base.
-    pub fn of_base(problem: Problem) -> Self
+    pub fn of_base(alloc: Global, problem: Problem) -> Self
         ensures { result ≡ refusal_of_base problem }
     {
         Refusal {
             subject: Subject::Base,
             problem,
+            facts: Facts::none(alloc),
         }
     }
 
     /// The refusal of a request as a whole.
-    pub fn bare(problem: Problem) -> Self
+    pub fn bare(alloc: Global, problem: Problem) -> Self
         ensures { result ≡ bare_refusal problem }
     {
         Refusal {
             subject: Subject::Nothing,
             problem,
+            facts: Facts::none(alloc),
         }
     }
 
@@ -86,6 +102,16 @@ impl Refusal {
         push_words(&mut out, &self.problem)?;
         out.extend_from_slice(b"\n")?;
         push_after(&mut out, &self.problem)?;
+        Ok(out)
+    }
+
+    /// The same, and what more is said of it: lines that begin with two blanks.
+    pub fn explained(&self, alloc: Global) -> Result<Vec<u8>, AllocError>
+        ensures { IfOk result (λ text. text.items ≡ explained_text self.now) }
+    {
+        let mut out = self.text(alloc)?;
+        out.extend_from_slice(self.facts.as_bytes())?;
+        push_more(&mut out, &self.problem)?;
         Ok(out)
     }
 }
@@ -148,6 +174,23 @@ fn push_after(out: &mut Vec<u8>, problem: &Problem) -> Result<(), AllocError>
 {
     match problem {
         Problem::Ambiguous(conflict) => push_report(out, conflict),
+        _ => Ok(()),
+    }
+}
+
+/// Appends what more is said of a problem whatever is known of the text: of a file that can't be had
+/// and of a directive.
+fn push_more(out: &mut Vec<u8>, problem: &Problem) -> Result<(), AllocError>
+    ensures { OnOk result (out.new.items ≡ out.old.items ++ more_of problem.now) }
+{
+    match problem {
+        Problem::NoFile => push_cause_facts(out, Cause::NoFile),
+        Problem::TooLong => push_cause_facts(out, Cause::TooLong),
+        Problem::IncludeDepth => push_cause_facts(out, Cause::IncludeDepth),
+        Problem::UndefinedName => push_cause_facts(out, Cause::UndefinedName),
+        Problem::ReplaceDepth => push_cause_facts(out, Cause::ReplaceDepth),
+        Problem::BadDirective => push_cause_facts(out, Cause::BadDirective),
+        Problem::Unbalanced => push_cause_facts(out, Cause::Unbalanced),
         _ => Ok(()),
     }
 }

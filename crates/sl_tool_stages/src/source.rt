@@ -6,6 +6,7 @@ ghost use Rattle.sl_preproc.specs.Sound.{IsSound};
 ghost use Rattle.sl_tool_stages.specs.Halts.{halt_of};
 ghost use Rattle.sl_tool_stages.specs.Problems.{refusal};
 
+use crate::facts::Facts;
 use crate::halt::Halt;
 use crate::place::{Name, Place};
 use crate::problem::Problem;
@@ -25,28 +26,37 @@ pub struct Source<'r> {
 }
 
 /// The refusal of a line of this file.
-fn refused(file: String, line: u32, problem: Problem) -> Halt
+fn refused(alloc: Global, file: String, line: u32, problem: Problem) -> Halt
     ensures { result ≡ Halt.Refused (refusal (string_bytes file) line problem) }
 {
     let file = Name::of(file);
     let line = u64::from(line);
     let place = Place { file, line };
     let subject = Subject::Line(place);
-    Halt::Refused(Refusal { subject, problem })
+    Halt::Refused(Refusal {
+        subject,
+        problem,
+        facts: Facts::none(alloc),
+    })
 }
 
 /// Why there is no text, for an error of the expansion.
-fn halt_of(error: PreError) -> Halt
+fn halt_of(alloc: Global, error: PreError) -> Halt
     ensures { result ≡ halt_of error }
 {
     match error {
-        PreError::NoFile { file, line } => refused(file, line, Problem::NoFile),
-        PreError::TooLong { file, line } => refused(file, line, Problem::TooLong),
-        PreError::IncludeDepth { file, line } => refused(file, line, Problem::IncludeDepth),
-        PreError::UndefinedName { file, line } => refused(file, line, Problem::UndefinedName),
-        PreError::ReplaceDepth { file, line } => refused(file, line, Problem::ReplaceDepth),
-        PreError::BadDirective { file, line } => refused(file, line, Problem::BadDirective),
-        PreError::Unbalanced { file, line } => refused(file, line, Problem::Unbalanced),
+        PreError::NoFile { file, line } => refused(alloc, file, line, Problem::NoFile),
+        PreError::TooLong { file, line } => refused(alloc, file, line, Problem::TooLong),
+        PreError::IncludeDepth { file, line } => refused(alloc, file, line, Problem::IncludeDepth),
+        PreError::UndefinedName { file, line } => refused(
+            alloc,
+            file,
+            line,
+            Problem::UndefinedName,
+        ),
+        PreError::ReplaceDepth { file, line } => refused(alloc, file, line, Problem::ReplaceDepth),
+        PreError::BadDirective { file, line } => refused(alloc, file, line, Problem::BadDirective),
+        PreError::Unbalanced { file, line } => refused(alloc, file, line, Problem::Unbalanced),
         PreError::ReadFault => Halt::ReadFault,
         PreError::NoMemory => Halt::NoMemory,
     }
@@ -72,7 +82,7 @@ impl<'r> Source<'r> {
     {
         match expand(alloc, files, name) {
             Ok(expanded) => Ok(Source { name, expanded }),
-            Err(error) => Err(halt_of(error)),
+            Err(error) => Err(halt_of(alloc, error)),
         }
     }
 

@@ -5,11 +5,13 @@ ghost use Rattle.sl_lex.specs.Reading.{ReadsAs};
 ghost use Rattle.sl_lex.specs.Views.{views};
 ghost use Rattle.sl_tool_stages.specs.Halts.{bad_place};
 
+use crate::facts::Facts;
 use crate::halt::Halt;
 use crate::place::Place;
 use crate::problem::Problem;
 use crate::refusal::{Refusal, Subject};
 use crate::source::Source;
+use sl_explain::push_lex_facts;
 use sl_lex::{LexError, Tok, lex};
 use std::alloc::{AllocError, Global};
 
@@ -55,8 +57,15 @@ impl<'s, 'r> Tokens<'s, 'r> {
                     return Err(Halt::NoMemory);
                 };
                 let place = source.place(alloc, at)?;
+                let mut lines = Vec::new(alloc);
+                push_lex_facts(&mut lines, &source.expanded, error)?;
                 let subject = Subject::Line(place);
-                Err(Halt::Refused(Refusal { subject, problem }))
+                let facts = Facts::of(lines);
+                Err(Halt::Refused(Refusal {
+                    subject,
+                    problem,
+                    facts,
+                }))
             }
         }
     }

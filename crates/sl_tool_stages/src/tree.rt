@@ -7,6 +7,7 @@ ghost use Rattle.sl_tool_stages.specs.Halts.{first_fault, unopened};
 ghost use Rattle.sl_tool_stages.specs.OriginView.{origin_view};
 ghost use Rattle.sl_tool_stages.specs.Places.{indexes_in};
 
+use crate::facts::Facts;
 use crate::halt::Halt;
 use crate::origin::{Origin, Stored};
 use crate::problem::Problem;
@@ -14,6 +15,7 @@ use crate::refusal::{Refusal, Subject};
 use crate::source::Source;
 use crate::tokens::Tokens;
 use sl_ast::items::Spec;
+use sl_explain::push_parse_facts;
 use sl_parse::{ParseError, parse};
 use sl_store::{UnpackError, unpack};
 use std::alloc::Global;
@@ -91,8 +93,16 @@ impl<'s, 'r> Tree<'s, 'r> {
                     return Err(Halt::NoMemory);
                 };
                 let place = tokens.place(alloc, at)?;
+                let mut lines = Vec::new(alloc);
+                let text = &tokens.source.expanded;
+                push_parse_facts(&mut lines, text, tokens.tokens.as_slice(), error)?;
                 let subject = Subject::Line(place);
-                Err(Halt::Refused(Refusal { subject, problem }))
+                let facts = Facts::of(lines);
+                Err(Halt::Refused(Refusal {
+                    subject,
+                    problem,
+                    facts,
+                }))
             }
         }
     }

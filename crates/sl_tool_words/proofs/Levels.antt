@@ -13,7 +13,7 @@ use Rattle.clap.specs.Takes.{is_given as is_given_row}
 use Rattle.clap.specs.Walk.{Held, Names, Row, Step, Text, Walk, after_step, answers_to, finished, long_or_other, short_or_plain, trailing, value, has_row, idle, nothing_held, rows_after, settled, settled_rows, subcommand_met, subcommand_or_other, walk, walk_from, walked, with_default, word_met}
 use Rattle.clap.specs.declared.error.kind.ErrorKind.TheVariants.{DisplayHelp, InvalidSubcommand, UnknownArgument}
 use Rattle.clap.proofs.WalkLemmas.{walk_stopped}
-use Rattle.sl_tool_request.specs.Requests.{Arguments, Command, asm_options, arguments, arguments_by, arguments_once, asked_of, command_named, commands, run_options, spec_options, target_options}
+use Rattle.sl_tool_request.specs.Requests.{Arguments, Command, asm_options, arguments, arguments_by, arguments_once, asked_of, check_options, command_named, commands, run_options, spec_options, target_options}
 use Rattle.sl_tool_request.specs.Words.{Form, Given, OptionRule, Part, Positional, are_once, dashes, form_of, named, other, parts_from, plain}
 use Rattle.sl_tool_words.specs.Layout.{app}
 use Rattle.sl_tool_words.specs.Matches.{arguments_in, asked_at}
@@ -186,22 +186,25 @@ found_well word (d ∷ ds) c well e = here (bytes_eq d.name word) (found_well wo
     here false later e = later e
 
 none_well : ReadsWell []
-none_well = record { fresh = refl; words = refl; base = refl; steps = refl; base_value = λ e. cc; steps_value = λ e. cc; hex_flag = λ e. cc; packed_flag = λ e. cc; actions_flag = λ e. cc }
+none_well = record { fresh = refl; words = refl; base = refl; steps = refl; base_value = λ e. cc; steps_value = λ e. cc; hex_flag = λ e. cc; packed_flag = λ e. cc; actions_flag = λ e. cc; explain_flag = λ e. cc }
+
+check_well : ReadsWell check_options
+check_well = record { fresh = refl; words = refl; base = refl; steps = refl; base_value = λ e. cc; steps_value = λ e. cc; hex_flag = λ e. cc; packed_flag = λ e. cc; actions_flag = λ e. cc; explain_flag = λ e. cc }
 
 spec_well : ReadsWell spec_options
-spec_well = record { fresh = refl; words = refl; base = refl; steps = refl; base_value = λ e. cc; steps_value = λ e. cc; hex_flag = λ e. cc; packed_flag = λ e. cc; actions_flag = λ e. cc }
+spec_well = record { fresh = refl; words = refl; base = refl; steps = refl; base_value = λ e. cc; steps_value = λ e. cc; hex_flag = λ e. cc; packed_flag = λ e. cc; actions_flag = λ e. cc; explain_flag = λ e. cc }
 
 target_well : ReadsWell target_options
-target_well = record { fresh = refl; words = refl; base = refl; steps = refl; base_value = λ e. cc; steps_value = λ e. cc; hex_flag = λ e. cc; packed_flag = λ e. cc; actions_flag = λ e. cc }
+target_well = record { fresh = refl; words = refl; base = refl; steps = refl; base_value = λ e. cc; steps_value = λ e. cc; hex_flag = λ e. cc; packed_flag = λ e. cc; actions_flag = λ e. cc; explain_flag = λ e. cc }
 
 run_well : ReadsWell run_options
-run_well = record { fresh = refl; words = refl; base = refl; steps = refl; base_value = λ e. cc; steps_value = λ e. cc; hex_flag = λ e. cc; packed_flag = λ e. cc; actions_flag = λ e. cc }
+run_well = record { fresh = refl; words = refl; base = refl; steps = refl; base_value = λ e. cc; steps_value = λ e. cc; hex_flag = λ e. cc; packed_flag = λ e. cc; actions_flag = λ e. cc; explain_flag = λ e. cc }
 
 asm_well : ReadsWell asm_options
-asm_well = record { fresh = refl; words = refl; base = refl; steps = refl; base_value = λ e. cc; steps_value = λ e. cc; hex_flag = λ e. cc; packed_flag = λ e. cc; actions_flag = λ e. cc }
+asm_well = record { fresh = refl; words = refl; base = refl; steps = refl; base_value = λ e. cc; steps_value = λ e. cc; hex_flag = λ e. cc; packed_flag = λ e. cc; actions_flag = λ e. cc; explain_flag = λ e. cc }
 
 commands_well : AllWell commands
-commands_well = (spec_well, (target_well, (target_well, (run_well, (none_well, (spec_well, (none_well, (asm_well, tt))))))))
+commands_well = (check_well, (target_well, (target_well, (run_well, (none_well, (spec_well, (none_well, (asm_well, tt))))))))
 
 -- ---- the whole command line
 

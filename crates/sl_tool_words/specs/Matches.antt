@@ -24,6 +24,7 @@ arguments_in rows = record {
   is_hex = is_given_in (codes "hex") rows;
   is_packed = is_given_in (codes "packed") rows;
   takes_actions = is_given_in (codes "actions") rows;
+  explains = is_given_in (codes "explain") rows;
 }
 
 -- What is asked by the subcommand that a parse entered, if it entered one.

@@ -49,5 +49,6 @@ pub fn arguments_of<'a>(
         is_hex: is_given(matches, "hex"),
         is_packed: is_given(matches, "packed"),
         takes_actions: is_given(matches, "actions"),
+        explains: is_given(matches, "explain"),
     })
 }

@@ -5,8 +5,8 @@ ghost use Rattle.clap.specs.Simple.{app_of, shape_of};
 ghost use Rattle.clap.specs.Walk.{rule_of};
 ghost use Rattle.clap.specs.declared.builder.command.Command.TheViews.{out-Command as fields_of};
 ghost use Rattle.sl_tool_words.specs.Layout.{app, leaf, long_rule, words_rule};
-ghost use Rattle.sl_tool_request.specs.Requests.{asm_options, run_options, spec_options};
-ghost use Rattle.sl_tool_request.specs.Requests.{target_options};
+ghost use Rattle.sl_tool_request.specs.Requests.{asm_options, check_options, run_options};
+ghost use Rattle.sl_tool_request.specs.Requests.{spec_options, target_options};
 
 use clap::{Arg, ArgAction, Command};
 use std::alloc::{AllocError, Global};
@@ -42,6 +42,15 @@ fn over_spec<'a>(alloc: Global, name: &'a str) -> Result<Command<'a>, AllocError
     ensures local { IfOk result (λ c. (fields_of c).has_globals ≡ false) }
 {
     let command = bare(alloc, name)?.arg(option(alloc, "packed", ArgAction::SetTrue))?;
+    Ok(command)
+}
+
+/// The command that checks a specification.
+fn checker<'a>(alloc: Global, name: &'a str) -> Result<Command<'a>, AllocError>
+    ensures shape { IfOk result (λ c. shape_of c ≡ leaf name.entry.now check_options) }
+    ensures local { IfOk result (λ c. (fields_of c).has_globals ≡ false) }
+{
+    let command = over_spec(alloc, name)?.arg(option(alloc, "explain", ArgAction::SetTrue))?;
     Ok(command)
 }
 
@@ -83,7 +92,7 @@ pub fn sleigh<'a>(alloc: Global) -> Result<Command<'a>, AllocError>
     let command = Command::new(alloc, "sleigh")
         .disable_help_flag(true)
         .disable_help_subcommand(true)
-        .subcommand(over_spec(alloc, "check")?)?
+        .subcommand(checker(alloc, "check")?)?
         .subcommand(over_image(alloc, "list")?)?
         .subcommand(over_image(alloc, "pcode")?)?
         .subcommand(runner(alloc, "run")?)?

@@ -1,18 +1,18 @@
-use Rattle.std.proofs.Common.{◌≡◌, ℕ, List, Some, None, Option, inl, map, ap, refl, sym, subst, ◌∙◌}
+use Rattle.std.proofs.Common.{◌≡◌, ℕ, Bool, List, Some, None, Option, inl, map, ap, refl, sym, subst, ◌∙◌}
 use Rattle.std.proofs.KnownBytes.{Appends-nil}
 use Rattle.std.specs.Prelude.{string_bytes}
 use Rattle.std.specs.Option.{option_map}
-use Rattle.sl_tool.specs.Answers.{Answers, AsksFor, UsesFilesFor}
+use Rattle.sl_tool.specs.Answers.{Answers, AsksFor, UsesFilesFor, told_of}
 use Rattle.sl_tool.specs.Ends.{Ends, Means, ReadsFiles, RunsFor, RunsNothing}
 use Rattle.sl_tool.specs.Endings.{ended}
 use Rattle.sl_tool.specs.Ends.Means.{usage, answer}
 use Rattle.sl_tool.specs.Growth.{Grew}
-use Rattle.sl_tool.specs.Request.{Request, request_of}
+use Rattle.sl_tool.specs.Request.{Request, is_explained, request_of}
 use Rattle.sl_tool.specs.Requests.{request}
+use Rattle.sl_tool.specs.Writing.{IsWritten}
 use Rattle.sl_tool.specs.declared.status.Status.{Status}
 use Rattle.sl_tool.specs.declared.status.Status.TheVariants.{Usage, Refused, ReadFault, WriteFault, NoMemory}
 use Rattle.sl_tool_stages.specs.Outcomes.{IsReadFault, StopsEarly}
-use Rattle.sl_tool_stages.specs.Problems.{refusal_text}
 use Rattle.sl_tool_stages.specs.declared.halt.Halt.{Halt}
 use Rattle.sl_tool_stages.specs.declared.halt.Halt.TheVariants as halt
 use Rattle.sl_tool.proofs.AnsweredLemmas.{grew_none}
@@ -72,10 +72,12 @@ returns-in-Err-Refused-clause-ends g c =
     let asked = sym c.in-Ok.ensures ∙ ap (option_map request) c.in-Some.is in
     let grew = Grew (g.R.Runner.count c.args.runner.now) (g.R.Runner.count c.answered.new.runner) in
     let w = writes_at (Answers told r) old mid grew c.in-Err-Refused.field-0 (halt.Refused x) c.in-Err-Refused.field-0-is c.in-Err-Refused.ensures.writes in
-    let means : Means told (Some r) Refused (refusal_text x) 0 = answer w.0 in
+    let text = told_of (is_explained r) x in
+    let means : Means told (Some r) Refused text 0 = answer w.0 in
+    let whole = subst (λ (explains : Bool). IsWritten mid new (told_of explains x) Refused c.refused.result) c.is_explained.ensures c.refused.ensures.whole in
     subst (λ (o : Option Request). Ends told o old new grew c.refused.result) (sym asked)
-    (ends_written told (Some r) old new grew (refusal_text x) Refused c.refused.result tt means w.2
-    (written_after old mid new (refusal_text x) Refused c.refused.result w.1 c.refused.ensures.whole))
+    (ends_written told (Some r) old new grew text Refused c.refused.result tt means w.2
+    (written_after old mid new text Refused c.refused.result w.1 whole))
 
 pub returns-in-Ok-answered-clause-files : goal.returns-in-Ok-answered-clause-files
 returns-in-Ok-answered-clause-files g c =
@@ -100,7 +102,7 @@ returns-in-Err-Refused-clause-files g c =
     subst (λ (h : Halt). UsesFilesFor g.F.Files.told g.F.Files.faults g.F.Files.asked due files after (StopsEarly h) (IsReadFault h)) c.in-Err-Refused.field-0-is c.in-Err-Refused.ensures.files in
     subst (λ (o : Option Request). RunsFor g.F.Files.told g.F.Files.faults g.F.Files.asked o files after c.refused.result) (sym asked)
     (refused_uses g.F.Files.told g.F.Files.faults g.F.Files.asked files after r c.refused.result
-    (written_reads (g.K.Sink.taken c.answered.new.out) (g.K.Sink.taken c.refused.new.out) (refusal_text x) Refused c.refused.result tt c.refused.ensures.whole) uses)
+    (written_reads (g.K.Sink.taken c.answered.new.out) (g.K.Sink.taken c.refused.new.out) (told_of c.is_explained.result x) Refused c.refused.result tt c.refused.ensures.whole) uses)
 
 pub returns-in-Err-ReadFault-clause-ends : goal.returns-in-Err-ReadFault-clause-ends
 returns-in-Err-ReadFault-clause-ends g c =

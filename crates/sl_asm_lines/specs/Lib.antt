@@ -1,0 +1,9 @@
+pub mod Lines
+pub mod Reading
+pub mod Fronts
+pub mod Kept
+pub mod Nexts
+pub mod Patching
+pub mod Steps
+pub mod Readers
+pub mod Patched

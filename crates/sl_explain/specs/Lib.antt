@@ -1,0 +1,4 @@
+pub mod Sentences
+pub mod Rows
+pub mod Facts
+pub mod Errors

@@ -1,0 +1,3 @@
+pub mod Excerpts
+pub mod FactLines
+pub mod Laws
