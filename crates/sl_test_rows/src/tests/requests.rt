@@ -4,10 +4,14 @@ use sl_tool_words::request_of;
 use std::test::Fail;
 
 /// What is printed of a request of each kind.
-static ASKED: [(&[&str], &str); 5] = [
+static ASKED: [(&[&str], &str); 6] = [
     (
         &["sleigh", "check", "--", "-s"],
-        "Some(Check(Text(\"-s\")))",
+        "Some(Check(Text(\"-s\"), false))",
+    ),
+    (
+        &["sleigh", "check", "s", "--explain"],
+        "Some(Check(Text(\"s\"), true))",
     ),
     (
         &["sleigh", "pcode", "s", "i", "a=1", "--hex"],
