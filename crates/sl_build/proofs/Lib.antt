@@ -1,4 +1,5 @@
 pub mod BuiltLemmas
+pub mod FaithfulLemmas
 pub mod FieldLemmas
 pub mod LoopLemmas
 pub mod MakingLemmas

@@ -1,6 +1,7 @@
 //! Lists of decoded instructions.
 
 ghost use Rattle.std.specs.Prelude.{◌≡◌, ◌<◌, ◌^◌, ℕ, List, IfOk, length};
+ghost use Rattle.sl_build.specs.Accepted.{BuildsFaithfully};
 ghost use Rattle.sl_build.specs.Built.{IsBuilt, IsListOf};
 ghost use Rattle.sl_build.specs.Lists.{Lists};
 ghost use Rattle.sl_build.specs.Stands.{StandsFor};
@@ -94,14 +95,16 @@ impl Sections<'_, '_> {
         Ok(list)
     }
 
-    /// The list of a decoded instruction of the specification, or that it is unimplemented. The only
-    /// error is want of memory.
+    /// The list of a decoded instruction of the specification, or that it is unimplemented. The list
+    /// is faithful to the instruction where the specification is accepted. The only error is want of
+    /// memory.
     pub fn build(&self, alloc: Global, of: Decoded<'_>) -> Result<Built, AllocError>
-        ensures { IfOk result (λ built. (s : Specification) (f : Trees Node)
+        ensures built { IfOk result (λ built. (s : Specification) (f : Trees Node)
             → StandsFor self.now s → of.entry.nodes.now ≡ entries 0 f
             → of.entry.values.now ≡ all_values f
             → IsBuilt s (setting_of s.tables of.entry.address of.entry.after)
             of.entry.bytes.now f built) }
+        ensures faithful { IfOk result (BuildsFaithfully self.now of.entry) }
     {
         if has_marked(self.marks.as_slice(), of.nodes) {
             return Ok(Built::Unimplemented);

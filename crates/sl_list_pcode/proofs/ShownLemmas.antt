@@ -5,8 +5,8 @@ use Rattle.std.specs.Prelude.{codes}
 use Rattle.sl_ast.specs.Trees.{Constructor, Item}
 use Rattle.sl_ast.specs.Unfolding.{Placed}
 use Rattle.sl_bind.specs.Binding.{Binds, constructors_of}
-use Rattle.sl_faithful_accepted.specs.Laws.{BoundAreTranslated, IsShort}
-use Rattle.sl_build.specs.Built.{IsBuilt}
+use Rattle.sl_faithful_accepted.specs.Laws.{IsShort}
+use Rattle.sl_build.specs.Accepted.{IsDecodeOf, IsFaithfullyBuilt}
 use Rattle.sl_build.specs.declared.built.Built.{Built}
 use Rattle.sl_build.specs.declared.built.Built.TheVariants.{Ops, Unimplemented}
 use Rattle.sl_decode_choices.specs.Choices.{IsChoiceOf}
@@ -18,9 +18,8 @@ use Rattle.sl_decode_meaning.specs.Actions.{address_bytes}
 use Rattle.sl_decode_meaning.specs.Decoding.{Decoded, decoded}
 use Rattle.sl_decode_meaning.specs.Flat.{all_values, entries}
 use Rattle.sl_decode_meaning.specs.Choices.{Choice}
-use Rattle.sl_decode_meaning.specs.Trees.{Node, Trees}
 use Rattle.sl_decode_meaning.specs.declared.faults.Fault.{Fault}
-use Rattle.sl_meaning_instruction.specs.Instructions.{Specification, setting_of, specification_of}
+use Rattle.sl_meaning_instruction.specs.Instructions.{Specification, specification_of}
 use Rattle.sl_list_instructions.proofs.KeptLemmas.{kept_told}
 use Rattle.sl_list_instructions.proofs.ShowLemmas.{shows_beyond, shows_instruction, shows_mark}
 use Rattle.sl_list_instructions.specs.Instructions.{Listed, Subject, mark_of}
@@ -28,7 +27,6 @@ use Rattle.sl_list_instructions.specs.Kept.{Keeps}
 use Rattle.sl_list_instructions.specs.Lines.{listed_line}
 use Rattle.sl_list_instructions.specs.Told.{told_of}
 use Rattle.sl_list_instructions.specs.Listing.{Image, subject}
-use Rattle.sl_pcode.specs.Operations.{operations as operations_in}
 use Rattle.sl_pcode.specs.declared.print.Names.{Names}
 use Rattle.sl_list_pcode.specs.Listing.{Decodes, IsBehind, Shown, bytes_from, misaligned, operations, undecoded}
 use Rattle.sl_list_pcode.specs.Listing.{unimplemented}
@@ -73,14 +71,10 @@ module _ (items : List Item) (t : Tables) (sizes : List (List Size)) (i : Image)
   }
 
   -- what is built of a decode stands behind its line
-  module _ (law : BoundAreTranslated) (short : IsShort items) (binds : Binds items (Ok (t, sizes)))
-      (chooses : IsChoiceOf t ctors choose) where
-    built_behind : (d : Decoded) → DecodesTo (Ok d) → (built : Built)
-        → IsBuilt of (setting_of t address d.after) bytes d.tree built → Behind (built_lines names built)
-    built_behind d x Unimplemented is = unimplemented x is
-    built_behind d x (Ops list) is =
-        operations x is.0 (law items t sizes choose bytes address x.context d
-        (operations_in list) short binds chooses x.is is.0 is.1.code)
+  built_behind : (d : Decoded) → DecodesTo (Ok d) → (built : Built) → IsFaithfullyBuilt of bytes address d built
+      → Behind (built_lines names built)
+  built_behind d x Unimplemented is = unimplemented x is
+  built_behind d x (Ops list) is = operations x is.implemented is
 
   module _ (line window : List ℕ) (is : window ≡ bytes) where
     pub shown_beyond : (n m : ℕ) (ds : List Commit) → n ≡ t.alignment → m ≡ t.alignment → n ≤ 272 → 1 ≤ address % m
@@ -119,28 +113,33 @@ module _ (items : List Item) (t : Tables) (sizes : List (List Size)) (i : Image)
             (ap (told_of t ctors window) (sym told)) a fits k l d)
             (undecoded (decodes (Err fault) told))
 
-        pub shown_instruction : BoundAreTranslated → IsShort items → Binds items (Ok (t, sizes))
-            → IsChoiceOf t ctors choose
+        pub shown_instruction : IsShort items → Binds items (Ok (t, sizes)) → IsChoiceOf t ctors choose
             → (x : Instruction) → r ≡ Ok x → (count : ℕ) → count ≡ x.length → count ≤ 272
             → line ≡ listed_line (address_bytes t) address (take count window) text
             → (whole : List ℕ)
-            → ((tree : Trees Node) → walk.nodes.items ≡ entries 0 tree → walk.values.items ≡ all_values tree
-            → AppendsBuilt of address x.after window tree names line whole)
+            → ((d : Decoded) → IsDecodeOf items t sizes window address d → x.after ≡ d.after
+            → walk.nodes.items ≡ entries 0 d.tree → walk.values.items ≡ all_values d.tree
+            → AppendsBuilt of window address d names line whole)
             → ShownHere whole count ds
-        shown_instruction law short binds chooses x e count c fits l whole builds =
+        shown_instruction short binds chooses x e count c fits l whole builds =
             let kept = kept_as (Ok x) e in
             let d = kept.0 in
             let k = kept.2 in
-            let made = builds d.tree k.nodes k.values in
-            let is_built : IsBuilt of (setting_of t address d.after) bytes d.tree made.built = subst
-            (λ (seen : List ℕ). IsBuilt of (setting_of t address d.after) seen d.tree made.built) is
-            (subst (λ (after : ℕ). IsBuilt of (setting_of t address after) window d.tree made.built) k.after
-            made.is_built) in record {
+            let made = builds d (record {
+              short = short;
+              binds = binds;
+              choose = choose;
+              chooses = chooses;
+              context = context;
+              decodes = kept.1;
+            }) k.after k.nodes k.values in
+            let is_built = subst (λ (seen : List ℕ). IsFaithfullyBuilt of seen address d made.built) is made.is_built in
+            record {
               line = line;
               behind = built_lines names made.built;
               listed = shows_instruction s at cs line window is context m f aligned most stands
                   (Ok x.length) x.length count text ds refl
                   (kept_told t ctors window outcome x walk text ds kept) c fits l;
-              is_behind = built_behind law short binds chooses d (decodes (Ok d) kept.1) made.built is_built;
+              is_behind = built_behind d (decodes (Ok d) kept.1) made.built is_built;
               is = made.appends;
             }

@@ -4,7 +4,7 @@ use Rattle.sl_ast.specs.Trees.{Item}
 use Rattle.sl_ast.specs.Views.{items_of}
 use Rattle.sl_bind.specs.Binding.{constructors_of}
 use Rattle.sl_faithful_accepted.specs.Laws.{IsShort}
-use Rattle.sl_build.specs.Built.{IsBuilt}
+use Rattle.sl_build.specs.Accepted.{IsFaithfullyBuilt}
 use Rattle.sl_build.specs.Stands as build
 use Rattle.sl_build.specs.declared.built.Built.{Built}
 use Rattle.sl_build.specs.declared.built.Built.TheVariants.{Ops, Unimplemented}
@@ -12,8 +12,8 @@ use Rattle.sl_decode_choices.specs.Choosers.{chosen}
 use Rattle.sl_bind_compile.specs.Compiled.{IsCompiled}
 use Rattle.sl_bind_compile.specs.declared.compiled.Compiled.{Compiled}
 use Rattle.sl_decode_meaning.specs.Choices.{Choice}
-use Rattle.sl_decode_meaning.specs.Trees.{Node, Trees}
-use Rattle.sl_meaning_instruction.specs.Instructions.{Specification, setting_of, specification_of}
+use Rattle.sl_decode_meaning.specs.Decoding.{Decoded}
+use Rattle.sl_meaning_instruction.specs.Instructions.{Specification, specification_of}
 use Rattle.sl_list_instructions.specs.Listings.{Shows}
 use Rattle.sl_list_instructions.specs.Disassemblies as lister
 use Rattle.sl_list_instructions.specs.Listing.{Image, image_from}
@@ -32,10 +32,10 @@ built_lines names Unimplemented = unimplemented_line
 built_lines names (Ops list) = op_lines names (operations list)
 
 -- The lines of what the instruction is built to were appended.
-pub record AppendsBuilt (s : Specification) (address after : ℕ) (bytes : List ℕ) (f : Trees Node)
+pub record AppendsBuilt (s : Specification) (bytes : List ℕ) (address : ℕ) (d : Decoded)
     (names : Names) (old new : List ℕ) : Type 0 where
   pub built : Built
-  pub is_built : IsBuilt s (setting_of s.tables address after) bytes f built
+  pub is_built : IsFaithfullyBuilt s bytes address d built
   pub appends : new ≡ old ++ built_lines names built
 
 -- ---- what translates

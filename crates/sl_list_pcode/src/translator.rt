@@ -3,10 +3,11 @@
 ghost use Rattle.std.specs.Prelude.{◌≡◌, IfOk, OnOk};
 ghost use Rattle.sl_bind_compile.specs.Compiled.{IsCompiled};
 ghost use Rattle.sl_bind_compile.specs.declared.compiled.Compiled.{Compiled as CompiledOf};
+ghost use Rattle.sl_build.specs.Accepted.{IsDecodeOf};
+ghost use Rattle.sl_decode_meaning.specs.Decoding.{Decoded as DecodedOf};
 ghost use Rattle.sl_decode_meaning.specs.Flat.{all_values, entries};
-ghost use Rattle.sl_decode_meaning.specs.Trees.{Node, Trees};
-ghost use Rattle.sl_list_pcode.specs.Ready.{AppendsBuilt, IsTranslatorOf};
-ghost use Rattle.sl_list_pcode.specs.Ready.{specification_of_compiled};
+ghost use Rattle.sl_list_pcode.specs.Ready.{AppendsBuilt, IsTranslatorOf, items_of_compiled};
+ghost use Rattle.sl_list_pcode.specs.Ready.{sizes_of_compiled, specification_of_compiled};
 
 use crate::lines::push_built;
 use crate::names::names_of;
@@ -68,10 +69,12 @@ impl<'t, 'a> Translator<'t, 'a> {
         walk: &Walk,
         out: &mut Vec<u8>,
     ) -> Result<(), AllocError>
-        ensures { OnOk result ((c : CompiledOf) (f : Trees Node) → IsTranslatorOf c self.now
-            → walk.now.nodes.items ≡ entries 0 f → walk.now.values.items ≡ all_values f
-            → AppendsBuilt (specification_of_compiled c) address after bytes.now f
-            self.now.names out.old.items out.new.items) }
+        ensures { OnOk result ((c : CompiledOf) (d : DecodedOf) → IsTranslatorOf c self.now
+            → IsDecodeOf (items_of_compiled c) c.bound.tables (sizes_of_compiled c) bytes.now
+            address d → after ≡ d.after → walk.now.nodes.items ≡ entries 0 d.tree
+            → walk.now.values.items ≡ all_values d.tree
+            → AppendsBuilt (specification_of_compiled c) bytes.now address d self.now.names
+            out.old.items out.new.items) }
     {
         let of = Decoded {
             bytes,

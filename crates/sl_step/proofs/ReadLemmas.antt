@@ -2,22 +2,15 @@
 use Rattle.std.proofs.Common.{◌≡◌, ℕ, List, [], map, Result, Ok, Err, refl, sym, ap, subst}
 use Rattle.std.specs.Prelude.{ℤ}
 use Rattle.sl_ast.specs.Views.{items_of}
-use Rattle.sl_faithful_accepted.specs.Laws.{BoundAreTranslated}
-use Rattle.sl_build.specs.Built.{IsBuilt}
-use Rattle.sl_build.specs.Stands as sections
+use Rattle.sl_build.specs.Accepted.{IsDecodeOf, IsFaithfullyBuilt}
 use Rattle.sl_build.specs.declared.built.Built.{Built}
 use Rattle.sl_build.specs.declared.built.Built.TheVariants.{Ops, Unimplemented}
-use Rattle.sl_faithful_code.specs.Nodes.{node_code, top_of}
-use Rattle.sl_faithful_code.specs.Operations.{operation_of}
 use Rattle.sl_decode_contexts.specs.declared.commits.Commit.{Commit}
 use Rattle.sl_decode.specs.Walks.{Walked, walk_of, walked}
 use Rattle.sl_decode_meaning.specs.Decoding.{Decoded, decoded}
 use Rattle.sl_decode_meaning.specs.Flat.{all_values, entries}
-use Rattle.sl_decode_meaning.specs.TreeCounts.{count}
-use Rattle.sl_decode_meaning.specs.Trees.{Node, Trees}
 use Rattle.sl_decode_meaning.specs.declared.entries.Entry.{Entry}
 use Rattle.sl_decode_meaning.specs.declared.faults.Fault.{Fault}
-use Rattle.sl_meaning_instruction.specs.Instructions.{Specification, instruction, setting_of}
 use Rattle.sl_pcode.specs.Operations.{operations}
 use Rattle.sl_pcode.specs.declared.list.OpList.{OpList}
 use Rattle.sl_step.specs.Stages.{IsRead, IsUnimplemented}
@@ -65,12 +58,13 @@ walked_by (Err fault) n after nodes values commits is = absurd (cc)
 
 -- ---- what is built of it
 
--- what was built of these nodes is what is built of their tree
+-- what was built of these nodes is what is built of their decode
 abbrev pub BuiltTo : (x : Stepper) (bytes : List ℕ) (address after : ℕ) (nodes : List Entry) (values : List ℤ) → Built
     → Type 0
-BuiltTo x bytes address after nodes values built = (s : Specification) (f : Trees Node)
-    → sections.StandsFor x.sections s → nodes ≡ entries 0 f → values ≡ all_values f
-    → IsBuilt s (setting_of s.tables address after) bytes f built
+BuiltTo x bytes address after nodes values built = (d : Decoded)
+    → IsDecodeOf (items_of x.compiled.now.bound.spec) (specification_in x).tables (specification_in x).sizes bytes address d
+    → after ≡ d.after → nodes ≡ entries 0 d.tree → values ≡ all_values d.tree
+    → IsFaithfullyBuilt (specification_in x) bytes address d built
 
 module _ (x : Stepper) (stands : StandsFor x) (bytes : List ℕ) (address context n after : ℕ) (nodes : List Entry)
     (values : List ℤ) (commits : List Commit)
@@ -80,24 +74,30 @@ module _ (x : Stepper) (stands : StandsFor x) (bytes : List ℕ) (address contex
       context) after nodes values commits
   w = walked_by _ n after nodes values commits is
 
-  pub read_list : BoundAreTranslated → (list : OpList) → BuiltTo x bytes address after nodes values (Ops list)
+  built_of : (built : Built) → BuiltTo x bytes address after nodes values built
+      → IsFaithfullyBuilt (specification_in x) bytes address w.told built
+  built_of built builds = builds w.told (record {
+    short = stands.short;
+    binds = stands.compiled.binds;
+    choose = choice_in x;
+    chooses = stands.decodes.chooses;
+    context = context;
+    decodes = w.decodes;
+  }) w.after_is w.nodes_are w.values_are
+
+  pub read_list : (list : OpList) → BuiltTo x bytes address after nodes values (Ops list)
       → (read : IsRead (specification_in x) (choice_in x) bytes address context commits after (operations list))
       × (nodes ≡ entries 0 read.told.tree)
   unfolding w
-  read_list law list built =
-      let b = built (specification_in x) w.told.tree stands.builds w.nodes_are w.values_are in (
+  read_list list builds =
+      let faithful = built_of (Ops list) builds in (
         record {
           told = w.told;
           decodes = w.decodes;
           after_is = w.after_is;
           commits_are = w.commits_are;
-          implemented = b.0;
-          faithful = law (items_of x.compiled.now.bound.spec) (specification_in x).tables (specification_in x).sizes
-              (choice_in x) bytes address context w.told (operations list)
-              stands.short stands.compiled.binds stands.decodes.chooses w.decodes b.0
-              (subst (λ (a : ℕ). map operation_of (operations list)
-              ≡ node_code (top_of (count w.told.tree)) (setting_of (specification_in x).tables address a)
-              (instruction (specification_in x) bytes w.told.tree)) w.after_is b.1.code);
+          implemented = faithful.implemented;
+          faithful = faithful;
         },
         w.nodes_are,
       )
@@ -105,8 +105,8 @@ module _ (x : Stepper) (stands : StandsFor x) (bytes : List ℕ) (address contex
   pub read_unimplemented : BuiltTo x bytes address after nodes values Unimplemented
       → IsUnimplemented (specification_in x) (choice_in x) bytes address context
   unfolding w
-  read_unimplemented built = record {
+  read_unimplemented builds = record {
     told = w.told;
     decodes = w.decodes;
-    marked = built (specification_in x) w.told.tree stands.builds w.nodes_are w.values_are;
+    marked = built_of Unimplemented builds;
   }

@@ -1,7 +1,6 @@
 use Rattle.std.proofs.Common.{◌≤◌, ◌+◌, ◌-◌, ◌%◌, ◌∙◌, ap, arith, List, ℕ, rules, subst, sym, take}
 use Rattle.std.specs.Prelude.{codes}
 use Rattle.sl_bind.specs.Binding.{constructors_of}
-use Rattle.sl_faithful_accepted.proofs.Translations.{bound_are_translated}
 use Rattle.sl_decode_choices.specs.Choosers.{chosen}
 use Rattle.sl_decode_choices.specs.declared.choosers.Choosers.{Choosers}
 use Rattle.sl_decode.specs.Disassemblers.{StandsFor}
@@ -57,13 +56,13 @@ returns-in_ok-push_lines-in-Ok-clause-shown c cs stands =
     c.put_line-in-Ok.new.line.items window c.window_at-window.ensures context c.from.result c.from.ensures
     c.if-beyond-gt0.false c.at-context.type_inv (c.at-context.ensures _ cs stands)
     c.decode.new.walk c.decode.new.text.items c.decode.new.commits.items c.in_ok-instruction.field-0 keeps
-    bound_are_translated c.requires.ready.short c.requires.ready.compiled.binds is.disassembles.chooses c.in-Ok.instruction
+    c.requires.ready.short c.requires.ready.compiled.binds is.disassembles.chooses c.in-Ok.instruction
     c.in-Ok.is count c.in_ok-count-in-Ok.ensures.same fits
     (c.in_ok-put_line-in-Ok.ensures
     ∙ ap (λ (n : ℕ). listed_line n address (take count window) c.as_slice.result.now) c.address_size-size.ensures
     ∙ ap (λ (text : List ℕ). listed_line (address_bytes t) address (take count window) text) c.as_slice.ensures.value)
     c.push_lines.new.out.items
-    (λ tree nodes values. c.in_ok-push_lines-in-Ok.ensures k tree is nodes values)
+    (λ d decode after nodes values. c.in_ok-push_lines-in-Ok.ensures k d is decode after nodes values)
 
 pub returns-in_ok-put_line-in-Err-clause-shown : goal.returns-in_ok-put_line-in-Err-clause-shown
 returns-in_ok-put_line-in-Err-clause-shown c cs stands =
