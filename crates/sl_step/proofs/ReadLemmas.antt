@@ -80,7 +80,7 @@ module _ (x : Stepper) (stands : StandsFor x) (bytes : List ℕ) (address contex
     short = stands.short;
     binds = stands.compiled.binds;
     choose = choice_in x;
-    chooses = stands.decodes.chooses;
+    chooses = stands.chooses;
     context = context;
     decodes = w.decodes;
   }) w.after_is w.nodes_are w.values_are

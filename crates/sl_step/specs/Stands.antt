@@ -3,12 +3,13 @@ use Rattle.std.specs.Prelude.{◌≡◌, position, Some}
 use Rattle.sl_ast.specs.Views.{items_of}
 use Rattle.sl_faithful_accepted.specs.Laws.{IsShort}
 use Rattle.sl_build.specs.Stands as sections
+use Rattle.sl_decode.specs.Disassemblers as disassembler
+use Rattle.sl_decode_choices.specs.Choices.{IsChoiceOf}
 use Rattle.sl_decode_choices.specs.Choosers.{chosen}
 use Rattle.sl_bind_compile.specs.Compiled.{IsCompiled}
 use Rattle.sl_decode_meaning.specs.Actions.{address_bytes}
 use Rattle.sl_decode_meaning.specs.Choices.{Choice}
 use Rattle.sl_meaning_instruction.specs.Instructions.{Specification, specification_of}
-use Rattle.sl_list_instructions.specs.Disassemblies as disassembly
 use Rattle.sl_faithful_reach.specs.DecodeLaws.{TokensAreShort}
 use Rattle.sl_section_sizes.specs.Sizings.{lists_of}
 use Rattle.sl_step.specs.declared.stepper.Stepper.{Stepper}
@@ -20,15 +21,17 @@ specification_in x = specification_of (items_of x.compiled.now.bound.spec)
 
 -- which constructor is chosen
 abbrev pub choice_in : Stepper → Choice
-choice_in x = chosen x.disassembly.disassembler.choosers
+choice_in x = chosen x.disassembler.choosers
 
 -- It decodes and builds the instructions of a specification that is accepted, and chooses the most
 -- specific constructors.
 pub record StandsFor (x : Stepper) : Type 0 where
   pub short : IsShort (items_of x.compiled.now.bound.spec)
   pub compiled : IsCompiled x.compiled.now
-  pub decodes : disassembly.StandsFor x.disassembly (specification_in x).tables
+  pub decodes : disassembler.StandsFor x.disassembler (specification_in x).tables
       (specification_in x).constructors
+  pub chooses : IsChoiceOf (specification_in x).tables (specification_in x).constructors
+      (choice_in x)
   pub tokens : TokensAreShort (specification_in x).tables
   pub builds : sections.StandsFor x.sections (specification_in x)
   pub space : position (λ z. z.default) (specification_in x).tables.spaces ≡ Some x.space.0

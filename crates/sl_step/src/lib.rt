@@ -2,6 +2,7 @@
 #![tactic(auto)]
 
 mod buffers;
+mod decoder;
 mod error;
 mod instruction;
 mod machine;

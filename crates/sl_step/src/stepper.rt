@@ -11,6 +11,7 @@ ghost use Rattle.sl_step.specs.Windows.{window_in};
 ghost use Rattle.sl_word.specs.Bytes.{address_sizes};
 
 use crate::buffers::StepBuffers;
+use crate::decoder::decoder_of;
 use crate::error::StepError;
 use crate::instruction::{Instruction, Listed};
 use crate::sight::sight_of;
@@ -18,9 +19,9 @@ use crate::spaces::default_space;
 use crate::window::{WINDOW, window_at};
 use sl_bind_compile::Compiled;
 use sl_build::{Built, Decoded, Sections};
-use sl_decode::{DecodeError, Walk, address_size};
+use sl_decode::{DecodeError, Disassembler, Walk, address_size};
+use sl_decode_choices::Choosers;
 use sl_faithful_reach::tokens_are_short;
-use sl_list_instructions::Disassembly;
 use sl_word::{AddressSize, SpaceId, State};
 use std::alloc::{AllocError, Global};
 use std::rc::Rc;
@@ -29,7 +30,7 @@ use std::rc::Rc;
 #[derive(Drop)]
 pub struct Stepper<'t, 'a> {
     pub compiled: &'t Compiled<'a>,
-    pub(crate) disassembly: Disassembly<'t, 'a>,
+    pub(crate) disassembler: Disassembler<'t, 'a, Choosers>,
     pub(crate) sections: Sections<'t, 'a>,
     /// The default space, and the size of its addresses.
     pub(crate) space: SpaceId,
@@ -45,14 +46,14 @@ impl<'t, 'a> Stepper<'t, 'a> {
         ensures stands { IfOk result StandsFor }
     {
         let tables = &compiled.bound.tables;
-        let disassembly = Disassembly::new(alloc, compiled)?;
+        let disassembler = decoder_of(alloc, compiled)?;
         let sections = Sections::new(alloc, &compiled.bound)?;
         let space = default_space(tables)?;
         let size = address_size(tables);
         tokens_are_short(tables);
         Ok(Stepper {
             compiled,
-            disassembly,
+            disassembler,
             sections,
             space,
             size,
@@ -73,8 +74,7 @@ impl<'t, 'a> Stepper<'t, 'a> {
         ensures { Reads (specification_in self.now) (choice_in self.now) bytes.now address context
             walk.new.nodes.items walk.new.commits.items result }
     {
-        let disassembler = &self.disassembly.disassembler;
-        let after = match disassembler.decode_into(bytes, address, context, walk) {
+        let after = match self.disassembler.decode_into(bytes, address, context, walk) {
             Ok(instruction) => instruction.after,
             Err(DecodeError::Fault(fault)) => return Err(StepError::Decode(fault)),
             Err(DecodeError::NoMemory) => return Err(StepError::NoMemory),

@@ -12,7 +12,7 @@ returns g c =
     executes_by c.args.compiled.now x.compiled.now c.in_ok-stepper.ensures.compiled i c.args.steps
     (g.R.Runner.count c.args.runner.now) (g.R.Runner.count c.run_steps.new.runner)
     (record { machine = c.run_steps.new.machine; ran = c.in_ok-ran.ran; fault = c.in_ok-ran.fault })
-    (choice_in x) c.in_ok-stepper.ensures.stands.decodes.chooses
+    (choice_in x) c.in_ok-stepper.ensures.stands.chooses
     (c.in_ok-ran.ensures.runs c.args.start (opened c.args.compiled.now.bound.tables i)
     (record { memory = c.in_ok-state.ensures.memory c.args.start; counter = refl; contexts = c.new-contexts.ensures }))
     c.in_ok-ran.ensures.fits

@@ -12,7 +12,7 @@ returns-in-Ok-Ops c =
     let walk = c.decode_into.new.walk in
     read_list x c.requires.stands c.args.bytes.now c.args.address c.args.context
     c.in-Ok.instruction.length c.in-Ok.instruction.after walk.nodes.items walk.values.items walk.commits.items
-    (c.in-Ok.ensures s.tables s.constructors c.requires.stands.decodes.decodes) c.in-Ok-Ops.ops
+    (c.in-Ok.ensures s.tables s.constructors c.requires.stands.decodes) c.in-Ok-Ops.ops
     (subst (λ (b : Built). BuiltTo x c.args.bytes.now c.args.address c.in-Ok.instruction.after
     walk.nodes.items walk.values.items b) c.in-Ok-Ops.field-0-is
     (λ d decode after nodes values. c.in-Ok-Ops.ensures.faithful (items_of x.compiled.now.bound.spec) s.tables s.sizes d
@@ -29,7 +29,7 @@ returns-in-Ok-Unimplemented c =
     let walk = c.decode_into.new.walk in
     read_unimplemented x c.requires.stands c.args.bytes.now c.args.address c.args.context
     c.in-Ok.instruction.length c.in-Ok.instruction.after walk.nodes.items walk.values.items walk.commits.items
-    (c.in-Ok.ensures s.tables s.constructors c.requires.stands.decodes.decodes)
+    (c.in-Ok.ensures s.tables s.constructors c.requires.stands.decodes)
     (subst (λ (b : Built). BuiltTo x c.args.bytes.now c.args.address c.in-Ok.instruction.after
     walk.nodes.items walk.values.items b) c.in-Ok-Unimplemented.field-0-is
     (λ d decode after nodes values. c.in-Ok-Unimplemented.ensures.faithful (items_of x.compiled.now.bound.spec) s.tables
