@@ -7,7 +7,7 @@ _sleigh_options() {
     gaps) echo "--packed" ;;
     list | pcode) echo "--packed --base --hex" ;;
     run) echo "--packed --base --hex --steps" ;;
-    asm) echo "--packed --base --actions" ;;
+    asm) echo "--packed --base --actions --lines" ;;
     esac
 }
 
@@ -40,7 +40,7 @@ _sleigh() {
         mapfile -t COMPREPLY < <(compgen -f -- "$current")
     elif [ "$names" -eq 0 ]; then
         mapfile -t COMPREPLY < <(compgen -f -X '!*.slaspec' -- "$current"; compgen -d -- "$current")
-    elif [[ " list pcode run " == *" $command "* ]]; then
+    elif [[ " list pcode run " == *" $command "* || "$command ${COMP_WORDS[*]} " == "asm "*" --lines "* ]]; then
         mapfile -t COMPREPLY < <(compgen -f -- "$current")
     fi
 }

@@ -6,3 +6,6 @@ mod PatchLemmas
 mod ItselfLemmas
 mod EncoderLemmas
 mod PatchedLemmas
+mod UniqueLemmas
+pub mod OutcomeLemmas
+pub mod LawLemmas

@@ -66,7 +66,7 @@ keeps_more image bytes text kept lines x new more k image_is lines_are shape = r
 
 -- ---- the next line
 
-begins_more : (size : ℕ) (text : List ℕ) (base address : ℕ) (lines : List Line) (rest : List ℕ) (l : Line) (more : List ℕ) → BeginsBy size text base lines rest
+pub begins_more : (size : ℕ) (text : List ℕ) (base address : ℕ) (lines : List Line) (rest : List ℕ) (l : Line) (more : List ℕ) → BeginsBy size text base lines rest
     → IsFront size rest address l more → CanFollow size base lines address l → BeginsBy size text (base_after lines base address) (lines ++ l ∷ []) more
 begins_more size text base address [] rest l more b f c = record {
   is = b.is ∙ f.is ∙ ap (λ (xs : List ℕ). xs ++ more) (sym (append-none (line_text size address l)));

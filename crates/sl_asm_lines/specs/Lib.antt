@@ -7,3 +7,4 @@ pub mod Patching
 pub mod Steps
 pub mod Readers
 pub mod Patched
+pub mod Laws

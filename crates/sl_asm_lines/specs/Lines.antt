@@ -1,4 +1,4 @@
--- view: the lines of a listing, and the text that they make.
+-- meaning: the lines of a listing, and the text that they make.
 use Rattle.std.specs.Prelude.{◌≢◌, ℕ, ◌+◌, ◌<◌, ◌≤◌, List, [], ◌∷◌, ◌++◌, length}
 use Rattle.std.specs.List.{All}
 use Rattle.sl_asm_encodings.specs.Encodings.{most_encoded}

@@ -1,7 +1,7 @@
--- view: what the text of an edited listing comes to.
-use Rattle.std.specs.Prelude.{◌≡◌, ℕ, List}
-use Rattle.sl_asm_lines.specs.Lines.{Line, bytes_of}
-use Rattle.sl_asm_lines.specs.Patching.{HasNoEncoding, IsPatched, IsUndecided, ListsItself}
+-- meaning: what the text of an edited listing comes to.
+use Rattle.std.specs.Prelude.{◌≡◌, ℕ, ◌⊎◌, List}
+use Rattle.sl_asm_lines.specs.Lines.{Line, bytes_of, text_from}
+use Rattle.sl_asm_lines.specs.Patching.{AreAlike, HasNoEncoding, IsPatched, IsUndecided, ListsItself}
 use Rattle.sl_asm_lines.specs.Reading.{IsBadAddress, IsBadLine, IsRead}
 use Rattle.sl_asm_lines.specs.declared.faults.LineFault.{LineFault}
 use Rattle.sl_asm_lines.specs.declared.faults.LineFault.TheVariants.{BadAddress, BadLine, NoEncoding, Undecided}
@@ -11,6 +11,7 @@ use Rattle.sl_decode_choices.specs.Choices.{IsChoiceOf}
 use Rattle.sl_decode_meaning.specs.Actions.{address_bytes}
 use Rattle.sl_decode_meaning.specs.Choices.{Choice}
 use Rattle.sl_list_instructions.specs.Instructions.{DecodeFunction}
+use Rattle.sl_list_instructions.specs.Listing.{IsListing, image_from}
 use Rattle.sl_list_instructions.specs.Told.{tells}
 use Rattle.sl_spec.specs.declared.tables.Tables.{Tables}
 
@@ -60,3 +61,26 @@ module _ (t : Tables) (cs : List (Placed Constructor)) (start : ℕ) (text : Lis
     pub choose : Choice
     pub is_choice : IsChoiceOf t cs choose
     pub fails : TextFails (tells t cs choose) (address_bytes t) t.alignment start text number fault
+
+  -- The text is read as lines, and the listing of their bytes has just these.
+  pub record IsUnedited : Type 0 where
+    pub choose : Choice
+    pub is_choice : IsChoiceOf t cs choose
+    pub base : ℕ
+    pub lines : List Line
+    pub is_read : IsRead (address_bytes t) text base lines
+    pub lists : ListsItself (tells t cs choose) (address_bytes t) t.alignment start base lines
+
+  -- What comes of the text: an image, or a line that is at fault.
+  abbrev pub Outcome : Type 0
+  Outcome = ((image : List ℕ) × Gives image) ⊎ ((number : ℕ) × (fault : LineFault) × Fails number fault)
+
+  -- The listing of the image from the address of the text's first line on has lines with the addresses,
+  -- the numbers of bytes and the texts that the lines of the text have.
+  pub record ListsAlike (image : List ℕ) : Type 0 where
+    pub base : ℕ
+    pub lines : List Line
+    pub new : List Line
+    pub is_read : IsRead (address_bytes t) text base lines
+    pub alike : AreAlike new lines
+    pub lists : IsListing t cs (image_from image base start) (text_from (address_bytes t) base new)

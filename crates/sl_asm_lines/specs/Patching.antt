@@ -1,4 +1,4 @@
--- view: how the lines of an edited listing are given their bytes.
+-- meaning: how the lines of an edited listing are given their bytes.
 use Rattle.std.specs.Prelude.{◌≡◌, ℕ, ◌+◌, ◌<◌, ◌^◌, List, [], ◌∷◌, ◌++◌, length, map}
 use Rattle.sl_asm_encodings.specs.Encodings.{IsEncoding}
 use Rattle.sl_asm_lines.specs.Lines.{Line, bytes_of, line_text, shape_of}

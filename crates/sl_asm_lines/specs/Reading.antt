@@ -1,4 +1,4 @@
--- view: what the text of a listing is read as, line by line.
+-- meaning: what the text of a listing is read as, line by line.
 use Rattle.std.specs.Prelude.{◌≡◌, ◌≢◌, ℕ, ◌+◌, ◌<◌, ◌≤◌, ◌^◌, List, [], ◌∷◌, ◌++◌, length}
 use Rattle.std.specs.List.{All}
 use Rattle.sl_asm_lines.specs.Lines.{IsLine, Line, bytes_of, line_text, text_from}

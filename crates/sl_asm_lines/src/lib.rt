@@ -4,6 +4,7 @@
 mod encoding;
 mod faults;
 mod front;
+pub mod laws;
 mod lines;
 mod listing;
 mod patching;

@@ -1,6 +1,6 @@
 -- A packed specification is answered as the specification itself.
-use Rattle.std.proofs.Common.{◌≡◌, ℕ, ◌≤◌, List, length, Option, Some, Result, Ok, Err, refl, sym, ap, subst, ◌∙◌, Bool, true, false, true≢false, inl, inr}
-use Rattle.std.specs.Prelude.{if◌then◌else◌}
+use Rattle.std.proofs.Common.{◌≡◌, ℕ, ◌≤◌, List, length, Option, Some, Result, Ok, Err, refl, sym, ap, subst, ◌∙◌, ◌<◌, Bool, inl, inr, arith}
+use Rattle.std.proofs.lemmas.Option.{slice_get_cases}
 use Rattle.sl_ast.specs.Trees.{Item}
 use Rattle.sl_outside.specs.Folder.{Folder, size_limit}
 use Rattle.sl_bind.specs.Verdict.{taken}
@@ -10,14 +10,17 @@ use Rattle.sl_list_instructions.specs.Listing.{Image}
 use Rattle.sl_store.proofs.StoreLaws.{one_to_one}
 use Rattle.sl_store_format.specs.Packed.{Packed, items_count}
 use Rattle.sl_store_write.specs.Packs.{IsFileOf}
-use Rattle.sl_tool_request.specs.Requests.{PackedFile, SpecFile, Target, TextFile, Assembly}
-use Rattle.sl_tool.specs.Answers.{Answers, Shows, counts_of, gaps_of, shows_of, Follows}
+use Rattle.sl_asm_encodings.specs.Encodings.{HasAction}
+use Rattle.sl_bind_compile.specs.Outcomes.{all_constructors}
+use Rattle.sl_tool_request.specs.Requests.{Assembly, PackedFile, Patch, SpecFile, Target, TextFile}
+use Rattle.sl_tool.specs.Answers.{Answers, Shows, counts_of, gaps_of, shows_of}
 use Rattle.sl_tool.specs.Endings.{Shown}
 use Rattle.sl_tool.specs.Laws.{PackedIsAlike, over}
-use Rattle.sl_tool.specs.Request.{CheckSpec, Generate, PackSpec, ReportGaps, Request, Show, ShowImage, Listing, Operations, Run, AssembleText}
+use Rattle.sl_tool.specs.Request.{AssembleText, CheckSpec, Generate, PackSpec, PatchListing, ReportGaps, Request, Show, ShowImage, Listing, Operations, Run}
 use Rattle.sl_tool_stages.specs.ItemLines.{files_in, lines_in}
 use Rattle.sl_tool.specs.Assembled.{Assembles, Finds}
-use Rattle.sl_tool_stages.specs.Assembling.{Bases, Begins, Opens}
+use Rattle.sl_tool.specs.Patched.{Patches, PatchesFile, PatchesText}
+use Rattle.sl_tool_stages.specs.Assembling.{Bases, Begins, BeginsLines, Opens, Permits}
 use Rattle.sl_tool_stages.specs.Packing.{packed_form_of}
 use Rattle.sl_tool_stages.specs.Places.{place_of_ctor}
 use Rattle.sl_tool_stages.specs.Problems.{refusal_at}
@@ -25,14 +28,14 @@ use Rattle.sl_tool_stages.specs.Stage.{HasOneResult, Stage, Then}
 use Rattle.sl_tool_stages.specs.Stage.Then.{goes, stops}
 use Rattle.sl_tool_stages.specs.Stages.{Loads, Specifies}
 use Rattle.sl_tool_stages.specs.Stages.Reads.{of_packed}
-use Rattle.sl_tool_stages.specs.Values.{Compiled, Origin, InText, Stored, Tree, compiled, loaded, tree, Loaded}
+use Rattle.sl_tool_stages.specs.Values.{Compiled, Origin, InText, Stored, Tree, compiled, loaded, tree}
 use Rattle.sl_tool_stages.specs.declared.place.Place.{Place}
 use Rattle.sl_tool_stages.specs.declared.problem.Problem.TheVariants.{HasActions}
 use Rattle.sl_tool_stages.specs.declared.refusal.Refusal.{Refusal}
-use Rattle.sl_tool.proofs.GapAlikeLemmas.{gaps_alike}
+use Rattle.sl_tool.proofs.GapAlikeLemmas.{ctor_alike, gaps_alike, there as ctor_there}
 use Rattle.sl_tool_stages.proofs.ReadLemmas.{specified}
 use Rattle.sl_tool_stages.proofs.StageLemmas.{specifies_one}
-use Rattle.sl_tool_stages.proofs.Thens.{not_both, ok_is}
+use Rattle.sl_tool_stages.proofs.Thens.{none_is, not_both, ok_is}
 
 -- from two values that the first stage takes to values of which the second makes the same
 alike_then : {E A B C : Type 0} (S : Stage E A B) (T U : Stage E B C) (a b : A) (c d : B) → HasOneResult S → S a (Ok c) → S b (Ok d)
@@ -63,44 +66,76 @@ module _ (o q : Origin) (items : List Item) (b : spec.Tables) where
       goes {b = loaded (compiled (tree q items) b) l.image} (refl, j.1)
       (shows_same what l.image x (subst (λ (c : Compiled). Shows (shows_of what) (loaded c l.image) x) j.0 k))
 
--- ---- a text that is assembled
+-- ---- what is assembled
 
-module _ (o q : Origin) (items : List Item) (b : spec.Tables) (a : Assembly) (f g : SpecFile) where
-  abbrev first : Assembly
-  first = record a { spec = f }
-
-  abbrev second : Assembly
-  second = record a { spec = g }
-
+module _ (o q : Origin) (items : List Item) (b : spec.Tables) where
   abbrev here : Compiled
   here = compiled (tree o items) b
 
   abbrev there : Compiled
   there = compiled (tree q items) b
 
-  -- where a constructor is told, it has the same place
-  abbrev SamePlaces : Type 0
-  SamePlaces = a.takes_actions ≡ false → (ctor : ℕ) → place_of_ctor here ctor ≡ place_of_ctor there ctor
+  -- a constructor that has an action has the same place
+  abbrev pub SamePlaces : Type 0
+  SamePlaces = (ctor : ℕ) → HasAction (all_constructors items) ctor → place_of_ctor here ctor ≡ place_of_ctor there ctor
 
-  bases_same : (e : Refusal) → Bases first here (Err e) → Bases second there (Err e)
-  bases_same e h = h
+  module _ (same : SamePlaces) where
+    permits_same : (takes_actions : Bool) (e : Refusal) → Permits takes_actions here (Err e) → Permits takes_actions there (Err e)
+    permits_same takes_actions e j = (j.0, j.1, j.2, j.3 ∙ ap (λ (p : Place). refusal_at p HasActions) (same j.0 j.2.0))
 
-  begins_same : SamePlaces → (x : Result ℕ Refusal) → Begins first here x → Begins second there x
-  begins_same same x (stops (stops j)) = stops (stops (j.0, j.1, j.2, j.3 ∙ ap (λ (p : Place). refusal_at p HasActions) (same j.1 j.0)))
-  begins_same same (Err e) (stops (goes {b = c} j k)) =
-      stops (goes {b = there} (refl, j.1) (bases_same e (subst (λ (c : Compiled). Bases first c (Err e)) j.0 k)))
-  begins_same same x (goes {b = d} (goes {b = c} j k) l) =
-      let based = subst (λ (c : Compiled). Bases first c (Ok d)) j.0 k in
-      goes {b = there} (goes {b = there} (refl, j.1) (refl, based.1, based.2)) (subst (λ (c : Compiled). Opens first c x) (k.0 ∙ j.0) l)
+    -- ---- a text
 
-  finds_same : (context : ℕ) (x : Result Shown Refusal) → Finds first here context x → Finds second there context x
-  finds_same context (Ok s) k =
-      record { ending = k.ending; text = record { bytes = k.text.bytes; encodes = k.text.encodes; is_line = k.text.is_line }; ran = k.ran }
-  finds_same context (Err x) k = k
+    module _ (a : Assembly) (f g : SpecFile) where
+      abbrev first : Assembly
+      first = record a { spec = f }
 
-  assembles_same : SamePlaces → (x : Result Shown Refusal) → Assembles first here x → Assembles second there x
-  assembles_same same x (stops {e = e} j) = stops (begins_same same (Err e) j)
-  assembles_same same x (goes {b = context} j k) = goes (begins_same same (Ok context) j) (finds_same context x k)
+      abbrev second : Assembly
+      second = record a { spec = g }
+
+      bases_same : (e : Refusal) → Bases first here (Err e) → Bases second there (Err e)
+      bases_same e h = h
+
+      begins_same : (x : Result ℕ Refusal) → Begins first here x → Begins second there x
+      begins_same x (stops (stops {e = e} j)) = stops (stops (permits_same a.takes_actions e j))
+      begins_same (Err e) (stops (goes {b = c} j k)) =
+          stops (goes {b = there} (refl, j.1) (bases_same e (subst (λ (c : Compiled). Bases first c (Err e)) j.0 k)))
+      begins_same x (goes {b = d} (goes {b = c} j k) l) =
+          let based = subst (λ (c : Compiled). Bases first c (Ok d)) j.0 k in
+          goes {b = there} (goes {b = there} (refl, j.1) (refl, based.1, based.2)) (subst (λ (c : Compiled). Opens a.context c x) (k.0 ∙ j.0) l)
+
+      finds_same : (context : ℕ) (x : Result Shown Refusal) → Finds first here context x → Finds second there context x
+      finds_same context (Ok s) k =
+          record { ending = k.ending; text = record { bytes = k.text.bytes; encodes = k.text.encodes; is_line = k.text.is_line }; ran = k.ran }
+      finds_same context (Err x) k = k
+
+      pub assembles_same : (x : Result Shown Refusal) → Assembles first here x → Assembles second there x
+      assembles_same x (stops {e = e} j) = stops (begins_same (Err e) j)
+      assembles_same x (goes {b = context} j k) = goes (begins_same (Ok context) j) (finds_same context x k)
+
+    -- ---- an edited listing
+
+    module _ (told : Option Folder) (p : Patch) (f g : SpecFile) where
+      abbrev patch_first : Patch
+      patch_first = record p { spec = f }
+
+      abbrev patch_second : Patch
+      patch_second = record p { spec = g }
+
+      begins_lines_same : (x : Result ℕ Refusal) → BeginsLines patch_first here x → BeginsLines patch_second there x
+      begins_lines_same x (stops {e = e} j) = stops (permits_same p.takes_actions e j)
+      begins_lines_same x (goes {b = c} j k) = goes {b = there} (refl, j.1) (subst (λ (c : Compiled). Opens p.context c x) j.0 k)
+
+      patched_same : (text : List ℕ) (start : ℕ) (x : Result Shown Refusal) → Patches patch_first here text start x → Patches patch_second there text start x
+      patched_same text start (Ok s) k = k
+      patched_same text start (Err x) k = k
+
+      text_same : (text : List ℕ) (x : Result Shown Refusal) → PatchesText patch_first here text x → PatchesText patch_second there text x
+      text_same text x (stops {e = e} j) = stops (begins_lines_same (Err e) j)
+      text_same text x (goes {b = start} j k) = goes (begins_lines_same (Ok start) j) (patched_same text start x k)
+
+      pub patches_same : (x : Result Shown Refusal) → PatchesFile told patch_first here x → PatchesFile told patch_second there x
+      patches_same x (stops j) = stops j
+      patches_same x (goes {b = text} j k) = goes j (text_same text x k)
 
 -- ---- the file of a specification
 
@@ -151,25 +186,24 @@ module _ (folder : Folder) (main name bytes : List ℕ) (c : Compiled) (sound : 
       ap (λ (xs : List Item). tree stored xs) (sym (form_items c.tree)) in
       goes {b = opened_spec.tree} (of_packed (goes (there, small) (form, file, is))) (refl, (specified (Some folder) (TextFile main) c sound).compiles)
 
-  -- the request to assemble a text, over a file where actions are taken
-  abbrev assembled_over : Assembly → Bool → SpecFile → Request
-  assembled_over a takes_actions file = if takes_actions then AssembleText (record a { spec = file }) else AssembleText a
+  -- a constructor that has an action is one of the specification's
+  with_action : (o q : Origin) (files : files_in o ≡ files_in q) (lines : lines_in o c.tree.items ≡ lines_in q c.tree.items)
+      → length (lines_in o c.tree.items) ≡ items_count c.tree.items → SamePlaces o q c.tree.items c.tables
+  with_action o q files lines as_many ctor has =
+      let cs = all_constructors c.tree.items in
+      let counted = (accepted c.tree.items c.tables (specified (Some folder) (TextFile main) c sound).compiles).stand.listed.counted in
+      let within : ctor < length cs = elim ((slice_get_cases cs ctor).1) [
+        | inl (d, within, is, same) ↦ within
+        | inr (past, none) ↦ absurd (none_is has.0 (sym none ∙ has.1))
+      ] in
+      let of = ctor_there o q c.tree.items c.tables keeps_rules files lines as_many ctor (omega (arith, within, counted)) in
+      ctor_alike o q c.tree.items c.tables keeps_rules files lines as_many ctor of.0 of.1
 
-  assembled_forth : (a : Assembly) (t : Bool) → a.takes_actions ≡ t → (x : Result Shown Refusal)
-      → Answers (Some folder) (assembled_over a t (TextFile main)) x → Answers (Some folder) (assembled_over a t (PackedFile name)) x
-  assembled_forth a false is x h = h
-  assembled_forth a true is x h =
-      alike_then (Specifies (Some folder)) (Assembles (record a { spec = TextFile main })) (Assembles (record a { spec = PackedFile name })) _ _ c opened_spec
-      (specifies_one folder) sound opens
-      (assembles_same c.tree.origin (Stored form.files form.places) c.tree.items c.tables a (TextFile main) (PackedFile name) (λ e. absurd (true≢false (sym is ∙ e)))) x h
+  forth_places : SamePlaces c.tree.origin stored c.tree.items c.tables
+  forth_places = with_action c.tree.origin stored (form_files c.tree) (form_lines c.tree) many
 
-  assembled_back : (a : Assembly) (t : Bool) → a.takes_actions ≡ t → (x : Result Shown Refusal)
-      → Answers (Some folder) (assembled_over a t (PackedFile name)) x → Answers (Some folder) (assembled_over a t (TextFile main)) x
-  assembled_back a false is x h = h
-  assembled_back a true is x h =
-      alike_then (Specifies (Some folder)) (Assembles (record a { spec = PackedFile name })) (Assembles (record a { spec = TextFile main })) _ _ opened_spec c
-      (specifies_one folder) opens sound
-      (assembles_same (Stored form.files form.places) c.tree.origin c.tree.items c.tables a (PackedFile name) (TextFile main) (λ e. absurd (true≢false (sym is ∙ e)))) x h
+  back_places : SamePlaces stored c.tree.origin c.tree.items c.tables
+  back_places = with_action stored c.tree.origin (sym (form_files c.tree)) (sym (form_lines c.tree)) (ap length (sym (form_lines c.tree)) ∙ many)
 
   forth : (r : Request) (x : Result Shown Refusal) → Answers (Some folder) (over (TextFile main) r) x → Answers (Some folder) (over (PackedFile name) r) x
   forth (CheckSpec spec explains) x h =
@@ -183,7 +217,14 @@ module _ (folder : Folder) (main name bytes : List ℕ) (c : Compiled) (sound : 
       (gaps_alike c.tree.origin stored c.tree.items c.tables keeps_rules (form_files c.tree) (form_lines c.tree) many) x h
   forth (Generate size) x h = h
   forth (PackSpec spec) x h = h
-  forth (AssembleText a) x h = assembled_forth a a.takes_actions refl x h
+  forth (AssembleText a) x h =
+      alike_then (Specifies (Some folder)) (Assembles (record a { spec = TextFile main })) (Assembles (record a { spec = PackedFile name })) _ _ c opened_spec
+      (specifies_one folder) sound opens
+      (assembles_same c.tree.origin stored c.tree.items c.tables forth_places a (TextFile main) (PackedFile name)) x h
+  forth (PatchListing p) x h =
+      alike_then (Specifies (Some folder)) (PatchesFile (Some folder) (record p { spec = TextFile main })) (PatchesFile (Some folder) (record p { spec = PackedFile name })) _ _ c opened_spec
+      (specifies_one folder) sound opens
+      (patches_same c.tree.origin stored c.tree.items c.tables forth_places (Some folder) p (TextFile main) (PackedFile name)) x h
 
   back : (r : Request) (x : Result Shown Refusal) → Answers (Some folder) (over (PackedFile name) r) x → Answers (Some folder) (over (TextFile main) r) x
   back (CheckSpec spec explains) x h =
@@ -197,7 +238,14 @@ module _ (folder : Folder) (main name bytes : List ℕ) (c : Compiled) (sound : 
       (gaps_alike stored c.tree.origin c.tree.items c.tables keeps_rules (sym (form_files c.tree)) (sym (form_lines c.tree)) (ap length (sym (form_lines c.tree)) ∙ many)) x h
   back (Generate size) x h = h
   back (PackSpec spec) x h = h
-  back (AssembleText a) x h = assembled_back a a.takes_actions refl x h
+  back (AssembleText a) x h =
+      alike_then (Specifies (Some folder)) (Assembles (record a { spec = PackedFile name })) (Assembles (record a { spec = TextFile main })) _ _ opened_spec c
+      (specifies_one folder) opens sound
+      (assembles_same stored c.tree.origin c.tree.items c.tables back_places a (PackedFile name) (TextFile main)) x h
+  back (PatchListing p) x h =
+      alike_then (Specifies (Some folder)) (PatchesFile (Some folder) (record p { spec = PackedFile name })) (PatchesFile (Some folder) (record p { spec = TextFile main })) _ _ opened_spec c
+      (specifies_one folder) opens sound
+      (patches_same stored c.tree.origin c.tree.items c.tables back_places (Some folder) p (PackedFile name) (TextFile main)) x h
 
 pub packed_alike : PackedIsAlike
 packed_alike folder main name bytes c r sound file small there x =

@@ -17,7 +17,10 @@ use Rattle.sl_tool.specs.Growth.{Grew}
 use Rattle.sl_tool.specs.Request.{Request, spec_of}
 use Rattle.sl_tool.specs.Endings.{Shown, shown}
 use Rattle.sl_tool.specs.declared.status.Ending.{Ending}
-use Rattle.sl_tool_stages.specs.Outcomes.{FailsToRead, FailsToWrite, Gives, IsEarly, Obtains}
+use Rattle.sl_tool.specs.declared.status.Ending.TheVariants.{Done}
+use Rattle.sl_tool.specs.Writing.{IsOfWriting}
+use Rattle.sl_list_instructions.specs.Fronts.{AppendsFront}
+use Rattle.sl_tool_stages.specs.Outcomes.{FailsToRead, FailsToWrite, Gives, IsEarly, IsReadFault, Obtains}
 use Rattle.sl_tool_stages.specs.Stage.{Then}
 use Rattle.sl_tool_stages.specs.Stage.Then.{goes, stops}
 use Rattle.sl_tool_stages.specs.Stages.{Compiles, Reads, Specifies}
@@ -63,6 +66,25 @@ show_writes due l a b G (Err ReadFault) g = absurd g
 show_writes due l a b G (Err WriteFault) g = g
 show_writes due l a b G (Err NoMemory) (inl w) = inl w
 show_writes due l a b G (Err NoMemory) (inr g) = inr g
+
+-- a text as it is shown
+abbrev pub text_shown : List ℕ → Shown
+text_shown text = shown Done text 0
+
+-- a text whose writing stopped
+pub front_writes : (S : Result Shown Refusal → Type 0) (a b : Option (List ℕ)) (text : List ℕ) (h : Halt) → S (Ok (text_shown text)) → IsOfWriting h → AppendsFront a b text
+    → Writes S a b RanNone (Err h)
+front_writes S a b text (Refused x) s w f = absurd w
+front_writes S a b text ReadFault s w f = absurd w
+front_writes S a b text WriteFault s w f = (text_shown text, f.0, s, f.1, refl)
+front_writes S a b text NoMemory s w f = inr (text_shown text, f.0, s, f.1, refl)
+
+-- writing reads nothing
+pub writing_reads : (h : Halt) → IsOfWriting h → IsReadFault h → ⊥
+writing_reads (Refused x) w f = f
+writing_reads ReadFault w f = w
+writing_reads WriteFault w f = f
+writing_reads NoMemory w f = f
 
 -- what is written without a runner leaves the count of each as it was
 pub streams_alike : (due : Due) (a b : Option (List ℕ)) (c : ℕ) (x : Result Ending Halt) → c < 2 ^ 64 → Streams due a b RanNone x → Streams due a b (Grew c c) x
@@ -178,16 +200,21 @@ module _ {F : Type 0} (told : F → Option Folder) (faults : F → ℕ) (asked :
     asks_all = λ n. Asks-nil (asked old);
   }
 
-  -- files were read, and a command that writes reads nothing more
-  pub read_all : (old new : F) (names : List (List ℕ)) (early fails : Type 0) (due : Due) (x y : Option (List ℕ)) (G : ℕ → Type 0) (q : Result Ending Halt)
-      → Uses old new names early fails → (early → ⊥) → Streams due x y G q → Uses old new names (IsEarly q) (FailsToRead q)
-  read_all old new names early fails due x y G q v also s = record {
+  -- files were read, and nothing more
+  pub read_before : (old new : F) (names : List (List ℕ)) (early fails : Type 0) (q : Result Ending Halt) → Uses old new names early fails → (early → ⊥) → (FailsToRead q → ⊥)
+      → Uses old new names (IsEarly q) (FailsToRead q)
+  read_before old new names early fails q v also never = record {
     same_folder = v.same_folder;
     never_falls = v.never_falls;
-    failed = λ h. absurd (never_reads due x y G q s h);
+    failed = λ h. absurd (never h);
     asks_front = v.asks_front;
     asks_all = λ n. v.asks_all also;
   }
+
+  -- files were read, and a command that writes reads nothing more
+  pub read_all : (old new : F) (names : List (List ℕ)) (early fails : Type 0) (due : Due) (x y : Option (List ℕ)) (G : ℕ → Type 0) (q : Result Ending Halt)
+      → Uses old new names early fails → (early → ⊥) → Streams due x y G q → Uses old new names (IsEarly q) (FailsToRead q)
+  read_all old new names early fails due x y G q v also s = read_before old new names early fails q v also (never_reads due x y G q s)
 
   -- ---- the specification, and what is asked for after it
 

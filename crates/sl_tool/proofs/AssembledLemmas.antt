@@ -1,6 +1,5 @@
 -- What is assembled: what was written of it, and that each text has an answer.
-use Rattle.std.proofs.Common.{◌≡◌, ℕ, ◌%◌, ◌^◌, ◌<◌, ◌⊎◌, inl, inr, List, Option, Result, Ok, Err, refl, sym, ap, subst, ◌∙◌}
-use Rattle.sl_list_instructions.specs.Fronts.{AppendsFront}
+use Rattle.std.proofs.Common.{◌≡◌, ℕ, ◌%◌, ◌^◌, ◌<◌, ◌⊎◌, inl, inr, List, Result, Ok, Err, refl, sym, ap, subst, ◌∙◌}
 use Rattle.sl_list_instructions.specs.Lines.{listed_line}
 use Rattle.sl_list_instructions.specs.Listing.{IsListing, image_from}
 use Rattle.sl_asm_encodings.proofs.LawLemmas.{encoding_is_listed}
@@ -10,64 +9,30 @@ use Rattle.sl_decode_meaning.specs.Actions.{address_bytes}
 use Rattle.sl_tool_contexts.specs.Words.{Bad, starting_context}
 use Rattle.sl_tool_contexts.proofs.BoundLemmas.{IsBelow, start_below}
 use Rattle.sl_tool_request.specs.Requests.{Assembly}
-use Rattle.sl_tool.specs.Answers.{Due, Shows}
 use Rattle.sl_tool.specs.Assembled.{Assembles, EncodesText, Finds, IsLineOfText}
-use Rattle.sl_tool.specs.Endings.{Shown, ShowsText, shown}
+use Rattle.sl_tool.specs.Endings.{Shown}
 use Rattle.sl_tool.specs.Laws.{AssembledIsListed}
-use Rattle.sl_tool.specs.Streams.{RanNone, Writes}
-use Rattle.sl_tool.specs.Writing.{IsOfWriting}
-use Rattle.sl_tool.specs.declared.status.Ending.TheVariants.{Done}
 use Rattle.sl_tool_stages.specs.Assembling.{Begins}
-use Rattle.sl_tool_stages.specs.Outcomes.{IsReadFault}
 use Rattle.sl_tool_stages.specs.Problems.{bare_refusal}
 use Rattle.sl_tool_stages.specs.Stage.{HasSomeResult}
 use Rattle.sl_tool_stages.specs.Stage.Then.{goes}
 use Rattle.sl_tool_stages.specs.Stages.{opened}
 use Rattle.sl_tool_stages.specs.Values.{Compiled}
-use Rattle.sl_tool_stages.specs.declared.halt.Halt.{Halt}
-use Rattle.sl_tool_stages.specs.declared.halt.Halt.TheVariants.{NoMemory, ReadFault, Refused, WriteFault}
 use Rattle.sl_tool_stages.specs.declared.problem.Problem.TheVariants.{NoEncoding}
 use Rattle.sl_tool_stages.specs.declared.refusal.Refusal.{Refusal}
-use Rattle.sl_tool.proofs.AnsweredLemmas.{show_writes, writes_map}
-use Rattle.sl_tool.proofs.ShowLemmas.{told_so, written_front}
+use Rattle.sl_tool.proofs.AnsweredLemmas.{text_shown}
+use Rattle.sl_tool.proofs.ShowLemmas.{told_so}
 use Rattle.sl_tool_stages.proofs.AssemblingLemmas.{begins_some}
 use Rattle.sl_tool_stages.proofs.Thens.{then_some}
 
--- writing reads nothing
-pub writing_reads : (h : Halt) → IsOfWriting h → IsReadFault h → ⊥
-writing_reads (Refused x) w f = f
-writing_reads ReadFault w f = w
-writing_reads WriteFault w f = f
-writing_reads NoMemory w f = f
-
--- a line as it is shown
-abbrev pub line_shown : List ℕ → Shown
-line_shown line = shown Done line 0
-
 module _ (a : Assembly) (c : Compiled) where
-  abbrev line_due : ℕ → Due
-  line_due context = ShowsText (IsLineOfText a c context)
-
-  shows_finds : (context : ℕ) (x : Result Shown Refusal) → Shows line_due context x → Finds a c context x
-  shows_finds context (Ok s) h = h
-  shows_finds context (Err x) h = absurd h
-
-  -- what was written of the line where the writing stopped
-  pub line_front : (old new : Option (List ℕ)) (context : ℕ) (line : List ℕ) (h : Halt) → Begins a c (Ok context) → Finds a c context (Ok (line_shown line))
-      → IsOfWriting h → AppendsFront old new line → Writes (Assembles a c) old new RanNone (Err h)
-  line_front old new context line h begins found writing front =
-      writes_map (Shows line_due context) (Assembles a c) old new RanNone (Err h) (λ x s. goes begins (shows_finds context x s))
-      (show_writes line_due context old new RanNone (Err h) (written_front (line_due context) old new RanNone (line_shown line) h found refl writing front))
-
-  -- ---- each text has an answer
-
   abbrev HasBytes : ℕ → Type 0
   HasBytes context = (bytes : List ℕ) × EncodesText a c context bytes
 
   finds_by : (context : ℕ) → HasBytes context ⊎ (HasBytes context → ⊥) → (r : Result Shown Refusal) × Finds a c context r
   finds_by context (inl e) =
       let line = listed_line (address_bytes c.tables) a.base e.0 a.text in
-      (Ok (line_shown line), told_so (IsLineOfText a c context) line (record { bytes = e.0; encodes = e.1; is_line = refl }))
+      (Ok (text_shown line), told_so (IsLineOfText a c context) line (record { bytes = e.0; encodes = e.1; is_line = refl }))
   finds_by context (inr none) = (Err (bare_refusal NoEncoding), (λ bytes e. none (bytes, e), refl))
 
   pub assembles_some : HasSomeResult (Assembles a) c
@@ -76,7 +41,7 @@ module _ (a : Assembly) (c : Compiled) where
 
 -- ---- what is printed is a listing
 
-opened_is : (r : Result ℕ Bad) (n : ℕ) → Ok n ≡ opened r → r ≡ Ok n
+pub opened_is : (r : Result ℕ Bad) (n : ℕ) → Ok n ≡ opened r → r ≡ Ok n
 opened_is (Ok m) n e = ap Ok (let same : m ≡ n = cc in same)
 opened_is (Err bad) n e = absurd (cc)
 

@@ -10,18 +10,21 @@ use Rattle.sl_tool.specs.Ends.{Means, ReadsFiles, WritesWhole}
 use Rattle.sl_tool.specs.Ends.Means.{answer}
 use Rattle.sl_tool.specs.Laws.{AcceptedAreAnswered, Accepts, Counted, EndsSo, IsAccepted, IsComplete, IsTold, MayEnd, WritesAnswer}
 use Rattle.sl_tool.specs.Growth.{Grew}
-use Rattle.sl_tool.specs.Request.{AssembleText, CheckSpec, Generate, PackSpec, ReportGaps, Request, ShowImage, Listing, Operations, Run, spec_of}
+use Rattle.sl_tool.specs.Patched.{Patches, PatchesFile, PatchesText}
+use Rattle.sl_tool.specs.Request.{AssembleText, CheckSpec, Generate, PackSpec, PatchListing, ReportGaps, Request, ShowImage, Listing, Operations, Run, spec_of}
 use Rattle.sl_tool.specs.Endings.{Shown}
 use Rattle.sl_tool.specs.declared.status.Status.{Status}
 use Rattle.sl_tool.specs.declared.status.Status.TheVariants.{Done, Refused, Usage, ReadFault, WriteFault, NoMemory, Stopped}
-use Rattle.sl_tool_stages.specs.Assembling.{Begins}
+use Rattle.sl_asm_lines.proofs.LawLemmas.{unedited_never_fails}
+use Rattle.sl_tool_stages.specs.Assembling.{Begins, BeginsLines}
 use Rattle.sl_tool_stages.specs.Stage.{HasOneResult, Stage, Then}
 use Rattle.sl_tool_stages.specs.Stage.Then.{goes, stops}
-use Rattle.sl_tool_stages.specs.Stages.{Loads, Specifies}
+use Rattle.sl_tool_stages.specs.Stages.{Fetches, Loads, Specifies}
 use Rattle.sl_tool_stages.specs.declared.refusal.Refusal.{Refusal}
 use Rattle.sl_tool.proofs.SomeAnswer.{answer_some}
-use Rattle.sl_tool_stages.proofs.AssemblingLemmas.{begins_one}
-use Rattle.sl_tool_stages.proofs.StageLemmas.{loads_told, specifies_one, specifies_told}
+use Rattle.sl_tool_stages.proofs.AssemblingLemmas.{begins_lines_one, begins_one}
+use Rattle.sl_tool_stages.proofs.ReadLemmas.{specified}
+use Rattle.sl_tool_stages.proofs.StageLemmas.{fetches_told, loads_told, specifies_one, specifies_told}
 use Rattle.sl_tool_stages.proofs.Thens.{not_both, ok_is}
 
 -- two stages of which the first gives a value, by which the second refuses nothing
@@ -42,6 +45,12 @@ no_refusal told (PackSpec name) is (c, h) x = refuses_none (Specifies told) (Sho
 no_refusal told (AssembleText a) is e x =
     refuses_none (Specifies told) (Assembles a) a.spec e.compiled (specifies_told told is) e.sound
     (refuses_none (Begins a) (Finds a e.compiled) e.compiled e.context (begins_one a) e.begins (λ y none. none.0 e.bytes e.encodes)) x
+no_refusal told (PatchListing p) is e x =
+    let c = e.compiled in
+    refuses_none (Specifies told) (PatchesFile told p) p.spec c (specifies_told told is) e.sound
+    (refuses_none (Fetches told) (PatchesText p c) p.listing e.text (fetches_told told is) e.there
+    (refuses_none (BeginsLines p) (Patches p c e.text) c e.start (begins_lines_one p) e.begins
+    (λ y f. unedited_never_fails c.tree.items c.tables e.start e.text (specified told p.spec c e.sound).compiles e.unedited f.0 f.1 f.2))) x
 
 endings : (told : Option Folder) (r : Request) (s : Shown) → Answers told r (Ok s) → MayEnd r s.ending
 endings told (CheckSpec spec explains) s (goes h k) = k.ending
@@ -52,6 +61,7 @@ endings told (ReportGaps spec) s (goes h k) = k.ending
 endings told (Generate size) s (goes h k) = k.ending
 endings told (PackSpec name) s (goes h k) = k.ending
 endings told (AssembleText a) s (goes h (goes i k)) = k.ending
+endings told (PatchListing p) s (goes h (goes f (goes i k))) = k.ending
 
 -- an answer that is no refusal
 kept : (told : Option Folder) (r : Request) → ((x : Refusal) → Answers told r (Err x) → ⊥) → (x : Result Shown Refusal) × Answers told r x

@@ -14,7 +14,7 @@ use Rattle.sl_tool.specs.Endings.{Shown, ended}
 use Rattle.sl_tool.specs.Ends.{Means, WritesWhole, WritesFirst, Ends, RunsFor}
 use Rattle.sl_tool.specs.Ends.Means.{answer}
 use Rattle.sl_tool.specs.Streams.{Writes, WritesFront}
-use Rattle.sl_tool.specs.Request.{AssembleText, CheckSpec, Generate, PackSpec, ReportGaps, Request, ShowImage}
+use Rattle.sl_tool.specs.Request.{AssembleText, CheckSpec, Generate, PackSpec, PatchListing, ReportGaps, Request, ShowImage}
 use Rattle.sl_tool.specs.Writing.{IsWritten}
 use Rattle.sl_tool.specs.declared.status.Ending.{Ending}
 use Rattle.sl_tool.specs.declared.status.Ending.TheVariants as ending
@@ -138,6 +138,9 @@ none_due told (PackSpec name) a =
 none_due told (AssembleText t) a =
     let names = some_names told t.spec in
     front_due told (AssembleText t) names.0 a a names.1 (0, Asks-nil a)
+none_due told (PatchListing p) a =
+    let names = some_names told p.spec in
+    front_due told (PatchListing p) names.0 a a names.1 (0, Asks-nil a)
 none_due told (Generate size) a =
     surely (let p : (due : List (List ℕ)) × AsksFor told (Generate size) due × AsksFront a a due = ([], refl, (0, Asks-nil a)) in p)
 

@@ -51,7 +51,7 @@ module _ (o q : Origin) (items : List Item) (b : spec.Tables) (is_taken : taken 
         | inr (past, none) ↦ absurd (omega (arith, below, past))
       ]
 
-  ctor_alike : (number : ℕ) (c : Ctor) → slice_get b.constructors number ≡ Some c → place_of_ctor one number ≡ place_of_ctor other number
+  pub ctor_alike : (number : ℕ) (c : Ctor) → slice_get b.constructors number ≡ Some c → place_of_ctor one number ≡ place_of_ctor other number
   ctor_alike number c is =
       let item = item_of_ctor b number in
       let l = line_there number c is in
@@ -62,10 +62,10 @@ module _ (o q : Origin) (items : List Item) (b : spec.Tables) (is_taken : taken 
 
   -- ---- the lines of constructors
 
-  abbrev IsThere : ℕ → Type 0
+  abbrev pub IsThere : ℕ → Type 0
   IsThere number = (c : Ctor) × (slice_get b.constructors number ≡ Some c)
 
-  there : (number : ℕ) → number < length b.constructors → IsThere number
+  pub there : (number : ℕ) → number < length b.constructors → IsThere number
   there number below = elim ((slice_get_cases b.constructors number).1) [
     | inl (c, within, is, same) ↦ (c, is)
     | inr (past, none) ↦ absurd (omega (arith, below, past))

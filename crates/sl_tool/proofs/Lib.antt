@@ -4,6 +4,7 @@ pub mod RunLemmas
 pub mod OneAnswer
 pub mod SomeAnswer
 pub mod AssembledLemmas
+pub mod PatchedLemmas
 pub mod CompleteLemmas
 pub mod CtorItemLemmas
 pub mod GapAlikeLemmas

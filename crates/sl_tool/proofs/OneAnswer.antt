@@ -8,7 +8,7 @@ use Rattle.sl_tool_request.specs.Requests.{TextFile}
 use Rattle.sl_tool_stages.specs.Packing.{packed_form_of}
 use Rattle.sl_tool.specs.Answers.{Due, Follows, Shows, counts_of, figures_of, gaps_of, generated, packs_of, shows_of}
 use Rattle.sl_tool.specs.Laws.{AreAlike, HasOneAnswer, IsTold, HasOneText}
-use Rattle.sl_tool.specs.Request.{AssembleText, CheckSpec, Generate, PackSpec, ReportGaps, Request, ShowImage, Listing, Operations, Run, spec_of}
+use Rattle.sl_tool.specs.Request.{AssembleText, CheckSpec, Generate, PackSpec, PatchListing, ReportGaps, Request, ShowImage, Listing, Operations, Run, spec_of}
 use Rattle.sl_tool.specs.Endings.{Shown, ShowsText}
 use Rattle.sl_tool_stages.specs.Values.{Compiled}
 use Rattle.sl_tool_stages.specs.declared.refusal.Refusal.{Refusal}
@@ -44,6 +44,7 @@ follows_one told (Generate size) is plain c x y h g = shows_one (figures_of size
 follows_one told (PackSpec name) is plain c x y h g =
     shows_one packs_of c (tells_one _ (one_to_one.one_file (packed_form_of c.tree))) x y h g
 follows_one told (AssembleText a) is plain c x y h g = absurd plain
+follows_one told (PatchListing p) is plain c x y h g = absurd plain
 
 pub answer_one : HasOneAnswer
 answer_one told (CheckSpec spec explains) x y is plain h g =
@@ -57,3 +58,4 @@ answer_one told (Generate size) x y is plain h g =
 answer_one told (PackSpec name) x y is plain h g =
     then_alike _ _ AreAlike (specifies_told told is) (λ e. refl) (follows_one told (PackSpec name) is plain) (TextFile name) x y h g
 answer_one told (AssembleText a) x y is plain h g = absurd plain
+answer_one told (PatchListing p) x y is plain h g = absurd plain

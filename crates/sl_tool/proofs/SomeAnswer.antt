@@ -21,13 +21,14 @@ use Rattle.sl_tool.specs.Endings.{Shown, ending_of, shown}
 use Rattle.sl_tool.specs.Generated.{generated_image}
 use Rattle.sl_tool.specs.Counts.{count_line}
 use Rattle.sl_tool.specs.GapText.{IsGapText}
-use Rattle.sl_tool.specs.Request.{AssembleText, CheckSpec, Generate, PackSpec, ReportGaps, Request, Show, ShowImage, Listing, Operations, Run, spec_of}
+use Rattle.sl_tool.specs.Request.{AssembleText, CheckSpec, Generate, PackSpec, PatchListing, ReportGaps, Request, Show, ShowImage, Listing, Operations, Run, spec_of}
 use Rattle.sl_tool.specs.declared.status.Ending.TheVariants.{Done}
 use Rattle.sl_tool_stages.specs.Stage.{HasSomeResult}
 use Rattle.sl_tool_stages.specs.Values.{Compiled, Loaded}
 use Rattle.sl_tool_stages.specs.declared.refusal.Refusal.{Refusal}
 use Rattle.sl_base_surely.specs.Surely.{Surely}
 use Rattle.sl_tool.proofs.AssembledLemmas.{assembles_some}
+use Rattle.sl_tool.proofs.PatchedLemmas.{patches_some}
 use Rattle.sl_tool.proofs.GapLemmas.{some_gap_text}
 use Rattle.sl_tool.proofs.RunLemmas.{line_of}
 use Rattle.sl_tool_stages.proofs.ReadLemmas.{IsSpecified, specified}
@@ -124,3 +125,4 @@ answer_some told (Generate size) has =
     figures_some c size is (accepted c.tree.items c.tables is.compiles))
 answer_some told (PackSpec name) has = then_some _ _ (TextFile name) (specifies_some told (TextFile name)) (λ c h. packs_some c (has c h))
 answer_some told (AssembleText a) has = then_some _ _ a.spec (specifies_some told a.spec) (λ c h. assembles_some a c)
+answer_some told (PatchListing p) has = then_some _ _ p.spec (specifies_some told p.spec) (λ c h. patches_some told p c (specified told p.spec c h))

@@ -14,7 +14,8 @@ use Rattle.sl_tool.specs.Endings.{Shown, ShowsText, ended}
 use Rattle.sl_tool.specs.GapText.{IsGapText}
 use Rattle.sl_tool.specs.Generated.{AreFigures}
 use Rattle.sl_tool.specs.Counts.{count_line}
-use Rattle.sl_tool.specs.Request.{Request, CheckSpec, ShowImage, ReportGaps, Generate, PackSpec, AssembleText, is_explained, spec_of}
+use Rattle.sl_tool.specs.Patched.{PatchesFile}
+use Rattle.sl_tool.specs.Request.{Request, CheckSpec, ShowImage, ReportGaps, Generate, PackSpec, AssembleText, PatchListing, is_explained, spec_of}
 use Rattle.sl_tool.specs.Request.{Show, Listing, Operations, Run}
 use Rattle.sl_tool.specs.Shows.{IsOperations, ShowsRun}
 use Rattle.sl_tool.specs.declared.status.Status.{Status}
@@ -75,6 +76,7 @@ Follows told (ReportGaps spec) = Shows gaps_of
 Follows told (Generate size) = Shows (figures_of size)
 Follows told (PackSpec name) = Shows packs_of
 Follows told (AssembleText a) = Assembles a
+Follows told (PatchListing p) = PatchesFile told p
 
 -- the specification that is generated
 abbrev pub generated : Folder
@@ -88,6 +90,7 @@ folder_for told (ReportGaps spec) = told
 folder_for told (Generate size) = Some generated
 folder_for told (PackSpec name) = told
 folder_for told (AssembleText a) = told
+folder_for told (PatchListing p) = told
 
 -- What becomes of a request that has these files.
 abbrev pub AnswersFrom : Option Folder → Request → Result Shown Refusal → Type 0
@@ -116,7 +119,8 @@ ran_of (Err x) = 0
 
 -- ---- files
 
--- The names that a request asks for once the specification is there: that of the image.
+-- The names that a request asks for once the specification is there: that of the image, or of the
+-- listing.
 abbrev pub asked_after : Request → List (List ℕ)
 asked_after (CheckSpec spec explains) = []
 asked_after (ShowImage t what) = t.image ∷ []
@@ -124,6 +128,7 @@ asked_after (ReportGaps spec) = []
 asked_after (Generate size) = []
 asked_after (PackSpec name) = []
 asked_after (AssembleText a) = []
+asked_after (PatchListing p) = p.listing ∷ []
 
 -- The names that are asked for to read a specification: those of its text, or that of its packed
 -- file.
@@ -147,6 +152,7 @@ AsksFor told (ReportGaps spec) = AsksFrom told (ReportGaps spec)
 AsksFor told (Generate size) = λ names. names ≡ []
 AsksFor told (PackSpec name) = AsksFrom told (PackSpec name)
 AsksFor told (AssembleText a) = AsksFrom told (AssembleText a)
+AsksFor told (PatchListing p) = AsksFrom told (PatchListing p)
 
 -- A call asks for the names that are due: for all of them, or, where it stops early, for the first
 -- of them. It fails only where the count of faults rose. The folder stays as it is.

@@ -4,7 +4,7 @@ use Rattle.std.specs.Io.KnownBytes.{Appends}
 use Rattle.sl_outside.specs.Folder.{Folder}
 use Rattle.sl_outside.specs.Uses.{Names, UsesFiles}
 use Rattle.sl_tool.specs.Answers.{Answers, AsksFor, UsesFilesFor, ran_of, status_of, text_of}
-use Rattle.sl_tool.specs.Request.{AssembleText, CheckSpec, Generate, PackSpec, ReportGaps, Request, ShowImage, usage_line}
+use Rattle.sl_tool.specs.Request.{AssembleText, CheckSpec, Generate, PackSpec, PatchListing, ReportGaps, Request, ShowImage, usage_line}
 use Rattle.sl_tool.specs.Request.{Show, Listing, Operations, Run}
 use Rattle.sl_tool.specs.Endings.{Shown}
 use Rattle.sl_tool.specs.declared.status.Status.{Status}
@@ -41,6 +41,7 @@ ReadsFiles (Some (ReportGaps spec)) = ⊤
 ReadsFiles (Some (Generate size)) = ⊥
 ReadsFiles (Some (PackSpec name)) = ⊤
 ReadsFiles (Some (AssembleText a)) = ⊤
+ReadsFiles (Some (PatchListing p)) = ⊤
 
 -- It is shown without a run.
 abbrev pub IsStill : Show → Type 0
@@ -57,6 +58,7 @@ RunsNothing (Some (ReportGaps spec)) = ⊤
 RunsNothing (Some (Generate size)) = ⊥
 RunsNothing (Some (PackSpec name)) = ⊤
 RunsNothing (Some (AssembleText a)) = ⊤
+RunsNothing (Some (PatchListing p)) = ⊤
 
 -- What was written at each status, and how the count of operations grew; where memory ran out
 -- before anything was written, it isn't told.

@@ -1,6 +1,7 @@
 -- meaning: laws above the definitions.
-use Rattle.std.specs.Prelude.{◌≡◌, ℕ, ◌≤◌, ◌⊎◌, List, length, Option, Some, IsSome, Result, Ok, Err, ⊤, if◌then◌else◌}
+use Rattle.std.specs.Prelude.{◌≡◌, ℕ, ◌≤◌, ◌⊎◌, List, length, Option, Some, IsSome, Result, Ok, Err, ⊤}
 use Rattle.std.specs.Io.KnownBytes.{Appends}
+use Rattle.sl_asm_lines.specs.Patched.{IsUnedited, ListsAlike}
 use Rattle.sl_bind_compile.specs.Outcomes.{all_constructors}
 use Rattle.sl_list_instructions.specs.Listing.{IsListing, image_from}
 use Rattle.sl_outside.specs.Causes.{Rose}
@@ -8,21 +9,21 @@ use Rattle.sl_outside.specs.Folder.{Folder, size_limit}
 use Rattle.sl_store_format.specs.Packed.{IsPacked}
 use Rattle.sl_store_write.specs.Packs.{IsFileOf}
 use Rattle.sl_tool_contexts.specs.Words.{starting_context}
-use Rattle.sl_tool_request.specs.Requests.{Assembly, PackedFile, SpecFile, TextFile}
+use Rattle.sl_tool_request.specs.Requests.{Assembly, PackedFile, Patch, SpecFile, TextFile}
 use Rattle.sl_tool.specs.Answers.{Answers, generated}
 use Rattle.sl_tool.specs.Assembled.{EncodesText}
 use Rattle.sl_tool.specs.Endings.{Shown, ended}
 use Rattle.sl_tool.specs.Ends.{Ends, ReadsFiles}
 use Rattle.sl_tool.specs.Growth.{Grew}
-use Rattle.sl_tool.specs.Request.{AssembleText, CheckSpec, Generate, PackSpec, ReportGaps, Request, ShowImage, Listing, Operations, Run, spec_of}
+use Rattle.sl_tool.specs.Request.{AssembleText, CheckSpec, Generate, PackSpec, PatchListing, ReportGaps, Request, ShowImage, Listing, Operations, Run, spec_of}
 use Rattle.sl_tool.specs.declared.status.Ending.{Ending}
 use Rattle.sl_tool.specs.declared.status.Ending.TheVariants.{Done}
 use Rattle.sl_tool.specs.declared.status.Status.{Status}
 use Rattle.sl_tool.specs.declared.status.Status.TheVariants.{NoMemory, ReadFault, WriteFault}
-use Rattle.sl_tool_stages.specs.Assembling.{Begins}
+use Rattle.sl_tool_stages.specs.Assembling.{Begins, BeginsLines}
 use Rattle.sl_tool_stages.specs.Packing.{packed_form_of}
 use Rattle.sl_tool_stages.specs.Stage.{Then}
-use Rattle.sl_tool_stages.specs.Stages.{Loads, Specifies}
+use Rattle.sl_tool_stages.specs.Stages.{Fetches, Loads, Specifies}
 use Rattle.sl_tool_stages.specs.Values.{Compiled, Loaded}
 use Rattle.sl_tool_stages.specs.declared.refusal.Refusal.{Refusal}
 use Rattle.sl_base_surely.specs.Surely.{Surely}
@@ -34,7 +35,7 @@ AreAlike (Ok s) (Ok u) = (s.ending ≡ u.ending) × (s.text ≡ u.text)
 AreAlike (Err x) (Err y) = x ≡ y
 AreAlike _ _ = ⊥
 
--- Any list of operations that does what an instruction does may be printed, and any encoding of a text.
+-- Any list of operations that does what an instruction does may be printed, and any encoding of a text or a line.
 abbrev pub HasOneText : Request → Type 0
 HasOneText (CheckSpec spec explains) = ⊤
 HasOneText (ShowImage t Listing) = ⊤
@@ -44,6 +45,7 @@ HasOneText (ReportGaps spec) = ⊤
 HasOneText (Generate size) = ⊤
 HasOneText (PackSpec name) = ⊤
 HasOneText (AssembleText a) = ⊥
+HasOneText (PatchListing p) = ⊥
 
 -- The folder is told, or what is asked for needs none.
 abbrev pub IsTold : Option Folder → Request → Type 0
@@ -53,6 +55,7 @@ IsTold told (ReportGaps spec) = IsSome told
 IsTold told (Generate size) = ⊤
 IsTold told (PackSpec name) = IsSome told
 IsTold told (AssembleText a) = IsSome told
+IsTold told (PatchListing p) = IsSome told
 
 -- But for those lists and encodings a request has one answer at most.
 abbrev pub HasOneAnswer : Type 0
@@ -80,8 +83,18 @@ pub record HasEncoding (told : Option Folder) (a : Assembly) : Type 0 where
   pub begins : Begins a compiled (Ok context)
   pub encodes : EncodesText a compiled context bytes
 
--- What a request names is accepted: the specification is sound, where an image is shown, there is one beside it, and where a text
--- is assembled, it has an encoding.
+-- The listing is there, may be assembled, and wasn't edited.
+pub record HasListing (told : Option Folder) (p : Patch) : Type 0 where
+  pub compiled : Compiled
+  pub text : List ℕ
+  pub start : ℕ
+  pub sound : Specifies told p.spec (Ok compiled)
+  pub there : Fetches told p.listing (Ok text)
+  pub begins : BeginsLines p compiled (Ok start)
+  pub unedited : IsUnedited compiled.tables (all_constructors compiled.tree.items) start text
+
+-- What a request names is accepted: the specification is sound, where an image is shown, there is one beside it, where a text
+-- is assembled, it has an encoding, and where the image of a listing is made, it is that of one.
 abbrev pub Accepts : Option Folder → Request → Type 0
 Accepts told (CheckSpec spec explains) = (c : Compiled) × Specifies told spec (Ok c)
 Accepts told (ShowImage t what) = (l : Loaded) × Then (Specifies told) (Loads told t) t.spec (Ok l)
@@ -89,6 +102,7 @@ Accepts told (ReportGaps spec) = (c : Compiled) × Specifies told spec (Ok c)
 Accepts told (Generate size) = (c : Compiled) × Specifies (Some generated) (spec_of (Generate size)) (Ok c)
 Accepts told (PackSpec name) = (c : Compiled) × Specifies told (TextFile name) (Ok c)
 Accepts told (AssembleText a) = HasEncoding told a
+Accepts told (PatchListing p) = HasListing told p
 
 pub record IsAccepted (told : Option Folder) (r : Request) : Type 0 where
   pub is_told : IsTold told r
@@ -105,6 +119,7 @@ MayEnd (ReportGaps spec) ending = ending ≡ Done
 MayEnd (Generate size) ending = ending ≡ Done
 MayEnd (PackSpec name) ending = ending ≡ Done
 MayEnd (AssembleText a) ending = ending ≡ Done
+MayEnd (PatchListing p) ending = ending ≡ Done
 
 -- It can't be that the request has no answer with an ending, and it has no other.
 pub record IsAnswered (told : Option Folder) (r : Request) : Type 0 where
@@ -117,15 +132,15 @@ AcceptedAreAnswered = (told : Option Folder) (r : Request) → IsAccepted told r
 
 -- ---- packed specifications
 
--- the request over this file of a specification; `gen` and `pack` are over none that could be packed, and the law leaves
--- what is assembled as it is where constructors with actions are refused
+-- the request over this file of a specification; `gen` and `pack` are over none that could be packed
 abbrev pub over : SpecFile → Request → Request
 over file (CheckSpec spec explains) = CheckSpec file explains
 over file (ShowImage t what) = ShowImage (record t { spec = file }) what
 over file (ReportGaps spec) = ReportGaps file
 over file (Generate size) = Generate size
 over file (PackSpec name) = PackSpec name
-over file (AssembleText a) = if a.takes_actions then AssembleText (record a { spec = file }) else AssembleText a
+over file (AssembleText a) = AssembleText (record a { spec = file })
+over file (PatchListing p) = PatchListing (record p { spec = file })
 
 -- Two requests have the same answers.
 abbrev pub AreAnsweredAlike : Option Folder → Request → Request → Type 0
@@ -152,6 +167,21 @@ pub record ListsSome (told : Option Folder) (a : Assembly) (text : List ℕ) : T
 -- What is printed of a text that is assembled is what `list` prints of the bytes there.
 abbrev pub AssembledIsListed : Type 0
 AssembledIsListed = (told : Option Folder) (a : Assembly) (s : Shown) → Answers told (AssembleText a) (Ok s) → ListsSome told a s.text
+
+-- An image is listed by the specification as the text of the file says, but for the bytes of lines that were edited: with the
+-- same addresses, numbers of bytes and texts, in the context that the words give.
+pub record ListsListing (told : Option Folder) (p : Patch) (image : List ℕ) : Type 0 where
+  pub compiled : Compiled
+  pub text : List ℕ
+  pub start : ℕ
+  pub sound : Specifies told p.spec (Ok compiled)
+  pub there : Fetches told p.listing (Ok text)
+  pub given : starting_context compiled.tables p.context ≡ Ok start
+  pub alike : ListsAlike compiled.tables (all_constructors compiled.tree.items) start text image
+
+-- What is written of an edited listing is such an image.
+abbrev pub PatchedIsListed : Type 0
+PatchedIsListed = (told : Option Folder) (p : Patch) (s : Shown) → Answers told (PatchListing p) (Ok s) → ListsListing told p s.text
 
 -- ---- the whole call
 

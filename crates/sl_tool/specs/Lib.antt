@@ -7,6 +7,7 @@ pub mod GapText
 pub mod Generated
 pub mod Figures
 pub mod Assembled
+pub mod Patched
 pub mod Answers
 pub mod Asking
 pub mod Streams

@@ -22,6 +22,7 @@ use crate::check::check;
 use crate::figures::figures;
 use crate::generated::generated;
 use crate::pack::pack;
+use crate::patch::patch;
 use crate::report::report;
 use crate::request::Request;
 use crate::show::show;
@@ -59,6 +60,7 @@ pub fn answered<F: Files, K: Sink, R: Runner>(
         Request::Gaps(_) => answered_from(alloc, request, files, out, runner),
         Request::Pack(_) => answered_from(alloc, request, files, out, runner),
         Request::Assemble(_) => answered_from(alloc, request, files, out, runner),
+        Request::Patch(_) => answered_from(alloc, request, files, out, runner),
     }
 }
 
@@ -167,6 +169,7 @@ fn answered_by<F: Files, K: Sink, R: Runner>(
         Request::Gaps(_) => report(alloc, &compiled, out),
         Request::Pack(_) => pack(alloc, &compiled, out),
         Request::Assemble(assembly) => assemble(alloc, assembly, &compiled, out),
+        Request::Patch(listing) => patch(alloc, listing, &compiled, files, out),
         Request::Generate(size) => figures(alloc, *size, &compiled, out, runner),
     }
 }

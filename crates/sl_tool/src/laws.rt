@@ -1,12 +1,12 @@
 //! Laws of the definitions.
 
 ghost use Rattle.sl_tool.specs.Laws.{AcceptedAreAnswered, HasOneAnswer, HasSomeAnswer, IsComplete};
-ghost use Rattle.sl_tool.specs.Laws.{AssembledIsListed, PackedIsAlike};
+ghost use Rattle.sl_tool.specs.Laws.{AssembledIsListed, PackedIsAlike, PatchedIsListed};
 ghost use Rattle.sl_tool.specs.SureLaws.{PrintedSureIsMatched};
 
 /// A request has one answer at most, where the folder is told or it is a `gen`: an ending and a
 /// text, or a refusal; but for the lists of operations that `pcode` prints, of which any may stand
-/// that does what is meant.
+/// that does what is meant, and for `asm`, which may take any encoding.
 pub fn one_answer()
     ensures { HasOneAnswer }
 {}
@@ -44,4 +44,10 @@ pub fn printed_sure_is_matched()
 /// context that the words give.
 pub fn assembled_is_listed()
     ensures { AssembledIsListed }
+{}
+
+/// What `asm` writes of an edited listing is an image of which `list` prints, in the context that the
+/// words give, lines with the addresses, the numbers of bytes and the texts of the listing's lines.
+pub fn patched_is_listed()
+    ensures { PatchedIsListed }
 {}

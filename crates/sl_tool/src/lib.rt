@@ -7,14 +7,15 @@
 //! prints registers, changed memory and the fault; the image may be hexadecimal text, and begin at
 //! a base. `gaps SPEC` prints what a specification leaves unmatched. `gen NUMBER` checks, lists and
 //! runs a specification and an image of its own. `asm SPEC TEXT` prints the line of bytes that a
-//! listing shows as the text. A specification's main file is expanded, the text
-//! is split into tokens, the tokens are parsed, the rules are judged, sizes inferred, and tables
-//! settled, or the first reason is told why it is refused.
+//! listing shows as the text, and with `--lines` writes the image of an edited listing. A
+//! specification's main file is expanded, the text is split into tokens, the tokens are parsed, the
+//! rules are judged, sizes inferred, and tables settled, or the first reason is told why it is
+//! refused.
 //!
 //! `sl_tool_stages` has the stages: source, tree, sound tables, and the image beside them.
 //! `answer.rt` has the row of them for each request, and then what follows: `check.rt` counts;
-//! `show.rt` shows an image; `report.rt` reports gaps; `assemble.rt` finds the bytes of a text;
-//! `figures.rt` has what `gen` tells.
+//! `show.rt` shows an image; `report.rt` reports gaps; `assemble.rt` finds the bytes of a text, and
+//! `patch.rt` those of an edited listing; `figures.rt` has what `gen` tells.
 //! `specs/Answers.antt` says what is due of a request.
 #![tactic(auto)]
 
@@ -25,6 +26,7 @@ mod figures;
 mod generated;
 mod laws;
 mod pack;
+mod patch;
 mod report;
 mod request;
 mod show;
@@ -34,7 +36,7 @@ mod writing;
 
 pub use laws::{
     accepted_are_answered, assembled_is_listed, complete, one_answer, packed_is_alike,
-    printed_sure_is_matched, some_answer,
+    patched_is_listed, printed_sure_is_matched, some_answer,
 };
 pub use status::Status;
 pub use tool::run_tool;

@@ -5,7 +5,7 @@ ghost use Rattle.sl_tool_request.specs.Views.{request as asked_view, spec_file};
 ghost use Rattle.sl_tool.specs.Request.{is_explained, request_for, request_of, spec_of};
 ghost use Rattle.sl_tool.specs.Requests.{request};
 
-use sl_tool_request::{Assembly, Request as Asked, SpecFile, Target};
+use sl_tool_request::{Assembly, Patch, Request as Asked, SpecFile, Target};
 use std::alloc::{AllocError, Global};
 
 /// What is shown of an image.
@@ -33,6 +33,8 @@ pub enum Request<'a> {
     Pack(&'a str),
     /// The bytes of an instruction are looked for by its text.
     Assemble(Assembly<'a>),
+    /// The image of an edited listing is made.
+    Patch(Patch<'a>),
 }
 
 impl<'a> Request<'a> {
@@ -47,6 +49,7 @@ impl<'a> Request<'a> {
             Request::Generate(_) => SpecFile::Text("gen"),
             Request::Pack(name) => SpecFile::Text(*name),
             Request::Assemble(assembly) => assembly.spec,
+            Request::Patch(patch) => patch.spec,
         }
     }
 }
@@ -74,6 +77,7 @@ fn request_for(asked: Asked<'_>) -> Request<'_>
         Asked::Gaps(file) => Request::Gaps(file),
         Asked::Pack(name) => Request::Pack(name),
         Asked::Asm(assembly) => Request::Assemble(assembly),
+        Asked::Patch(patch) => Request::Patch(patch),
     }
 }
 

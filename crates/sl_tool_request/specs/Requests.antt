@@ -38,6 +38,14 @@ pub record Assembly : Type 0 where
   pub context : List Field
   pub takes_actions : Bool
 
+-- An edited listing whose image is made: the file of the specification and the name of the listing's
+-- file, the context's values, and whether constructors may have actions.
+pub record Patch : Type 0 where
+  pub spec : SpecFile
+  pub listing : Text
+  pub context : List Field
+  pub takes_actions : Bool
+
 pub data Asked : Type 0 where
   Checks : SpecFile → (explains : Bool) → Asked
   Lists : Target → Asked
@@ -47,6 +55,7 @@ pub data Asked : Type 0 where
   Reports : SpecFile → Asked
   Packs : Text → Asked
   Assembles : Assembly → Asked
+  Patches : Patch → Asked
 
 -- ---- what a command is given
 
@@ -58,6 +67,7 @@ pub record Arguments : Type 0 where
   pub is_hex : Bool
   pub is_packed : Bool
   pub takes_actions : Bool
+  pub by_lines : Bool
   pub explains : Bool
 
 abbrev pub arguments : List Part → Arguments
@@ -68,6 +78,7 @@ arguments ps = record {
   is_hex = is_given (codes "hex") ps;
   is_packed = is_given (codes "packed") ps;
   takes_actions = is_given (codes "actions") ps;
+  by_lines = is_given (codes "lines") ps;
   explains = is_given (codes "explain") ps;
 }
 
@@ -132,6 +143,23 @@ assembly takes_actions t = record {
 abbrev pub assembly_of : Arguments → Option Assembly
 assembly_of s = option_map (assembly s.takes_actions) (target_of s)
 
+-- The file of a listing in the place of the image's.
+abbrev pub patch : (takes_actions : Bool) → Target → Patch
+patch takes_actions t = record {
+  spec = t.spec;
+  listing = t.image;
+  context = t.context;
+  takes_actions = takes_actions;
+}
+
+-- SPEC FILE FIELD=VALUE .. without a base, which the first line has
+abbrev pub patch_by : (base : Option Text) → Arguments → Option Patch
+patch_by None s = option_map (patch s.takes_actions) (target_of s)
+patch_by (Some base) s = None
+
+abbrev pub patch_of : Arguments → Option Patch
+patch_of s = patch_by s.base s
+
 -- The only word.
 abbrev pub only_word : List Text → Option Text
 only_word (word ∷ []) = Some word
@@ -176,7 +204,8 @@ abbrev pub run_options : List OptionRule
 run_options = flag (codes "packed") ∷ takes (codes "base") ∷ flag (codes "hex") ∷ takes (codes "steps") ∷ []
 
 abbrev pub asm_options : List OptionRule
-asm_options = flag (codes "packed") ∷ takes (codes "base") ∷ flag (codes "actions") ∷ []
+asm_options =
+    flag (codes "packed") ∷ takes (codes "base") ∷ flag (codes "actions") ∷ flag (codes "lines") ∷ []
 
 abbrev pub check_asked : Arguments → Option Asked
 check_asked s = option_map (λ spec. Checks spec s.explains) (only_spec s)
@@ -199,8 +228,14 @@ gaps_asked s = option_map Reports (only_spec s)
 abbrev pub pack_asked : Arguments → Option Asked
 pack_asked s = option_map Packs (only_word s.words)
 
+abbrev pub lines_asked : Arguments → Option Asked
+lines_asked s = option_map Patches (patch_of s)
+
+abbrev pub text_asked : Arguments → Option Asked
+text_asked s = option_map Assembles (assembly_of s)
+
 abbrev pub asm_asked : Arguments → Option Asked
-asm_asked s = option_map Assembles (assembly_of s)
+asm_asked s = if s.by_lines then lines_asked s else text_asked s
 
 -- A command: its name, its options, and what is asked by what it is given.
 pub record Command : Type 0 where

@@ -3,8 +3,10 @@ use Rattle.std.specs.Prelude.{map, option_map}
 use Rattle.sl_tool_request.specs.Requests as spec
 use Rattle.sl_tool_request.specs.declared.request.Assembly.{Assembly}
 use Rattle.sl_tool_request.specs.declared.request.FieldValue.{FieldValue}
+use Rattle.sl_tool_request.specs.declared.request.Patch.{Patch}
 use Rattle.sl_tool_request.specs.declared.request.Request.{Request}
 use Rattle.sl_tool_request.specs.declared.request.Request.TheVariants.{Asm, Check, List, Pcode, Run, Gen, Gaps, Pack}
+use Rattle.sl_tool_request.specs.declared.request.Request.TheVariants as kind
 use Rattle.sl_tool_request.specs.declared.request.SpecFile.{SpecFile}
 use Rattle.sl_tool_request.specs.declared.request.SpecFile.TheVariants.{Text, Packed}
 use Rattle.sl_tool_request.specs.declared.request.Target.{Target}
@@ -35,6 +37,14 @@ assembly a = record {
   takes_actions = a.takes_actions;
 }
 
+abbrev pub patch : Patch → spec.Patch
+patch p = record {
+  spec = spec_file p.spec;
+  listing = p.listing.now;
+  context = map field p.context.items;
+  takes_actions = p.takes_actions;
+}
+
 abbrev pub request : Request → spec.Asked
 request (Check file explains) = spec.Checks (spec_file file) explains
 request (List t) = spec.Lists (target t)
@@ -44,6 +54,7 @@ request (Gen size) = spec.Generates size
 request (Gaps file) = spec.Reports (spec_file file)
 request (Pack name) = spec.Packs name.now
 request (Asm a) = spec.Assembles (assembly a)
+request (kind.Patch p) = spec.Patches (patch p)
 
 abbrev pub arguments : Arguments → spec.Arguments
 arguments s = record {
@@ -53,5 +64,6 @@ arguments s = record {
   is_hex = s.is_hex;
   is_packed = s.is_packed;
   takes_actions = s.takes_actions;
+  by_lines = s.by_lines;
   explains = s.explains;
 }

@@ -11,7 +11,7 @@ mod request;
 pub use image::decode_hex;
 pub use laws::parts_of_words;
 pub use reading::asked_by;
-pub use request::{Arguments, Assembly, FieldValue, Request, SpecFile, Target};
+pub use request::{Arguments, Assembly, FieldValue, Patch, Request, SpecFile, Target};
 
 /// The usage line, with its line end.
 pub const USAGE: &str = "usage: sleigh check SPEC | list SPEC IMAGE | pcode SPEC IMAGE \

@@ -4,14 +4,16 @@ ghost use Rattle.std.specs.Prelude.{◌≡◌, IfOk, map, option_map, string_byt
 ghost use Rattle.sl_tool_request.specs.Requests.{asked_by, asm_asked, assembly_of};
 ghost use Rattle.sl_tool_request.specs.Requests.{check_asked, field_of, fields_of};
 ghost use Rattle.sl_tool_request.specs.Requests.{gaps_asked, gen_asked};
-ghost use Rattle.sl_tool_request.specs.Requests.{list_asked, number_or, only_spec, only_word};
-ghost use Rattle.sl_tool_request.specs.Requests.{pack_asked, pcode_asked, run_asked, size_of};
+ghost use Rattle.sl_tool_request.specs.Requests.{lines_asked, list_asked, number_or, only_spec};
+ghost use Rattle.sl_tool_request.specs.Requests.{only_word, text_asked};
+ghost use Rattle.sl_tool_request.specs.Requests.{pack_asked, patch_of, pcode_asked, run_asked};
+ghost use Rattle.sl_tool_request.specs.Requests.{size_of};
 ghost use Rattle.sl_tool_request.specs.Requests.{spec_file, target_of};
-ghost use Rattle.sl_tool_request.specs.Views.{arguments, assembly, field, request, target};
+ghost use Rattle.sl_tool_request.specs.Views.{arguments, assembly, field, patch, request, target};
 ghost use Rattle.sl_tool_request.specs.Views.{spec_file as file_view};
 
 use crate::numbers::{number_of, value_of};
-use crate::request::{Arguments, Assembly, FieldValue, Request, SpecFile, Target};
+use crate::request::{Arguments, Assembly, FieldValue, Patch, Request, SpecFile, Target};
 use std::alloc::{AllocError, Global};
 
 /// The largest number that `gen` takes.
@@ -102,6 +104,25 @@ fn assembly_of<'a>(alloc: Global, given: &Arguments<'a>) -> Result<Option<Assemb
         spec: target.spec,
         text: target.image,
         base: target.base,
+        context: target.context,
+        takes_actions: given.takes_actions,
+    }))
+}
+
+/// SPEC FILE FIELD=VALUE .., with the options of `asm`, the listing's file in the place of the image's.
+/// The first line has the base, so none is given.
+fn patch_of<'a>(alloc: Global, given: &Arguments<'a>) -> Result<Option<Patch<'a>>, AllocError>
+    ensures { IfOk result (λ r. option_map patch r ≡ patch_of (arguments given.now)) }
+{
+    if given.base.is_some() {
+        return Ok(None);
+    }
+    let Some(target) = target_of(alloc, given)? else {
+        return Ok(None);
+    };
+    Ok(Some(Patch {
+        spec: target.spec,
+        listing: target.image,
         context: target.context,
         takes_actions: given.takes_actions,
     }))
@@ -202,13 +223,34 @@ fn pack_asked<'a>(given: &Arguments<'a>) -> Option<Request<'a>>
     Some(Request::Pack(name))
 }
 
-/// What `asm` asks for.
-fn asm_asked<'a>(alloc: Global, given: &Arguments<'a>) -> Result<Option<Request<'a>>, AllocError>
-    ensures { IfOk result (λ r. option_map request r ≡ asm_asked (arguments given.now)) }
+/// What `asm` asks for with `--lines`.
+fn lines_asked<'a>(alloc: Global, given: &Arguments<'a>) -> Result<Option<Request<'a>>, AllocError>
+    ensures { IfOk result (λ r. option_map request r ≡ lines_asked (arguments given.now)) }
+{
+    match patch_of(alloc, given)? {
+        Some(patch) => Ok(Some(Request::Patch(patch))),
+        None => Ok(None),
+    }
+}
+
+/// What `asm` asks for without.
+fn text_asked<'a>(alloc: Global, given: &Arguments<'a>) -> Result<Option<Request<'a>>, AllocError>
+    ensures { IfOk result (λ r. option_map request r ≡ text_asked (arguments given.now)) }
 {
     match assembly_of(alloc, given)? {
         Some(assembly) => Ok(Some(Request::Asm(assembly))),
         None => Ok(None),
+    }
+}
+
+/// What `asm` asks for.
+fn asm_asked<'a>(alloc: Global, given: &Arguments<'a>) -> Result<Option<Request<'a>>, AllocError>
+    ensures { IfOk result (λ r. option_map request r ≡ asm_asked (arguments given.now)) }
+{
+    if given.by_lines {
+        lines_asked(alloc, given)
+    } else {
+        text_asked(alloc, given)
     }
 }
 

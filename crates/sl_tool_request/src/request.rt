@@ -46,6 +46,19 @@ pub struct Assembly<'a> {
     pub takes_actions: bool,
 }
 
+/// An edited listing whose image is made.
+#[derive(Debug, Drop)]
+pub struct Patch<'a> {
+    /// The file of the specification.
+    pub spec: SpecFile<'a>,
+    /// The file of the listing, as `list` prints it, but for what was edited.
+    pub listing: &'a str,
+    /// The values of context fields, in the order of the words.
+    pub context: Vec<FieldValue<'a>>,
+    /// Whether constructors may have actions.
+    pub takes_actions: bool,
+}
+
 /// What is asked for.
 #[derive(Debug, Drop)]
 pub enum Request<'a> {
@@ -65,6 +78,8 @@ pub enum Request<'a> {
     Pack(&'a str),
     /// The bytes of an instruction are looked for.
     Asm(Assembly<'a>),
+    /// The image of an edited listing is made.
+    Patch(Patch<'a>),
 }
 
 /// What a command is given, before any value is read: its positional words, and the values of its
@@ -77,5 +92,6 @@ pub struct Arguments<'a> {
     pub is_hex: bool,
     pub is_packed: bool,
     pub takes_actions: bool,
+    pub by_lines: bool,
     pub explains: bool,
 }

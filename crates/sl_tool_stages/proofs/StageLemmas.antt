@@ -182,6 +182,13 @@ fetches_by : (told : Option Folder) (name : List ℕ) → Fetched told name
 fetches_by None name = (Err (refusal name 0 NoFile), inl (tt, refl))
 fetches_by (Some folder) name = held folder name (folder name) refl
 
+pub fetches_some : (told : Option Folder) (name : List ℕ) → HasSomeResult (Fetches told) name
+fetches_some told name = surely (fetches_by told name)
+
+pub fetches_told : (told : Option Folder) → IsSome told → HasOneResult (Fetches told)
+fetches_told None is = absurd (let no : ⊥ = cc in no)
+fetches_told (Some folder) is = fetches_one folder
+
 decodes_one : (t : Target) → HasOneResult (Decodes t)
 decodes_one t bytes r q h g = h ∙ sym g
 
@@ -214,7 +221,7 @@ images_one folder addresses t = then_one _ _ (fetches_one folder) (then_one _ _ 
 
 images_some : (told : Option Folder) (addresses : ℕ) (t : Target) → HasSomeResult (Images told addresses t) t.image
 images_some told addresses t =
-    then_some _ _ t.image (surely (fetches_by told t.image)) (λ bytes h.
+    then_some _ _ t.image (fetches_some told t.image) (λ bytes h.
     then_some _ _ bytes (decodes_some t bytes) (λ image i. fits_some addresses t image))
 
 starts_one : (tables : spec.Tables) (t : Target) → HasOneResult (Starts tables t)
@@ -255,7 +262,7 @@ text_some told name =
     then_some _ _ s (tokenizes_some s) (λ k i. parses_some k))
 
 packed_some : (told : Option Folder) (name : List ℕ) → HasSomeResult (Then (Fetches told) (Unpacks name)) name
-packed_some told name = then_some _ _ name (surely (fetches_by told name)) (λ bytes h. unpacks_some name bytes)
+packed_some told name = then_some _ _ name (fetches_some told name) (λ bytes h. unpacks_some name bytes)
 
 pub reads_some : (told : Option Folder) (file : SpecFile) → HasSomeResult (Reads told) file
 reads_some told (TextFile name) =

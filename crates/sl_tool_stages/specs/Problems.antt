@@ -12,7 +12,7 @@ use Rattle.sl_preproc_directives.specs.declared.fault.Cause.TheVariants as cause
 use Rattle.sl_tool_stages.specs.Lines.{place_text, point_text}
 use Rattle.sl_tool_stages.specs.declared.problem.Conflict.{Conflict}
 use Rattle.sl_tool_stages.specs.declared.problem.Problem.{Problem}
-use Rattle.sl_tool_stages.specs.declared.problem.Problem.TheVariants.{NotPacked, Cut, Damaged, NoFile, TooLong, IncludeDepth, UndefinedName, ReplaceDepth, BadDirective, Unbalanced, BadByte, OpenString, WideInteger, Syntax, Nesting, NotSupported, Rule, SizeClash, SizeUnfixed, InteriorEllipsis, TokensDiffer, Impossible, TooManyCubes, WindowTooLong, Ambiguous, BadHex, NoContextField, ValueOutOfRange, HasActions, Misaligned, NoEncoding}
+use Rattle.sl_tool_stages.specs.declared.problem.Problem.TheVariants.{NotPacked, Cut, Damaged, NoFile, TooLong, IncludeDepth, UndefinedName, ReplaceDepth, BadDirective, Unbalanced, BadByte, OpenString, WideInteger, Syntax, Nesting, NotSupported, Rule, SizeClash, SizeUnfixed, InteriorEllipsis, TokensDiffer, Impossible, TooManyCubes, WindowTooLong, Ambiguous, BadHex, NoContextField, ValueOutOfRange, HasActions, Misaligned, NoEncoding, BadLine, BadAddress, Undecided}
 use Rattle.sl_tool_stages.specs.declared.place.Place.{Place}
 use Rattle.sl_tool_stages.specs.declared.refusal.Refusal.{Refusal}
 use Rattle.sl_tool_stages.specs.declared.refusal.Subject.{Subject}
@@ -71,6 +71,9 @@ words_of ValueOutOfRange = codes "value out of range"
 words_of HasActions = codes "has actions"
 words_of Misaligned = codes "misaligned"
 words_of NoEncoding = codes "no encoding"
+words_of BadLine = codes "bad line"
+words_of BadAddress = codes "bad address"
+words_of Undecided = codes "undecided"
 
 -- ---- the report of a conflict
 

@@ -1,9 +1,9 @@
-//! Where an instruction is assembled.
+//! Where an instruction, or an edited listing, is assembled.
 
 ghost use Rattle.std.specs.Prelude.{◌≡◌, IfOk};
 ghost use Rattle.sl_bind_compile.specs.Compiled.{IsCompiled};
-ghost use Rattle.sl_tool_request.specs.Views.{assembly as assembly_view};
-ghost use Rattle.sl_tool_stages.specs.Assembling.{Bases, Begins, Permits};
+ghost use Rattle.sl_tool_request.specs.Views.{assembly as assembly_view, patch as patch_view};
+ghost use Rattle.sl_tool_stages.specs.Assembling.{Bases, Begins, BeginsLines, Permits};
 ghost use Rattle.sl_tool_stages.specs.Outcomes.{Gives};
 ghost use Rattle.sl_tool_stages.specs.Places.{place_of_ctor};
 ghost use Rattle.sl_tool_stages.specs.Problems.{refusal_at};
@@ -20,7 +20,7 @@ use crate::refusal::{Refusal, Subject};
 use sl_asm_encodings::first_with_action;
 use sl_decode::address_size;
 use sl_spec::CtorId;
-use sl_tool_request::Assembly;
+use sl_tool_request::{Assembly, Patch};
 use std::alloc::{AllocError, Global};
 
 /// The refusal of the constructor that has an action.
@@ -41,11 +41,11 @@ fn acting(alloc: Global, compiled: &Compiled<'_, '_>, ctor: CtorId) -> Result<Re
 }
 
 /// Refuses the first constructor that has an action or a `globalset`, where none may have one.
-fn permit(alloc: Global, assembly: &Assembly<'_>, compiled: &Compiled<'_, '_>) -> Result<(), Halt>
-    ensures { Gives (Permits (assembly_view assembly.now) (compiled_view compiled.now))
+fn permit(alloc: Global, takes_actions: bool, compiled: &Compiled<'_, '_>) -> Result<(), Halt>
+    ensures { Gives (Permits takes_actions (compiled_view compiled.now))
         (λ _. compiled_view compiled.now) result }
 {
-    if assembly.takes_actions {
+    if takes_actions {
         return Ok(());
     }
     let items = compiled.specification.bound.spec.items.as_slice();
@@ -86,9 +86,25 @@ pub fn begin(
     ensures { Gives (Begins (assembly_view assembly.now) (compiled_view compiled.now))
         (λ context. context) result }
 {
-    permit(alloc, assembly, compiled)?;
+    permit(alloc, assembly.takes_actions, compiled)?;
     rest_on(alloc, assembly, compiled)?;
     let tables = &compiled.specification.bound.tables;
     let context = opened(alloc, assembly.context.as_slice(), tables)?;
+    Ok(context)
+}
+
+/// The context in which an edited listing is assembled, where no commit counts. First the actions of
+/// the specification are refused, and then the words for the context.
+pub fn begin_lines(
+    alloc: Global,
+    patch: &Patch<'_>,
+    compiled: &Compiled<'_, '_>,
+) -> Result<u64, Halt>
+    ensures { Gives (BeginsLines (patch_view patch.now) (compiled_view compiled.now))
+        (λ context. context) result }
+{
+    permit(alloc, patch.takes_actions, compiled)?;
+    let tables = &compiled.specification.bound.tables;
+    let context = opened(alloc, patch.context.as_slice(), tables)?;
     Ok(context)
 }

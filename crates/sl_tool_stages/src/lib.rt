@@ -13,7 +13,8 @@
 //! let loaded = Loaded::read(alloc, target, compiled, files)?;
 //! ```
 //!
-//! [`begin`] gives the context in which an instruction is assembled, in the place of an image.
+//! [`begin`] gives the context in which an instruction is assembled, in the place of an image, and
+//! [`begin_lines`] that of an edited listing.
 //!
 //! Where a stage gives nothing, a [`Halt`] says why. Of a specification, an image or a word for the
 //! context that is refused it has a [`Refusal`]: the line of a file or the name of a field, and the
@@ -40,7 +41,7 @@ mod source;
 mod tokens;
 mod tree;
 
-pub use beginning::begin;
+pub use beginning::{begin, begin_lines};
 pub use compiled::Compiled;
 pub use facts::Facts;
 pub use fetching::fetched;

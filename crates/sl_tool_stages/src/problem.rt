@@ -89,8 +89,14 @@ pub enum Problem {
     HasActions,
     /// The address is no multiple of the alignment.
     Misaligned,
-    /// No bytes are shown as the text.
+    /// No bytes are shown as the text; in a listing, none as many as the line shows.
     NoEncoding,
+    /// A line isn't of the form of a listing's lines.
+    BadLine,
+    /// The address of a line isn't that after the line before it, or its bytes lie past the last one.
+    BadAddress,
+    /// An edited line has bytes that aren't listed so beside those of the other lines.
+    Undecided,
 }
 
 /// Appends the words of the form.
@@ -161,5 +167,8 @@ pub fn push_words(out: &mut Vec<u8>, problem: &Problem) -> Result<(), AllocError
         Problem::HasActions => out.extend_from_slice(b"has actions"),
         Problem::Misaligned => out.extend_from_slice(b"misaligned"),
         Problem::NoEncoding => out.extend_from_slice(b"no encoding"),
+        Problem::BadLine => out.extend_from_slice(b"bad line"),
+        Problem::BadAddress => out.extend_from_slice(b"bad address"),
+        Problem::Undecided => out.extend_from_slice(b"undecided"),
     }
 }

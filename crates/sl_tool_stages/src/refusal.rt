@@ -44,17 +44,30 @@ impl Refusal {
     ghost use Rattle.sl_tool_stages.specs.Problems.{refusal_of_base, refusal_of_field};
     ghost use Rattle.sl_tool_stages.specs.Problems.{refusal_text};
 
-    /// The refusal of a whole file, which is its line 0.
-    pub fn of_file(alloc: Global, file: &str, problem: Problem) -> Result<Self, AllocError>
-        ensures { IfOk result (λ x. x ≡ refusal file.now 0 problem) }
+    /// The refusal of a line of a file, counted from 1.
+    pub fn of_line(
+        alloc: Global,
+        file: &str,
+        line: u64,
+        problem: Problem,
+    ) -> Result<Self, AllocError>
+        ensures { IfOk result (λ x. x ≡ refusal file.now line problem) }
     {
         let file = Name::copied(alloc, file)?;
-        let subject = Subject::Line(Place { file, line: 0 });
+        let subject = Subject::Line(Place { file, line });
         Ok(Refusal {
             subject,
             problem,
             facts: Facts::none(alloc),
         })
+    }
+
+    /// The refusal of a whole file, which is its line 0.
+    pub fn of_file(alloc: Global, file: &str, problem: Problem) -> Result<Self, AllocError>
+        ensures { IfOk result (λ x. x ≡ refusal file.now 0 problem) }
+    {
+        let refusal = Self::of_line(alloc, file, 0, problem)?;
+        Ok(refusal)
     }
 
     /// The refusal of the context field of this name.

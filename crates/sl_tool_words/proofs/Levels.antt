@@ -186,22 +186,22 @@ found_well word (d ∷ ds) c well e = here (bytes_eq d.name word) (found_well wo
     here false later e = later e
 
 none_well : ReadsWell []
-none_well = record { fresh = refl; words = refl; base = refl; steps = refl; base_value = λ e. cc; steps_value = λ e. cc; hex_flag = λ e. cc; packed_flag = λ e. cc; actions_flag = λ e. cc; explain_flag = λ e. cc }
+none_well = record { fresh = refl; words = refl; base = refl; steps = refl; base_value = λ e. cc; steps_value = λ e. cc; hex_flag = λ e. cc; packed_flag = λ e. cc; actions_flag = λ e. cc; lines_flag = λ e. cc; explain_flag = λ e. cc }
 
 check_well : ReadsWell check_options
-check_well = record { fresh = refl; words = refl; base = refl; steps = refl; base_value = λ e. cc; steps_value = λ e. cc; hex_flag = λ e. cc; packed_flag = λ e. cc; actions_flag = λ e. cc; explain_flag = λ e. cc }
+check_well = record { fresh = refl; words = refl; base = refl; steps = refl; base_value = λ e. cc; steps_value = λ e. cc; hex_flag = λ e. cc; packed_flag = λ e. cc; actions_flag = λ e. cc; lines_flag = λ e. cc; explain_flag = λ e. cc }
 
 spec_well : ReadsWell spec_options
-spec_well = record { fresh = refl; words = refl; base = refl; steps = refl; base_value = λ e. cc; steps_value = λ e. cc; hex_flag = λ e. cc; packed_flag = λ e. cc; actions_flag = λ e. cc; explain_flag = λ e. cc }
+spec_well = record { fresh = refl; words = refl; base = refl; steps = refl; base_value = λ e. cc; steps_value = λ e. cc; hex_flag = λ e. cc; packed_flag = λ e. cc; actions_flag = λ e. cc; lines_flag = λ e. cc; explain_flag = λ e. cc }
 
 target_well : ReadsWell target_options
-target_well = record { fresh = refl; words = refl; base = refl; steps = refl; base_value = λ e. cc; steps_value = λ e. cc; hex_flag = λ e. cc; packed_flag = λ e. cc; actions_flag = λ e. cc; explain_flag = λ e. cc }
+target_well = record { fresh = refl; words = refl; base = refl; steps = refl; base_value = λ e. cc; steps_value = λ e. cc; hex_flag = λ e. cc; packed_flag = λ e. cc; actions_flag = λ e. cc; lines_flag = λ e. cc; explain_flag = λ e. cc }
 
 run_well : ReadsWell run_options
-run_well = record { fresh = refl; words = refl; base = refl; steps = refl; base_value = λ e. cc; steps_value = λ e. cc; hex_flag = λ e. cc; packed_flag = λ e. cc; actions_flag = λ e. cc; explain_flag = λ e. cc }
+run_well = record { fresh = refl; words = refl; base = refl; steps = refl; base_value = λ e. cc; steps_value = λ e. cc; hex_flag = λ e. cc; packed_flag = λ e. cc; actions_flag = λ e. cc; lines_flag = λ e. cc; explain_flag = λ e. cc }
 
 asm_well : ReadsWell asm_options
-asm_well = record { fresh = refl; words = refl; base = refl; steps = refl; base_value = λ e. cc; steps_value = λ e. cc; hex_flag = λ e. cc; packed_flag = λ e. cc; actions_flag = λ e. cc; explain_flag = λ e. cc }
+asm_well = record { fresh = refl; words = refl; base = refl; steps = refl; base_value = λ e. cc; steps_value = λ e. cc; hex_flag = λ e. cc; packed_flag = λ e. cc; actions_flag = λ e. cc; lines_flag = λ e. cc; explain_flag = λ e. cc }
 
 commands_well : AllWell commands
 commands_well = (check_well, (target_well, (target_well, (run_well, (none_well, (spec_well, (none_well, (asm_well, tt))))))))

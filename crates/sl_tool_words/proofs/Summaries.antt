@@ -437,13 +437,14 @@ pub record ReadsWell (os : List OptionRule) : Type 0 where
   pub hex_flag : kind os (codes "hex") ≡ Some true → ⊥
   pub packed_flag : kind os (codes "packed") ≡ Some true → ⊥
   pub actions_flag : kind os (codes "actions") ≡ Some true → ⊥
+  pub lines_flag : kind os (codes "lines") ≡ Some true → ⊥
   pub explain_flag : kind os (codes "explain") ≡ Some true → ⊥
 
 -- what is given, from its parts
-pub arguments_made : {w1 w2 : List Text} {b1 b2 s1 s2 : Option Text} {h1 h2 p1 p2 a1 a2 x1 x2 : Bool} → w1 ≡ w2 → b1 ≡ b2 → s1 ≡ s2 → h1 ≡ h2 → p1 ≡ p2 → a1 ≡ a2 → x1 ≡ x2
-    → ◌≡◌ {A = Arguments} (record { words = w1; base = b1; steps = s1; is_hex = h1; is_packed = p1; takes_actions = a1; explains = x1 })
-    (record { words = w2; base = b2; steps = s2; is_hex = h2; is_packed = p2; takes_actions = a2; explains = x2 })
-arguments_made w b s h p a x = λ i. record { words = w i; base = b i; steps = s i; is_hex = h i; is_packed = p i; takes_actions = a i; explains = x i }
+pub arguments_made : {w1 w2 : List Text} {b1 b2 s1 s2 : Option Text} {h1 h2 p1 p2 a1 a2 l1 l2 x1 x2 : Bool} → w1 ≡ w2 → b1 ≡ b2 → s1 ≡ s2 → h1 ≡ h2 → p1 ≡ p2 → a1 ≡ a2 → l1 ≡ l2 → x1 ≡ x2
+    → ◌≡◌ {A = Arguments} (record { words = w1; base = b1; steps = s1; is_hex = h1; is_packed = p1; takes_actions = a1; by_lines = l1; explains = x1 })
+    (record { words = w2; base = b2; steps = s2; is_hex = h2; is_packed = p2; takes_actions = a2; by_lines = l2; explains = x2 })
+arguments_made w b s h p a l x = λ i. record { words = w i; base = b i; steps = s i; is_hex = h i; is_packed = p i; takes_actions = a i; by_lines = l i; explains = x i }
 
 module _ (os : List OptionRule) (well : ReadsWell os) (ps : List Part) (fit : AllFit os ps) (once : are_once ps ≡ true) where
   abbrev end : List Row
@@ -495,4 +496,4 @@ module _ (os : List OptionRule) (well : ReadsWell os) (ps : List Part) (fit : Al
   rows_read =
       arguments_made words_read (option_read (codes "base") refl well.base well.base_value) (option_read (codes "steps") refl well.steps well.steps_value)
       (given_read (codes "hex") refl well.hex_flag) (given_read (codes "packed") refl well.packed_flag) (given_read (codes "actions") refl well.actions_flag)
-      (given_read (codes "explain") refl well.explain_flag)
+      (given_read (codes "lines") refl well.lines_flag) (given_read (codes "explain") refl well.explain_flag)

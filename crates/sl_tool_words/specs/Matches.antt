@@ -24,6 +24,7 @@ arguments_in rows = record {
   is_hex = is_given_in (codes "hex") rows;
   is_packed = is_given_in (codes "packed") rows;
   takes_actions = is_given_in (codes "actions") rows;
+  by_lines = is_given_in (codes "lines") rows;
   explains = is_given_in (codes "explain") rows;
 }
 

@@ -49,6 +49,7 @@ pub fn arguments_of<'a>(
         is_hex: is_given(matches, "hex"),
         is_packed: is_given(matches, "packed"),
         takes_actions: is_given(matches, "actions"),
+        by_lines: is_given(matches, "lines"),
         explains: is_given(matches, "explain"),
     })
 }

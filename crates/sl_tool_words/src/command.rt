@@ -74,14 +74,15 @@ fn runner<'a>(alloc: Global, name: &'a str) -> Result<Command<'a>, AllocError>
     Ok(command)
 }
 
-/// The command that assembles an instruction.
+/// The command that assembles an instruction, or the lines of an edited listing.
 fn assembler<'a>(alloc: Global, name: &'a str) -> Result<Command<'a>, AllocError>
     ensures shape { IfOk result (λ c. shape_of c ≡ leaf name.entry.now asm_options) }
     ensures local { IfOk result (λ c. (fields_of c).has_globals ≡ false) }
 {
     let command = over_spec(alloc, name)?
         .arg(option(alloc, "base", ArgAction::Set))?
-        .arg(option(alloc, "actions", ArgAction::SetTrue))?;
+        .arg(option(alloc, "actions", ArgAction::SetTrue))?
+        .arg(option(alloc, "lines", ArgAction::SetTrue))?;
     Ok(command)
 }
 

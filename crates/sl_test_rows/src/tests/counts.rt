@@ -31,7 +31,7 @@ struct Row {
 const USAGE: &str = "usage: sleigh check SPEC | list SPEC IMAGE | pcode SPEC IMAGE \
     | run SPEC IMAGE | gen NUMBER | gaps SPEC | pack SPEC | asm SPEC TEXT\n";
 
-static ROWS: [Row; 13] = [
+static ROWS: [Row; 14] = [
     Row {
         words: &[],
         image: b"",
@@ -118,6 +118,14 @@ static ROWS: [Row; 13] = [
         image: b"",
         status: Status::Refused,
         text: "no encoding\n",
+        count: 0,
+    },
+    // 0x6f is `halt`, and an `o`.
+    Row {
+        words: &["sleigh", "asm", "s", "i", "--lines"],
+        image: b"0012: 6f halt\n",
+        status: Status::Done,
+        text: "o",
         count: 0,
     },
     // Two sums an instruction.

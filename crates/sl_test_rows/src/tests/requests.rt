@@ -4,7 +4,7 @@ use sl_tool_words::request_of;
 use std::test::Fail;
 
 /// What is printed of a request of each kind.
-static ASKED: [(&[&str], &str); 6] = [
+static ASKED: [(&[&str], &str); 7] = [
     (
         &["sleigh", "check", "--", "-s"],
         "Some(Check(Text(\"-s\"), false))",
@@ -24,6 +24,10 @@ static ASKED: [(&[&str], &str); 6] = [
     (
         &["sleigh", "asm", "s", "add 0x5", "--actions"],
         "Some(Asm(Assembly { spec: Text(\"s\"), text: \"add 0x5\", base: 0, context: [], takes_actions: true }))",
+    ),
+    (
+        &["sleigh", "asm", "s", "l", "--lines", "m=1"],
+        "Some(Patch(Patch { spec: Text(\"s\"), listing: \"l\", context: [FieldValue { field: \"m\", value: 1 }], takes_actions: false }))",
     ),
     (&["sleigh", "list", "s"], "None"),
 ];

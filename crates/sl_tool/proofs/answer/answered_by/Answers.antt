@@ -1,10 +1,11 @@
-use Rattle.std.proofs.Common.{ℕ, Some, refl, subst, sym}
+use Rattle.std.proofs.Common.{Some, refl, subst, sym}
 use Rattle.std.proofs.lemmas.Result.{err_from_is_err_and}
 use Rattle.sl_outside.specs.Uses.{UsesFiles}
-use Rattle.sl_tool_request.specs.Views.{assembly, target}
+use Rattle.sl_tool_request.specs.Views.{assembly, patch, target}
 use Rattle.sl_tool.specs.Answers.{Follows, Shows, asked_after, counts_of, figures_of, gaps_of, packs_of, shows_of}
 use Rattle.sl_tool.specs.Assembled.{Assembles}
 use Rattle.sl_tool.specs.Ends.{RunsNothing}
+use Rattle.sl_tool.specs.Patched.{PatchesFile}
 use Rattle.sl_tool.specs.Growth.{Grew}
 use Rattle.sl_tool.specs.Requests.{request, show_of}
 use Rattle.sl_tool.specs.declared.request.Request.{Request}
@@ -143,6 +144,26 @@ returns-in-Assemble-clause-files g c =
 
 pub returns-in-Assemble-clause-unwritten : goal.returns-in-Assemble-clause-unwritten
 returns-in-Assemble-clause-unwritten g c = λ fails. absurd (c.assemble.ensures.unread fails)
+
+-- ---- the image of a listing is made
+
+pub returns-in-Patch-clause-writes : goal.returns-in-Patch-clause-writes
+returns-in-Patch-clause-writes g c =
+    let told = g.F.Files.told c.args.files.now in
+    let r = request c.args.request.now in
+    let n = g.R.Runner.count c.args.runner.now in
+    let v = compiled_view c.in_ok-compiled.compiled in
+    let S = PatchesFile told (patch c.in-Patch.listing) in
+    writes_map (S v) (Then Compiles (Follows told r) (tree_view c.args.tree)) _ _ (Grew n n) c.patch.result
+    (λ x t. goes c.in_ok-compiled.ensures.gives (subst (λ (q : Request). Follows told (request q) v x) (sym c.in-Patch.is) t))
+    (writes_alike (S v) _ _ n c.patch.result (g.R.Runner.small c.args.runner.now) c.patch.ensures.writes)
+
+pub returns-in-Patch-clause-files : goal.returns-in-Patch-clause-files
+returns-in-Patch-clause-files g c =
+    let v = compiled_view c.in_ok-compiled.compiled in
+    follows g.F.Files.told g.F.Files.faults g.F.Files.asked (request c.args.request.now) _ _ (tree_view c.args.tree) v _ _ c.in_ok-compiled.ensures.gives
+    (subst (λ (q : Request). UsesFiles g.F.Files.told g.F.Files.faults g.F.Files.asked c.args.files.now c.patch.new.files (asked_after (request q))
+    (IsEarly c.patch.result) (FailsToRead c.patch.result)) (sym c.in-Patch.is) c.patch.ensures.files)
 
 -- ---- an image is shown
 

@@ -9,8 +9,7 @@ use Rattle.sl_tool.specs.Streams.{RanNone}
 use Rattle.sl_tool_stages.specs.Assembling.{Begins}
 use Rattle.sl_tool_stages.specs.Stage.Then.{goes, stops}
 use Rattle.sl_tool_stages.specs.StageViews.{compiled_view}
-use Rattle.sl_tool.proofs.AnsweredLemmas.{stop_sink, stop_writes}
-use Rattle.sl_tool.proofs.AssembledLemmas.{line_front, line_shown, writing_reads}
+use Rattle.sl_tool.proofs.AnsweredLemmas.{front_writes, stop_sink, stop_writes, text_shown, writing_reads}
 use Rattle.sl_tool_stages.proofs.HaltLemmas.{gives_obtains, stop_unread}
 use Rattle.sl_tool.proofs.assemble.assemble.Goals as goal
 
@@ -18,7 +17,7 @@ abbrev same : ℕ → ℕ
 same n = n
 
 abbrev line_view : Vec ℕ Global → Shown
-line_view line = line_shown line.items
+line_view line = text_shown line.items
 
 -- ---- it isn't to be assembled
 
@@ -75,7 +74,7 @@ returns-in_err-write_all-clause-writes g c =
     let a = assembly c.args.assembly.now in
     let v = compiled_view c.args.compiled.now in
     let front = subst (λ (b : List ℕ). AppendsFront (g.K.Sink.taken c.args.out.now) (g.K.Sink.taken c.write_all.new.out) b) c.as_slice.ensures.value c.in_err-write_all.ensures.front in
-    rw (p.1, p.2) (line_front a v _ _ c.in_ok-context.context c.in_ok-line.line.items c.in_err-write_all.field-0.0 c.in_ok-context.ensures c.in_ok-line.ensures
+    rw (p.1, p.2) (front_writes (Assembles a v) _ _ c.in_ok-line.line.items c.in_err-write_all.field-0.0 (goes c.in_ok-context.ensures c.in_ok-line.ensures)
     c.in_err-write_all.ensures.writing front)
 
 pub returns-in_err-write_all-clause-unread : goal.returns-in_err-write_all-clause-unread

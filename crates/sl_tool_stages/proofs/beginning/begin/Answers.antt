@@ -1,4 +1,4 @@
-use Rattle.std.proofs.Common.{List, Ok, Err, map, ap, ◌∙◌}
+use Rattle.std.proofs.Common.{List, map, ap, ◌∙◌}
 use Rattle.std.proofs.lemmas.Result.{err_from_is_err_and}
 use Rattle.sl_tool_contexts.specs.Words.{starting_context}
 use Rattle.sl_tool_request.specs.Views.{assembly, field}
@@ -19,7 +19,7 @@ returns-in_err-permit c =
     let p = err_from_is_err_and c.from_residual.result c.from_residual.ensures.1 in
     let a = assembly c.args.assembly.now in
     let v = compiled_view c.args.compiled.now in
-    rw (p.1, p.2) (gives_err (Permits a v) (Begins a v) (still v) context c.in_err-permit.field-0.0 (λ x s. stops (stops s)) c.in_err-permit.ensures)
+    rw (p.1, p.2) (gives_err (Permits a.takes_actions v) (Begins a v) (still v) context c.in_err-permit.field-0.0 (λ x s. stops (stops s)) c.in_err-permit.ensures)
 
 pub returns-in_err-rest_on : goal.returns-in_err-rest_on
 returns-in_err-rest_on c =

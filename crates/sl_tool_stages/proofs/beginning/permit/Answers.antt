@@ -16,7 +16,7 @@ returns-in_ok-refusal-in-Some c =
     let items = c.as_slice-items.result.now in
     let found = subst (λ (o : Option ℕ). MatchOption o (HasNoActions (all items)) (IsFirstWithAction (all items))) c.in-Some.is c.in_ok-ctor.ensures in
     let first = subst (λ (l : List Item). IsFirstWithAction (all l) c.in-Some.ctor) c.as_slice-items.ensures.value found in
-    (c.in-Some.ctor, c.if-assembly.false, first, c.in_ok-refusal-in-Some.ensures)
+    (c.in-Some.ctor, c.if-takes_actions.false, first, c.in_ok-refusal-in-Some.ensures)
 
 pub returns-in-None : goal.returns-in-None
 returns-in-None c =

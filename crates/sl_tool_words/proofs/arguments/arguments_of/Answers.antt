@@ -8,4 +8,4 @@ pub returns : goal.returns
 returns c =
     arguments_made c.in_ok-words.ensures (c.get_str.ensures ∙ first_value-rows (found_of c.args.matches.now) (codes "base"))
     (c.get_str-2.ensures ∙ first_value-rows (found_of c.args.matches.now) (codes "steps")) c.is_given.ensures c.is_given-2.ensures c.is_given-3.ensures
-    c.is_given-4.ensures
+    c.is_given-4.ensures c.is_given-5.ensures
