@@ -70,7 +70,8 @@ put_into top t at v = memory_put top t at.space.0 (reference_of at.pointer.now) 
 
 -- a value with other bits is put into a varnode
 abbrev pub inserted : (top t : ℕ) → Bits → Varnode → List Operation
-inserted top t b to = bits_put top t b.size b.old b.new b.below b.span.low b.span.count to
+inserted top t b to =
+    bits_put top t b.size b.old b.new.value b.new.below b.new.span.low b.new.span.count to
 
 -- the label that a statement jumps to
 abbrev pub jumps_to : t.Tail → Option s.Label

@@ -1,6 +1,6 @@
 //! Values that are put into memory, and into bits.
 
-ghost use Rattle.std.specs.Prelude.{◌≡◌, ◌++◌, false, OnOk};
+ghost use Rattle.std.specs.Prelude.{◌≡◌, ◌++◌, OnOk};
 ghost use Rattle.sl_faithful_code.specs.Operations as o;
 ghost use Rattle.sl_faithful_code.specs.Statements as step;
 ghost use Rattle.sl_build_emit.specs.Views.{inserted, put_into, reference_of, references_of};
@@ -8,7 +8,7 @@ ghost use Rattle.sl_meaning_sections.specs.References as reference;
 ghost use Rattle.sl_meaning_sections.specs.Values as meaning;
 ghost use Rattle.sl_build_template.specs.Placed as p;
 
-use crate::insert::{Bits, insert};
+use crate::insert::{Bits, Put, insert};
 use crate::operations::Operations;
 use crate::reading::read_operand;
 use crate::reference::Reference;
@@ -16,7 +16,6 @@ use crate::site::Site;
 use crate::varnodes::{at_temp, local};
 use sl_build_template::{in_space, sized};
 use sl_pcode::Varnode;
-use sl_section_flat::Span;
 use sl_word::{Size, SpaceId};
 use std::alloc::AllocError;
 
@@ -80,9 +79,9 @@ fn reference_bits(
     r: &Reference,
     bits: Bits,
 ) -> Result<(), AllocError>
-    requires { bits.below ≡ false }
     ensures { OnOk result (out.new ≡ out.old ++ step.reference_bits site.now.top
-        (reference_of r.now) bits.size bits.old bits.new bits.span.low bits.span.count) }
+        (reference_of r.now) bits.size bits.old bits.new.value bits.new.below bits.new.span.low
+        bits.new.span.count) }
 {
     match r {
         Reference::Storage(r) => {
@@ -113,43 +112,35 @@ fn reference_size(r: &Reference) -> Size
     }
 }
 
-/// A value is put into bits of what a reference stands for.
+/// Bits are put into what a reference stands for.
 fn reference_put_bits(
     site: &Site<'_>,
     out: &mut Operations,
     r: &Reference,
-    v: Varnode,
-    span: Span,
+    new: Put,
 ) -> Result<(), AllocError>
-    ensures { OnOk result (out.new ≡ out.old
-        ++ p.bits_code site.now.top (reference_of r.now) v span.low span.count) }
+    ensures { OnOk result (out.new ≡ out.old ++ p.bits_code site.now.top (reference_of r.now)
+        new.value new.below new.span.low new.span.count) }
 {
     let size = reference_size(r);
     let old = read_operand(site, out, 1, r, size)?;
-    let bits = Bits {
-        size,
-        old,
-        new: v,
-        below: false,
-        span,
-    };
-    reference_bits(site, out, r, bits)
+    reference_bits(site, out, r, Bits { size, old, new })
 }
 
-/// A value is put into bits of what an operand stands for.
+/// Bits are put into what an operand stands for.
 #[tactic(auto, using(crate::proofs::Operands::absent, crate::proofs::Operands::and_nothing))]
 pub(crate) fn operand_bits(
     site: &Site<'_>,
     out: &mut Operations,
     i: u32,
-    v: Varnode,
-    span: Span,
+    new: Put,
 ) -> Result<(), AllocError>
     ensures { OnOk result (out.new ≡ out.old ++ p.bits_code site.now.top
-        (meaning.reference_at (references_of site.now.refs.now) i) v span.low span.count) }
+        (meaning.reference_at (references_of site.now.refs.now) i) new.value new.below new.span.low
+        new.span.count) }
 {
     match site.refs.get(i as usize) {
-        Some(r) => reference_put_bits(site, out, r, v, span),
+        Some(r) => reference_put_bits(site, out, r, new),
         None => Ok(()),
     }
 }

@@ -10,7 +10,7 @@ use crate::varnodes::at_temp;
 use sl_build_template::{above, all_but, amount, constant};
 use sl_pcode::Varnode;
 use sl_section_flat::Span;
-use sl_word::{Op2, Size};
+use sl_word::Op2;
 use std::alloc::AllocError;
 
 /// A value is moved down, where that changes it.
@@ -24,31 +24,8 @@ fn lowered(
     ensures code { OnOk result (out.new ≡ out.old ++ b.lower site.now.top t from low) }
     ensures at { IfOk result (λ v. v ≡ b.lowered site.now.top t from low) }
 {
-    if 0 < low {
-        let new = at_temp(site, t, from.size);
-        out.binary(Op2::IntRight, new, from, amount(low))?;
-        return Ok(new);
-    }
-    Ok(from)
-}
-
-/// A value is cut to `n` bytes, where it has more.
-fn shortened(
-    site: &Site<'_>,
-    out: &mut Operations,
-    t: u32,
-    from: Varnode,
-    n: Size,
-) -> Result<Varnode, AllocError>
-    ensures code { OnOk result (out.new ≡ out.old ++ b.shorten site.now.top t from n) }
-    ensures at { IfOk result (λ v. v ≡ b.shortened site.now.top t from n) }
-{
-    if n.bytes < from.size.bytes {
-        let new = at_temp(site, t, n);
-        out.binary(Op2::Subpiece, new, from, amount(0))?;
-        return Ok(new);
-    }
-    Ok(from)
+    let new = at_temp(site, t, from.size);
+    out.binary_where(0 < low, Op2::IntRight, new, from, amount(low))
 }
 
 /// The lowest bits of a value are put into a varnode.
@@ -63,7 +40,9 @@ fn clear_above(
     requires { count ≤ 64 }
     ensures { OnOk result (out.new ≡ out.old ++ b.clear_above site.now.top t from count to) }
 {
-    let short = shortened(site, out, t, from, to.size)?;
+    let new = at_temp(site, t, to.size);
+    let is_longer = to.size.bytes < from.size.bytes;
+    let short = out.binary_where(is_longer, Op2::Subpiece, new, from, amount(0))?;
     out.binary(Op2::IntAnd, to, short, constant(ones(count), to.size))
 }
 

@@ -16,15 +16,21 @@ use sl_section_flat::Span;
 use sl_word::{Op1, Op2, Size};
 use std::alloc::AllocError;
 
-/// Bits of a value of `size` bytes, `old`, which get another value, `new`.
+/// The lowest bits of a value, which are put into a span of another.
+#[derive(Clone, Copy)]
+pub(crate) struct Put {
+    pub(crate) value: Varnode,
+    /// The value has no bits but those.
+    pub(crate) below: bool,
+    pub(crate) span: Span,
+}
+
+/// A value of `size` bytes, `old`, in which bits are replaced.
 #[derive(Clone, Copy)]
 pub(crate) struct Bits {
     pub(crate) size: Size,
     pub(crate) old: Varnode,
-    pub(crate) new: Varnode,
-    /// `new` has no bits but those that are put.
-    pub(crate) below: bool,
-    pub(crate) span: Span,
+    pub(crate) new: Put,
 }
 
 /// A value as one of `n` bytes.
@@ -46,48 +52,6 @@ fn widened(
     Ok(v)
 }
 
-/// Its bits above `count` cleared, where that is wanted.
-fn cleared(
-    site: &Site<'_>,
-    out: &mut Operations,
-    t: u32,
-    more: bool,
-    n: Size,
-    v: Varnode,
-    count: u64,
-) -> Result<Varnode, AllocError>
-    requires { count ≤ 64 }
-    ensures code { OnOk result (out.new ≡ out.old ++ b.clear site.now.top more t n v count) }
-    ensures at { IfOk result (λ w. w ≡ b.cleared site.now.top more t n v) }
-{
-    if more {
-        let new = at_temp(site, t, n);
-        out.binary(Op2::IntAnd, new, v, constant(ones(count), n))?;
-        return Ok(new);
-    }
-    Ok(v)
-}
-
-/// Moved to its place, where that is another.
-fn raised(
-    site: &Site<'_>,
-    out: &mut Operations,
-    t: u32,
-    n: Size,
-    v: Varnode,
-    low: u64,
-) -> Result<Varnode, AllocError>
-    ensures code { OnOk result (out.new ≡ out.old ++ b.raise site.now.top t n v low) }
-    ensures at { IfOk result (λ w. w ≡ b.raised site.now.top t n v low) }
-{
-    if 0 < low {
-        let new = at_temp(site, t, n);
-        out.binary(Op2::IntLeft, new, v, amount(low))?;
-        return Ok(new);
-    }
-    Ok(v)
-}
-
 /// Bits in their place, `v`, are joined with the other bits of the old value.
 fn join(
     site: &Site<'_>,
@@ -98,13 +62,14 @@ fn join(
     to: Varnode,
 ) -> Result<(), AllocError>
     requires few { bits.size.bytes ≤ 8 }
-    requires inside { bits.span.low + bits.span.count ≤ 8 * bits.size.bytes }
+    requires inside { bits.new.span.low + bits.new.span.count ≤ 8 * bits.size.bytes }
     requires free { t ≤ 4 }
     ensures { OnOk result (out.new ≡ out.old
-        ++ b.join site.now.top t bits.size bits.old v bits.span.low bits.span.count to) }
+        ++ b.join site.now.top t bits.size bits.old v bits.new.span.low bits.new.span.count to) }
 {
     let field = at_temp(site, t + 1, bits.size);
-    out.binary(Op2::IntAnd, field, bits.old, others(bits.size, bits.span))?;
+    let rest = others(bits.size, bits.new.span);
+    out.binary(Op2::IntAnd, field, bits.old, rest)?;
     out.binary(Op2::IntOr, to, field, v)
 }
 
@@ -118,15 +83,15 @@ fn number_put(
     to: Varnode,
 ) -> Result<(), AllocError>
     requires few { bits.size.bytes ≤ 8 }
-    requires inside { bits.span.low + bits.span.count ≤ 8 * bits.size.bytes }
+    requires inside { bits.new.span.low + bits.new.span.count ≤ 8 * bits.size.bytes }
     requires free { t ≤ 4 }
-    ensures { OnOk result (out.new ≡ out.old
-        ++ b.number_put site.now.top t bits.size bits.old bits.span.low bits.span.count k to) }
+    ensures { OnOk result (out.new ≡ out.old ++ b.number_put site.now.top t bits.size bits.old
+        bits.new.span.low bits.new.span.count k to) }
 {
     if k == 0 {
-        return out.binary(Op2::IntAnd, to, bits.old, others(bits.size, bits.span));
+        return out.binary(Op2::IntAnd, to, bits.old, others(bits.size, bits.new.span));
     }
-    if k == mask(bits.span) {
+    if k == mask(bits.new.span) {
         return out.binary(Op2::IntOr, to, bits.old, constant(k, bits.size));
     }
     join(site, out, t, bits, constant(k, bits.size), to)
@@ -135,10 +100,10 @@ fn number_put(
 /// Whether the new value may have bits above those that are put, which would stay.
 fn has_more(bits: Bits) -> bool
     ensures { result
-        ≡ b.has_more bits.size bits.new bits.below bits.span.low bits.span.count }
+        ≡ b.has_more bits.size bits.new.value bits.new.below bits.new.span.low bits.new.span.count }
 {
-    let wide = u64::from(bits.span.count) < 8 * u64::from(bits.new.size.bytes);
-    !bits.below && (wide && ends_below(bits.span, bits.size))
+    let wide = u64::from(bits.new.span.count) < 8 * u64::from(bits.new.value.size.bytes);
+    !bits.new.below && (wide && ends_below(bits.new.span, bits.size))
 }
 
 /// The bits of a value.
@@ -150,16 +115,17 @@ fn value_put(
     to: Varnode,
 ) -> Result<(), AllocError>
     requires few { bits.size.bytes ≤ 8 }
-    requires inside { bits.span.low + bits.span.count ≤ 8 * bits.size.bytes }
+    requires inside { bits.new.span.low + bits.new.span.count ≤ 8 * bits.size.bytes }
     requires free { t ≤ 4 }
     ensures { OnOk result (out.new ≡ out.old ++ b.value_put site.now.top t bits.size bits.old
-        bits.new bits.below bits.span.low bits.span.count to) }
+        bits.new.value bits.new.below bits.new.span.low bits.new.span.count to) }
 {
-    let n = bits.size;
-    let wide = widened(site, out, t, n, bits.new)?;
-    let count = u64::from(bits.span.count);
-    let few = cleared(site, out, t, has_more(bits), n, wide, count)?;
-    let there = raised(site, out, t, n, few, bits.span.low)?;
+    let (n, low) = (bits.size, bits.new.span.low);
+    let new = at_temp(site, t, n);
+    let all = constant(ones(u64::from(bits.new.span.count)), n);
+    let wide = widened(site, out, t, n, bits.new.value)?;
+    let few = out.binary_where(has_more(bits), Op2::IntAnd, new, wide, all)?;
+    let there = out.binary_where(0 < low, Op2::IntLeft, new, few, amount(low))?;
     join(site, out, t, bits, there, to)
 }
 
@@ -172,14 +138,14 @@ fn put_by_mask(
     to: Varnode,
 ) -> Result<(), AllocError>
     requires few { bits.size.bytes ≤ 8 }
-    requires inside { bits.span.low + bits.span.count ≤ 8 * bits.size.bytes }
+    requires inside { bits.new.span.low + bits.new.span.count ≤ 8 * bits.size.bytes }
     requires free { t ≤ 4 }
     ensures { OnOk result (out.new ≡ out.old ++ b.put_by_mask site.now.top
-        (b.number_at bits.new.place bits.new.offset) t bits.size bits.old bits.new bits.below
-        bits.span.low bits.span.count to) }
+        (b.number_at bits.new.value.place bits.new.value.offset) t bits.size bits.old
+        bits.new.value bits.new.below bits.new.span.low bits.new.span.count to) }
 {
-    match number_at(bits.new) {
-        Some(k) => number_put(site, out, t, bits, placed(k, bits.span), to),
+    match number_at(bits.new.value) {
+        Some(k) => number_put(site, out, t, bits, placed(k, bits.new.span), to),
         None => value_put(site, out, t, bits, to),
     }
 }
@@ -209,17 +175,17 @@ fn put_by_shifts(
 ) -> Result<(), AllocError>
     requires free { t ≤ 4 }
     ensures { OnOk result (out.new ≡ out.old ++ b.put_by_shifts site.now.top t bits.size bits.old
-        bits.new bits.span.low bits.span.count to) }
+        bits.new.value bits.new.span.low bits.new.span.count to) }
 {
-    let count = u64::from(bits.span.count);
+    let count = u64::from(bits.new.span.count);
     let new = at_temp(site, t, bits.size);
     let field = at_temp(site, t + 1, bits.size);
-    let high = amount(above(bits.size, bits.span.low, count));
+    let high = amount(above(bits.size, bits.new.span.low, count));
     let rest = amount(all_but(bits.size, count));
-    out.unary(Op1::IntZext, new, bits.new)?;
+    out.unary(Op1::IntZext, new, bits.new.value)?;
     moved(out, new, new, rest, high)?;
     moved(out, field, bits.old, high, rest)?;
-    out.binary(Op2::IntLeft, field, field, amount(bits.span.low))?;
+    out.binary(Op2::IntLeft, field, field, amount(bits.new.span.low))?;
     out.binary(Op2::IntSub, field, bits.old, field)?;
     out.binary(Op2::IntAdd, to, field, new)
 }
@@ -236,7 +202,7 @@ pub(crate) fn insert(
     requires free { t ≤ 4 }
     ensures { OnOk result (out.new ≡ out.old ++ inserted site.now.top t bits to) }
 {
-    if has_mask(bits.size, bits.span) {
+    if has_mask(bits.size, bits.new.span) {
         return put_by_mask(site, out, t, bits, to);
     }
     put_by_shifts(site, out, t, bits, to)

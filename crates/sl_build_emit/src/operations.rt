@@ -1,6 +1,7 @@
 //! The operations so far, and one more.
 
-ghost use Rattle.std.specs.Prelude.{◌≡◌, ◌≤◌, ◌++◌, ◌∷◌, [], None, length, OnOk};
+ghost use Rattle.std.specs.Prelude.{◌≡◌, ◌≤◌, ◌++◌, ◌∷◌, [], None, length, IfOk, OnOk};
+ghost use Rattle.sl_faithful_code.specs.Bits as bits;
 ghost use Rattle.sl_faithful_code.specs.Operations as o;
 ghost use Rattle.sl_build_emit.specs.Views.{operations_of};
 ghost use Rattle.sl_pcode.specs.declared.code.Code.TheVariants.{CallOther};
@@ -209,6 +210,25 @@ impl Operations {
             return self.by_one(Op1::Copy, to, b);
         }
         self.by_two(op, to, a, b)
+    }
+
+    /// The same where it is wanted. The result is where the value is then: `to`, or else still `a`.
+    pub(crate) fn binary_where(
+        &mut self,
+        wanted: bool,
+        op: Op2,
+        to: Varnode,
+        a: Varnode,
+        b: Varnode,
+    ) -> Result<Varnode, AllocError>
+        ensures code { OnOk result (self.new ≡ self.old ++ bits.taken wanted (o.binary op to a b)) }
+        ensures at { IfOk result (λ v. v ≡ bits.moved wanted to a) }
+    {
+        if wanted {
+            self.binary(op, to, a, b)?;
+            return Ok(to);
+        }
+        Ok(a)
     }
 
     pub(crate) fn load(

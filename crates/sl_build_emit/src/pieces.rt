@@ -1,6 +1,6 @@
 //! Pieces of templates at a node.
 
-ghost use Rattle.std.specs.Prelude.{◌≡◌, ◌++◌, ◌∷◌, [], OnOk};
+ghost use Rattle.std.specs.Prelude.{◌≡◌, ◌++◌, ◌∷◌, [], IfOk, OnOk};
 ghost use Rattle.sl_faithful_code.specs.Operations as o;
 ghost use Rattle.sl_build_emit.specs.Views.{frame_of, setting_of};
 ghost use Rattle.sl_build_template.specs.Placed as p;
@@ -10,11 +10,11 @@ ghost use Rattle.sl_build_template.specs.declared.piece.Piece.TheVariants as var
 use crate::bits::operand_bits;
 use crate::extract::extract;
 use crate::given::{given_into, given_read};
-use crate::insert::{Bits, insert};
+use crate::insert::{Bits, Put, insert};
 use crate::operations::Operations;
 use crate::site::Site;
 use crate::slots::{operand_put, operand_stored, value};
-use sl_build_template::{Insert, Piece, Slot, amount};
+use sl_build_template::{Insert, NewBits, Piece, Slot, amount};
 use sl_word::UserId;
 use std::alloc::AllocError;
 
@@ -38,6 +38,18 @@ fn user_call(
     out.call(&inputs)
 }
 
+/// Bits that are put, by their varnode.
+fn new_bits(site: &Site<'_>, new: NewBits) -> Result<Put, AllocError>
+    ensures value { IfOk result (λ put. put.value
+        ≡ p.value site.now.top (setting_of site.now) (frame_of site.now) new.value) }
+    ensures below { IfOk result (λ put. put.below ≡ new.below) }
+    ensures span { IfOk result (λ put. put.span ≡ new.span) }
+{
+    let value = value(site, new.value)?;
+    let (below, span) = (new.below, new.span);
+    Ok(Put { value, below, span })
+}
+
 /// A value with other bits is put into a varnode. Templates have the temporary values up to 4; a
 /// greater number would be want of memory.
 fn inserted(
@@ -54,16 +66,10 @@ fn inserted(
         return Err(AllocError);
     }
     let old = value(site, bits.old)?;
-    let new = value(site, bits.new)?;
+    let new = new_bits(site, bits.new)?;
     let to = value(site, to)?;
-    let bits = Bits {
-        size: bits.size,
-        old,
-        new,
-        below: bits.below,
-        span: bits.span,
-    };
-    insert(site, out, t, bits, to)
+    let size = bits.size;
+    insert(site, out, t, Bits { size, old, new }, to)
 }
 
 /// A piece.
@@ -110,9 +116,9 @@ fn piece(site: &Site<'_>, out: &mut Operations, a: &Piece) -> Result<(), AllocEr
         }
         Piece::Put(i, v) => operand_put(site, out, *i, *v),
         Piece::Stored(i, n) => operand_stored(site, out, *i, *n),
-        Piece::PutBits(i, v, span) => {
-            let v = value(site, *v)?;
-            operand_bits(site, out, *i, v, *span)
+        Piece::PutBits(i, new) => {
+            let new = new_bits(site, *new)?;
+            operand_bits(site, out, *i, new)
         }
         Piece::Extract(t, from, span, to) => {
             let from = value(site, *from)?;

@@ -1,3 +1,4 @@
+pub mod Numbers
 pub mod PieceLemmas
 pub mod PlacedLemmas
 pub mod TermLemmas

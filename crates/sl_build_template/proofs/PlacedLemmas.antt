@@ -86,31 +86,31 @@ module _ (top : ℕ) (g : Setting) (f : Frame) where
   set_is (s.integer v) e = before_is top g f 0 e
 
   -- bits of what a name stands for, read before
-  abbrev bits_of : Symbol → (v : Varnode) → (low count : ℕ) → List Operation
-  bits_of a v low count =
-      step.symbol_before top g f 1 a (symbol_size g f a) ++ step.symbol_bits top g f a (symbol_size g f a) (step.symbol_operand top g f 1 a (symbol_size g f a)) v low count
+  abbrev bits_of : Symbol → (v : Varnode) → (below : Bool) → (low count : ℕ) → List Operation
+  bits_of a v below low count =
+      step.symbol_before top g f 1 a (symbol_size g f a) ++ step.symbol_bits top g f a (symbol_size g f a) (step.symbol_operand top g f 1 a (symbol_size g f a)) v below low count
 
-  bits_are : (a : Symbol) (v : Slot) (low count : ℕ) → all (p.symbol_bits (form g f) a v low count) ≡ bits_of a (value top g f v) low count
-  bits_are (s.register space offset k) v low count = append-nil _
-  bits_are (s.bit_range space offset k low' count') v low count =
+  bits_are : (a : Symbol) (v : Slot) (below : Bool) (low count : ℕ) → all (p.symbol_bits (form g f) a v below low count) ≡ bits_of a (value top g f v) below low count
+  bits_are (s.register space offset k) v below low count = append-nil _
+  bits_are (s.bit_range space offset k low' count') v below low count =
       let n = size_at (bit_bytes count') in
       let whole = in_space space offset (size_at k) in
       let first = bits_into top 1 whole low' count' (at_temp top 1 n) in
-      let second = bits_put top 2 n (at_temp top 1 n) (value top g f v) false low count (at_temp top 2 n) in
+      let second = bits_put top 2 n (at_temp top 1 n) (value top g f v) below low count (at_temp top 2 n) in
       let third = bits_put top 4 (size_at k) whole (at_temp top 2 n) false low' count' whole in
       ap (λ os. first ++ (second ++ os)) (append-nil third)
-  bits_are (s.local x) v low count = append-nil _
-  bits_are (s.table i) v low count = append-nil _
-  bits_are (s.attached i k) v low count = append-nil _
-  bits_are (s.value i) v low count = append-nil _
-  bits_are s.start v low count = number_nothing g.start _
-  bits_are s.next v low count = number_nothing g.next _
-  bits_are (s.integer z) v low count = refl
+  bits_are (s.local x) v below low count = append-nil _
+  bits_are (s.table i) v below low count = append-nil _
+  bits_are (s.attached i k) v below low count = append-nil _
+  bits_are (s.value i) v below low count = append-nil _
+  bits_are s.start v below low count = number_nothing g.start _
+  bits_are s.next v below low count = number_nothing g.next _
+  bits_are (s.integer z) v below low count = refl
 
   set_bits_is : (a : Symbol) (low count : ℕ) (e : Term) → all (p.set_bits_pieces (form g f) a low count e) ≡ step.set_bits_code top g f a low count e
   set_bits_is a low count e =
       joined top g f (p.term_before (form g f) 0 e) _ _ _ (before_is top g f 0 e)
-      (bits_are a (p.term_value (form g f) 0 e) low count ∙ ap (λ v. bits_of a v low count) (value_is top g f 0 e))
+      (bits_are a (p.term_value (form g f) 0 e) (is_below e count) low count ∙ ap (λ v. bits_of a v (is_below e count) low count) (value_is top g f 0 e))
 
   store_is : (space : ℕ) (pointer e : Term) → all (p.store_pieces (form g f) space pointer e) ≡ step.store_code top g f space pointer e
   store_is space pointer e =

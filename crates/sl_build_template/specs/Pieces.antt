@@ -46,7 +46,7 @@ pub data Piece : Type 0 where
   exit_if : (target condition : Slot) → Piece
   put : (i : ℕ) → (v : Slot) → Piece
   stored : (i : ℕ) → Size → Piece
-  put_bits : (i : ℕ) → (v : Slot) → (low count : ℕ) → Piece
+  put_bits : (i : ℕ) → (v : Slot) → (below : Bool) → (low count : ℕ) → Piece
   extract : (t : ℕ) → (from : Slot) → (low count : ℕ) → (out : Slot) → Piece
   insert : (t : ℕ) → Size → (old v : Slot) → (below : Bool) → (low count : ℕ) → (out : Slot) → Piece
 
@@ -124,10 +124,10 @@ two_pieces f Exchanged out a b = binary f out b a
 
 -- bits of a value are put into bits of a register, which are n bytes
 abbrev pub range_bits : (whole : Size) → (register : Slot) → (n : Size) → (low' count' : ℕ)
-    → (v : Slot) → (low count : ℕ) → List Piece
-range_bits whole register n low' count' v low count =
+    → (v : Slot) → (below : Bool) → (low count : ℕ) → List Piece
+range_bits whole register n low' count' v below low count =
     extract 1 register low' count' (slot.Temporary 1 n)
-    ∷ insert 2 n (slot.Temporary 1 n) v false low count (slot.Temporary 2 n)
+    ∷ insert 2 n (slot.Temporary 1 n) v below low count (slot.Temporary 2 n)
     ∷ insert 4 whole register (slot.Temporary 2 n) false low' count' register ∷ []
 
 -- an expression is put where an operand stands, by its slot, if it has one, and its pieces
@@ -222,25 +222,26 @@ module _ (h : Form) where
   set_pieces (s.integer v) e = term_before 0 e
 
   -- bits of a value are put where a name stands
-  abbrev pub symbol_bits : Symbol → (v : Slot) → (low count : ℕ) → List Piece
-  symbol_bits (s.register space offset k) v low count =
-      insert 2 (size_at k) (register space offset k) v false low count
+  abbrev pub symbol_bits : Symbol → (v : Slot) → (below : Bool) → (low count : ℕ) → List Piece
+  symbol_bits (s.register space offset k) v below low count =
+      insert 2 (size_at k) (register space offset k) v below low count
       (register space offset k) ∷ []
-  symbol_bits (s.bit_range space offset k low' count') v low count =
+  symbol_bits (s.bit_range space offset k low' count') v below low count =
       range_bits (size_at k) (register space offset k) (size_at (bit_bytes count')) low' count'
-      v low count
-  symbol_bits (s.local x) v low count =
-      insert 2 (h.size x) (slot.Local x (h.size x)) v false low count
+      v below low count
+  symbol_bits (s.local x) v below low count =
+      insert 2 (h.size x) (slot.Local x (h.size x)) v below low count
       (slot.Local x (h.size x)) ∷ []
-  symbol_bits (s.table i) v low count = put_bits i v low count ∷ []
-  symbol_bits (s.attached i k) v low count = put_bits i v low count ∷ []
-  symbol_bits (s.value i) v low count = put_bits i v low count ∷ []
-  symbol_bits s.start v low count = []
-  symbol_bits s.next v low count = []
-  symbol_bits (s.integer z) v low count = []
+  symbol_bits (s.table i) v below low count = put_bits i v below low count ∷ []
+  symbol_bits (s.attached i k) v below low count = put_bits i v below low count ∷ []
+  symbol_bits (s.value i) v below low count = put_bits i v below low count ∷ []
+  symbol_bits s.start v below low count = []
+  symbol_bits s.next v below low count = []
+  symbol_bits (s.integer z) v below low count = []
 
   abbrev pub set_bits_pieces : Symbol → (low count : ℕ) → Term → List Piece
-  set_bits_pieces a low count e = term_before 0 e ++ symbol_bits a (term_value 0 e) low count
+  set_bits_pieces a low count e = term_before 0 e
+      ++ symbol_bits a (term_value 0 e) (is_below e count) low count
 
   abbrev pub store_pieces : (space : ℕ) → (pointer e : Term) → List Piece
   store_pieces space pointer e = term_before 0 e

@@ -50,9 +50,11 @@ module _ (top : ℕ) where
       memory_put top 1 space pointer width (at_temp top 0 n)
 
   -- a value is put into bits of what a reference stands for
-  abbrev pub bits_code : Reference → (v : Varnode) → (low count : ℕ) → List Operation
-  bits_code r v low count = read_code r 1 (reference_size r)
-      ++ reference_bits top r (reference_size r) (read_value r 1 (reference_size r)) v low count
+  abbrev pub bits_code : Reference → (v : Varnode) → (below : Bool) → (low count : ℕ)
+      → List Operation
+  bits_code r v below low count = read_code r 1 (reference_size r)
+      ++ reference_bits top r (reference_size r) (read_value r 1 (reference_size r)) v below low
+      count
 
   module _ (g : Setting) (f : Frame) where
     abbrev pub given : Given → Reference
@@ -110,8 +112,8 @@ module _ (top : ℕ) where
     piece_code (p.exit_if target v) = o.exit_if (value target) (value v) ∷ []
     piece_code (p.put i v) = put_code (reference_at f.refs i) v
     piece_code (p.stored i n) = stored_code (reference_at f.refs i) n
-    piece_code (p.put_bits i v low count) =
-        bits_code (reference_at f.refs i) (value v) low count
+    piece_code (p.put_bits i v below low count) =
+        bits_code (reference_at f.refs i) (value v) below low count
     piece_code (p.extract t from low count out) =
         bits_into top t (value from) low count (value out)
     piece_code (p.insert t n old v below low count out) =

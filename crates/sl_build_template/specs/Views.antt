@@ -30,10 +30,10 @@ piece_of (v.Exit kind target) = p.exit kind target
 piece_of (v.ExitIf target w) = p.exit_if target w
 piece_of (v.Put i w) = p.put i w
 piece_of (v.Stored i n) = p.stored i n
-piece_of (v.PutBits i w span) = p.put_bits i w span.low span.count
+piece_of (v.PutBits i w) = p.put_bits i w.value w.below w.span.low w.span.count
 piece_of (v.Extract t from span out) = p.extract t from span.low span.count out
 piece_of (v.Insert t b out) =
-    p.insert t b.size b.old b.new b.below b.span.low b.span.count out
+    p.insert t b.size b.old b.new.value b.new.below b.new.span.low b.new.span.count out
 
 abbrev pub pieces_of : List Piece → List p.Piece
 pieces_of ps = map piece_of ps

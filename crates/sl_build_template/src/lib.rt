@@ -15,7 +15,7 @@ mod terms;
 mod varnodes;
 
 pub use form::Form;
-pub use piece::{Insert, Part, Piece, Tail};
+pub use piece::{Insert, NewBits, Part, Piece, Tail};
 pub use sizes::{of_address, sized};
 pub use slot::{Given, Slot, slot_size};
 pub use steps::template;

@@ -5,15 +5,21 @@ use sl_pcode::Code;
 use sl_section_flat::{Label, Span};
 use sl_word::{Op1, Op2, Size, SpaceId, UserId};
 
-/// A value of `size` bytes, `old`, in which bits are replaced by those of another, `new`.
+/// The lowest bits of a value, which are put into a span of another.
+#[derive(Clone, Copy, Debug)]
+pub struct NewBits {
+    pub value: Slot,
+    /// The text says that the value has no bits but those.
+    pub below: bool,
+    pub span: Span,
+}
+
+/// A value of `size` bytes, `old`, in which bits are replaced.
 #[derive(Clone, Copy, Debug)]
 pub struct Insert {
     pub size: Size,
     pub old: Slot,
-    pub new: Slot,
-    /// The text says that `new` has no bits but those that are put.
-    pub below: bool,
-    pub span: Span,
+    pub new: NewBits,
 }
 
 /// One operation, or what hangs on what an operand stands for.
@@ -39,8 +45,8 @@ pub enum Piece {
     /// What was put into the first temporary value is put where the operand stands, if that is
     /// memory.
     Stored(u32, Size),
-    /// A value is put into bits of what the operand of this number stands for.
-    PutBits(u32, Slot, Span),
+    /// Bits are put into what the operand of this number stands for.
+    PutBits(u32, NewBits),
     /// Bits of the first are put into the second; the temporary value of this number is free.
     Extract(u32, Slot, Span, Slot),
     /// A value with other bits is put into a varnode; the temporary value of this number and the

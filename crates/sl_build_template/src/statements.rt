@@ -1,6 +1,6 @@
 //! Assignments, and jumps by their targets.
 
-ghost use Rattle.std.specs.Prelude.{◌≡◌, ◌++◌, ◌∷◌, [], false, IfOk, OnOk};
+ghost use Rattle.std.specs.Prelude.{◌≡◌, ◌++◌, ◌∷◌, [], IfOk, OnOk};
 ghost use Rattle.sl_section_equations.specs.Equations.{bit_bytes, size_at};
 ghost use Rattle.sl_section_flat.specs.Views.{symbol_of, term_of};
 ghost use Rattle.sl_build_template.specs.Pieces as p;
@@ -8,7 +8,7 @@ ghost use Rattle.sl_build_template.specs.Views.{form_of, pieces_of};
 
 use crate::form::{Form, size_of};
 use crate::known::is_below;
-use crate::piece::{Insert, Piece};
+use crate::piece::{Insert, NewBits, Piece};
 use crate::puts::{put, register};
 use crate::sizes::{of_address, same_size, size_of_variable, sized};
 use crate::slot::{Given, Slot};
@@ -57,15 +57,10 @@ pub(crate) fn set(
             term_into(alloc, form, out, 0, e, to)
         }
         Symbol::BitRange(r, span) => {
-            let new = term_value(alloc, form, out, 0, e)?;
-            let bits = Insert {
-                size: same_size(r.size),
-                old: register(r),
-                new,
-                below: is_below(e, span.count),
-                span,
-            };
-            put(out, Piece::Insert(1, bits, register(r)))
+            let value = term_value(alloc, form, out, 0, e)?;
+            let below = is_below(e, span.count);
+            let new = NewBits { value, below, span };
+            put_insert(out, 1, same_size(r.size), register(r), new, register(r))
         }
         Symbol::Local(x) => {
             let to = Slot::Local(x, size_of(form, e));
@@ -88,75 +83,73 @@ fn span_size(span: Span) -> Size
     sized((span.count + 7) / 8)
 }
 
-/// Bits of `v` are put among those of `old`, of `n` bytes, of which nothing is known.
+/// Bits are put among those of `old`, of `n` bytes.
 fn put_insert(
     out: &mut Vec<Piece>,
     t: u32,
     n: Size,
     old: Slot,
-    v: Slot,
-    span: Span,
+    new: NewBits,
     to: Slot,
 ) -> Result<(), AllocError>
     ensures { OnOk result (pieces_of out.new.items ≡ pieces_of out.old.items
-        ++ p.insert t n old v false span.low span.count to ∷ []) }
+        ++ p.insert t n old new.value new.below new.span.low new.span.count to ∷ []) }
 {
-    let bits = Insert {
-        size: n,
-        old,
-        new: v,
-        below: false,
-        span,
-    };
+    let bits = Insert { size: n, old, new };
     put(out, Piece::Insert(t, bits, to))
 }
 
-/// Bits of a value are put into bits of a register, which are `n` bytes.
+/// Bits are put into bits of a register, which are `n` bytes.
 fn range_bits(
     out: &mut Vec<Piece>,
     whole: Size,
     register: Slot,
     n: Size,
     outer: Span,
-    v: Slot,
-    span: Span,
+    new: NewBits,
 ) -> Result<(), AllocError>
     ensures { OnOk result (pieces_of out.new.items ≡ pieces_of out.old.items
-        ++ p.range_bits whole register n outer.low outer.count v span.low span.count) }
+        ++ p.range_bits whole register n outer.low outer.count new.value new.below new.span.low
+        new.span.count) }
 {
     let old = Slot::Temporary(1, n);
-    let new = Slot::Temporary(2, n);
+    let value = Slot::Temporary(2, n);
+    let range = NewBits {
+        value,
+        below: false,
+        span: outer,
+    };
     put(out, Piece::Extract(1, register, outer, old))?;
-    put_insert(out, 2, n, old, v, span, new)?;
-    put_insert(out, 4, whole, register, new, outer, register)
+    put_insert(out, 2, n, old, new, value)?;
+    put_insert(out, 4, whole, register, range, register)
 }
 
-/// Bits of a value are put where a name stands.
+/// Bits are put where a name stands.
 fn symbol_bits(
     form: &Form<'_>,
     out: &mut Vec<Piece>,
     a: Symbol,
-    v: Slot,
-    span: Span,
+    new: NewBits,
 ) -> Result<(), AllocError>
     ensures { OnOk result (pieces_of out.new.items ≡ pieces_of out.old.items
-        ++ p.symbol_bits (form_of form.now) (symbol_of a) v span.low span.count) }
+        ++ p.symbol_bits (form_of form.now) (symbol_of a) new.value new.below new.span.low
+        new.span.count) }
 {
     match a {
         Symbol::Register(r) => {
-            put_insert(out, 2, same_size(r.size), register(r), v, span, register(r))
+            put_insert(out, 2, same_size(r.size), register(r), new, register(r))
         }
         Symbol::BitRange(r, outer) => {
             let n = span_size(outer);
-            range_bits(out, same_size(r.size), register(r), n, outer, v, span)
+            range_bits(out, same_size(r.size), register(r), n, outer, new)
         }
         Symbol::Local(x) => {
             let n = size_of_variable(form.sizes, x);
-            put_insert(out, 2, n, Slot::Local(x, n), v, span, Slot::Local(x, n))
+            put_insert(out, 2, n, Slot::Local(x, n), new, Slot::Local(x, n))
         }
-        Symbol::Table(i) => put(out, Piece::PutBits(i, v, span)),
-        Symbol::Attached(i, _) => put(out, Piece::PutBits(i, v, span)),
-        Symbol::Value(i) => put(out, Piece::PutBits(i, v, span)),
+        Symbol::Table(i) => put(out, Piece::PutBits(i, new)),
+        Symbol::Attached(i, _) => put(out, Piece::PutBits(i, new)),
+        Symbol::Value(i) => put(out, Piece::PutBits(i, new)),
         Symbol::Start | Symbol::Next | Symbol::Integer(_) => Ok(()),
     }
 }
@@ -173,8 +166,9 @@ pub(crate) fn set_bits(
     ensures { OnOk result (pieces_of out.new.items ≡ pieces_of out.old.items
         ++ p.set_bits_pieces (form_of form.now) (symbol_of a) span.low span.count (term_of e.now)) }
 {
-    let v = term_value(alloc, form, out, 0, e)?;
-    symbol_bits(form, out, a, v, span)
+    let value = term_value(alloc, form, out, 0, e)?;
+    let below = is_below(e, span.count);
+    symbol_bits(form, out, a, NewBits { value, below, span })
 }
 
 /// `*[space] pointer = e;`

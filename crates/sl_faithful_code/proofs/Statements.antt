@@ -1,6 +1,6 @@
 -- The operations of statements do what the statements do.
 use Rattle.std.proofs.Common.{◌≡◌, ℕ, zero, suc, ◌+◌, ◌-◌, ◌*◌, ◌%◌, ◌^◌, ◌<◌, ◌≤◌, ◌==◌, Bool, true, false, List, [], ◌∷◌, ◌++◌, length, Ok, Err, refl, sym, ap, ◌∙◌, subst, arith, length-append, inl, inr, pos}
-use Rattle.std.specs.Prelude.{if◌then◌else◌, nat_lt, Result, unwrap_or, slice_get, slice_index}
+use Rattle.std.specs.Prelude.{if◌then◌else◌, ◌&&◌, nat_lt, not, Result, unwrap_or, slice_get, slice_index}
 use Rattle.std.specs.List.{All}
 use Rattle.std.proofs.lemmas.Bool.{cases_lt}
 use Rattle.std.proofs.lemmas.Bool.Decides.{nat_tests}
@@ -22,7 +22,7 @@ use Rattle.sl_section_equations.specs.Equations.{size_at}
 use Rattle.sl_meaning_sections.specs.References.{Locals, Reference, Setting, State, load, local, memory, number, put, put_bytes, read, storage, with_local}
 use Rattle.sl_meaning_sections.specs.Statements as mean
 use Rattle.sl_meaning_sections.specs.Statements.{Next, Outcome, assigned, behind, bits_assigned, counted, goes, is_label, leaves_to, pointed, section_runs, steps_run, then_do, with_value}
-use Rattle.sl_meaning_sections.specs.Values.{Fault, Frame, jumps_too_often, meant, reference_at, space_of, symbol_size, value, with_bits}
+use Rattle.sl_meaning_sections.specs.Values.{Fault, Frame, jumps_too_often, meant, reference_at, space_of, symbol_size, symbol_value, value, with_bits}
 use Rattle.sl_pcode.specs.Machine.{Temporaries, at_target, value_of}
 use Rattle.sl_pcode.specs.Targets.{place_at}
 use Rattle.sl_pcode.specs.WellFormed.{IsWellFormedOp}
@@ -215,6 +215,25 @@ module _ (g : Setting) (code : List Op) (Local : (node x n : ℕ) → Type 0) wh
 
     -- ---- bits that are assigned
 
+    -- a value that is taken to have no bits above has some
+    abbrev is_over : (loose : Bool) (count v : ℕ) → Bool
+    is_over loose count v = loose && not (nat_lt v (2 ^ count))
+
+    none_over : (loose : Bool) (count v : ℕ) → (loose ≡ true → v < 2 ^ count) → is_over loose count v ≡ false
+    none_over false count v few = refl
+    none_over true count v few =
+        let less : v < 2 ^ count = few refl in
+        let holds : nat_lt v (2 ^ count) ≡ true = grind (arith, nat_tests, less) in
+        ap not holds
+
+    over_by : (b : Bool) (n low count y v : ℕ) → nat_lt v (2 ^ count) ≡ b → low + count ≤ 8 * n → y < 256 ^ n → put_value true n low count y v ≡ put_value (not b) n low count y v
+    over_by true n low count y v is fits hy = put_value_is true n low count y v fits hy (λ k. let less : v < 2 ^ count = grind (arith, nat_tests, is) in less) ∙ sym (plain_value n low count y v)
+    over_by false n low count y v is fits hy = refl
+
+    over_value : (loose : Bool) (n low count y v : ℕ) → low + count ≤ 8 * n → y < 256 ^ n → put_value loose n low count y v ≡ put_value (is_over loose count v) n low count y v
+    over_value false n low count y v fits hy = refl
+    over_value true n low count y v fits hy = over_by (nat_lt v (2 ^ count)) n low count y v refl fits hy
+
     -- nothing is said of the value
     put_run : (t : ℕ) (n : Size) (old v : Varnode) (low count : ℕ) (place : Place2) (offset p left : ℕ) (m : Memory) (u u' : Temporaries) (go : ℕ → Final) (x y : ℕ) → old.size ≡ n → v.size.bytes ≤ n.bytes → low + count ≤ 8 * n.bytes
         → x < 256 ^ v.size.bytes → y < 256 ^ n.bytes → Reads g code well top (top + t * 16) v m u' x → Reads g code well top (top + t * 16) old m u' y → Same (top + t * 16) u u' → HasAt g code p (bits_put top t n old v false low count (placed place offset n))
@@ -223,46 +242,46 @@ module _ (g : Setting) (code : List Op) (Local : (node x n : ℕ) → Type 0) wh
         bits_put_lands g code well top t n old v false low count place offset p left m u u' go x y so sv fits hx hy reads_v reads_old same has lands ∙ ap go (plain_value n.bytes low count y x)
 
     -- the old value and the new bits are read
-    reference_bits_run : (r : Reference) (n : Size) (old b : Varnode) (low count x y most p left : ℕ) (m : Memory) (l : Locals) (u : Temporaries) (go : Rest) → ReferenceFits Local r n.bytes → old.size ≡ n → b.size.bytes ≤ n.bytes → low + count ≤ 8 * n.bytes
+    reference_bits_run : (r : Reference) (n : Size) (old b : Varnode) (below : Bool) (low count x y most p left : ℕ) (m : Memory) (l : Locals) (u : Temporaries) (go : Rest) → ReferenceFits Local r n.bytes → old.size ≡ n → b.size.bytes ≤ n.bytes → low + count ≤ 8 * n.bytes
         → x < 256 ^ b.size.bytes → y < 256 ^ n.bytes → Reads g code well top (top + 2 * 16) b m u x → Reads g code well top (top + 2 * 16) old m u y → left ≤ most → Holds g.endian Local m l u
-        → HasAt g code p (reference_bits top r n old b low count) → Good most (p + length (reference_bits top r n old b low count)) go
-        → from g code left p m u ≡ go (put g r n.bytes (with_bits low count y x) (state m l left))
-    reference_bits_run (storage space offset size) n old b low count x y most p left m l u go where_fits so sb fits hx hy rb ro le holds has next =
-        put_run 2 n old b low count (In (record { 0 = space })) offset p left m u u (λ v. go (state (stored g.endian g.sizes m space offset n.bytes v) l left)) x y so sb fits hx hy rb ro (same_refl _ u) has (storage_lands space offset n 2 most left _ m l u go le holds next)
-    reference_bits_run (local k z size) n old b low count x y most p left m l u go where_fits so sb fits hx hy rb ro le holds has next =
-        put_run 2 n old b low count Unique (range_of k z) p left m u u (λ v. go (state m (with_local k z v l) left)) x y so sb fits hx hy rb ro (same_refl _ u) has (local_lands k z n 2 most left _ m l u go where_fits le holds next)
-    reference_bits_run (number z) n old b low count x y most p left m l u go where_fits so sb fits hx hy rb ro le holds has next = nothing_run most left p m l u go le holds next
-    reference_bits_run (memory space size pointer width) n old b low count x y most p left m l u go where_fits so sb fits hx hy rb ro le holds has next =
-        let ops = bits_put top 2 n old b false low count (at_temp top 2 n) in
+        → HasAt g code p (reference_bits top r n old b below low count) → Good most (p + length (reference_bits top r n old b below low count)) go
+        → from g code left p m u ≡ go (put g r n.bytes (put_value (is_loose below n b low count) n.bytes low count y x) (state m l left))
+    reference_bits_run (storage space offset size) n old b below low count x y most p left m l u go where_fits so sb fits hx hy rb ro le holds has next =
+        bits_put_lands g code well top 2 n old b below low count (In (record { 0 = space })) offset p left m u u (λ v. go (state (stored g.endian g.sizes m space offset n.bytes v) l left)) x y so sb fits hx hy rb ro (same_refl _ u) has (storage_lands space offset n 2 most left _ m l u go le holds next)
+    reference_bits_run (local k z size) n old b below low count x y most p left m l u go where_fits so sb fits hx hy rb ro le holds has next =
+        bits_put_lands g code well top 2 n old b below low count Unique (range_of k z) p left m u u (λ v. go (state m (with_local k z v l) left)) x y so sb fits hx hy rb ro (same_refl _ u) has (local_lands k z n 2 most left _ m l u go where_fits le holds next)
+    reference_bits_run (number z) n old b below low count x y most p left m l u go where_fits so sb fits hx hy rb ro le holds has next = nothing_run most left p m l u go le holds next
+    reference_bits_run (memory space size pointer width) n old b below low count x y most p left m l u go where_fits so sb fits hx hy rb ro le holds has next =
+        let ops = bits_put top 2 n old b below low count (at_temp top 2 n) in
         let rest = memory_put top 4 space pointer width (at_temp top 2 n) in
         let len : p + length (ops ++ rest) ≡ p + length ops + length rest = omega (arith, length-append ops rest) in
-        put_run 2 n old b low count Unique (top + 2 * 16) p left m u u (λ v. go (state (stored g.endian g.sizes m space (read g m l pointer width.bytes) n.bytes v) l left)) x y so sb fits hx hy rb ro (same_refl _ u) (has_front g code p ops rest has)
+        bits_put_lands g code well top 2 n old b below low count Unique (top + 2 * 16) p left m u u (λ v. go (state (stored g.endian g.sizes m space (read g m l pointer width.bytes) n.bytes v) l left)) x y so sb fits hx hy rb ro (same_refl _ u) (has_front g code p ops rest has)
         (lands_of_uses g code left (p + length ops) (top + 2 * 16) n m u _ (λ v u' same lt reads. memory_run 4 space pointer width (at_temp top 2 n) n.bytes v most left (p + length ops) m l u' go where_fits refl
         (λ u'' same'. reads u'' (same_below _ _ u' u'' (omega arith) same')) le (holds_after 2 m l u u' same holds) (has_back g code p ops rest has) (good_at most _ _ go len next)))
 
-    symbol_bits_run : (a : Symbol) (n : Size) (old b : Varnode) (low count x y most p left : ℕ) (m : Memory) (l : Locals) (u : Temporaries) (go : Rest) → SymbolFits Local g f a n.bytes → old.size ≡ n → b.size.bytes ≤ n.bytes → low + count ≤ 8 * n.bytes
+    symbol_bits_run : (a : Symbol) (n : Size) (old b : Varnode) (below : Bool) (low count x y most p left : ℕ) (m : Memory) (l : Locals) (u : Temporaries) (go : Rest) → SymbolFits Local g f a n.bytes → old.size ≡ n → b.size.bytes ≤ n.bytes → low + count ≤ 8 * n.bytes
         → x < 256 ^ b.size.bytes → y < 256 ^ n.bytes → Reads g code well top (top + 2 * 16) b m u x → Reads g code well top (top + 2 * 16) old m u y → left ≤ most → Holds g.endian Local m l u
-        → HasAt g code p (symbol_bits top g f a n old b low count) → Good most (p + length (symbol_bits top g f a n old b low count)) go
-        → from g code left p m u ≡ go (assigned g f a n.bytes (with_bits low count y x) (state m l left))
-    symbol_bits_run (s.bit_range space offset k low' count') n old b low count x y most p left m l u go where_fits so sb fits hx hy rb ro le holds has next =
-        let ops = bits_put top 2 n old b false low count (at_temp top 2 n) in
+        → HasAt g code p (symbol_bits top g f a n old b below low count) → Good most (p + length (symbol_bits top g f a n old b below low count)) go
+        → from g code left p m u ≡ go (assigned g f a n.bytes (put_value (is_loose below n b low count) n.bytes low count y x) (state m l left))
+    symbol_bits_run (s.bit_range space offset k low' count') n old b below low count x y most p left m l u go where_fits so sb fits hx hy rb ro le holds has next =
+        let ops = bits_put top 2 n old b below low count (at_temp top 2 n) in
         let reg = in_space space offset (size_at k) in
         let rest = bits_put top 4 (size_at k) reg (at_temp top 2 n) false low' count' reg in
         let len : p + length (ops ++ rest) ≡ p + length ops + length rest = omega (arith, length-append ops rest) in
-        put_run 2 n old b low count Unique (top + 2 * 16) p left m u u
+        bits_put_lands g code well top 2 n old b below low count Unique (top + 2 * 16) p left m u u
         (λ v. go (state (stored g.endian g.sizes m space offset (size_at k).bytes (with_bits low' count' (load g m space offset (size_at k).bytes) v)) l left)) x y so sb fits hx hy rb ro (same_refl _ u) (has_front g code p ops rest has)
         (lands_of_uses g code left (p + length ops) (top + 2 * 16) n m u _ (λ v u' same lt reads.
         put_run 4 (size_at k) reg (at_temp top 2 n) low' count' (In (record { 0 = space })) offset (p + length ops) left m u' u' (λ z. go (state (stored g.endian g.sizes m space offset (size_at k).bytes z) l left)) v (load g m space offset (size_at k).bytes) refl
         where_fits.2 where_fits.0 lt (number_below g.endian _ (size_at k).bytes (λ i. holds.memory space _)) (λ u'' same'. reads u'' (same_below _ _ u' u'' (omega arith) same')) (λ u'' same'. refl)
         (same_refl _ u') (has_back g code p ops rest has) (storage_lands space offset (size_at k) 4 most left _ m l u' go le (holds_after 2 m l u u' same holds) (good_at most _ _ go len next))))
-    symbol_bits_run (s.register space offset k) n old b low count x y most p left m l u go where_fits so sb fits hx hy rb ro le holds has next = reference_bits_run (storage space offset (size_at k)) n old b low count x y most p left m l u go where_fits so sb fits hx hy rb ro le holds has next
-    symbol_bits_run (s.local z) n old b low count x y most p left m l u go where_fits so sb fits hx hy rb ro le holds has next = reference_bits_run (local f.node z (f.size z)) n old b low count x y most p left m l u go where_fits so sb fits hx hy rb ro le holds has next
-    symbol_bits_run (s.table i) n old b low count x y most p left m l u go where_fits so sb fits hx hy rb ro le holds has next = reference_bits_run (reference_at f.refs i) n old b low count x y most p left m l u go where_fits so sb fits hx hy rb ro le holds has next
-    symbol_bits_run (s.attached i k) n old b low count x y most p left m l u go where_fits so sb fits hx hy rb ro le holds has next = reference_bits_run (reference_at f.refs i) n old b low count x y most p left m l u go where_fits so sb fits hx hy rb ro le holds has next
-    symbol_bits_run (s.value i) n old b low count x y most p left m l u go where_fits so sb fits hx hy rb ro le holds has next = reference_bits_run (reference_at f.refs i) n old b low count x y most p left m l u go where_fits so sb fits hx hy rb ro le holds has next
-    symbol_bits_run s.start n old b low count x y most p left m l u go where_fits so sb fits hx hy rb ro le holds has next = reference_bits_run (number g.start) n old b low count x y most p left m l u go where_fits so sb fits hx hy rb ro le holds has next
-    symbol_bits_run s.next n old b low count x y most p left m l u go where_fits so sb fits hx hy rb ro le holds has next = reference_bits_run (number g.next) n old b low count x y most p left m l u go where_fits so sb fits hx hy rb ro le holds has next
-    symbol_bits_run (s.integer z) n old b low count x y most p left m l u go where_fits so sb fits hx hy rb ro le holds has next = reference_bits_run (number (pos z)) n old b low count x y most p left m l u go where_fits so sb fits hx hy rb ro le holds has next
+    symbol_bits_run (s.register space offset k) n old b below low count x y most p left m l u go where_fits so sb fits hx hy rb ro le holds has next = reference_bits_run (storage space offset (size_at k)) n old b below low count x y most p left m l u go where_fits so sb fits hx hy rb ro le holds has next
+    symbol_bits_run (s.local z) n old b below low count x y most p left m l u go where_fits so sb fits hx hy rb ro le holds has next = reference_bits_run (local f.node z (f.size z)) n old b below low count x y most p left m l u go where_fits so sb fits hx hy rb ro le holds has next
+    symbol_bits_run (s.table i) n old b below low count x y most p left m l u go where_fits so sb fits hx hy rb ro le holds has next = reference_bits_run (reference_at f.refs i) n old b below low count x y most p left m l u go where_fits so sb fits hx hy rb ro le holds has next
+    symbol_bits_run (s.attached i k) n old b below low count x y most p left m l u go where_fits so sb fits hx hy rb ro le holds has next = reference_bits_run (reference_at f.refs i) n old b below low count x y most p left m l u go where_fits so sb fits hx hy rb ro le holds has next
+    symbol_bits_run (s.value i) n old b below low count x y most p left m l u go where_fits so sb fits hx hy rb ro le holds has next = reference_bits_run (reference_at f.refs i) n old b below low count x y most p left m l u go where_fits so sb fits hx hy rb ro le holds has next
+    symbol_bits_run s.start n old b below low count x y most p left m l u go where_fits so sb fits hx hy rb ro le holds has next = reference_bits_run (number g.start) n old b below low count x y most p left m l u go where_fits so sb fits hx hy rb ro le holds has next
+    symbol_bits_run s.next n old b below low count x y most p left m l u go where_fits so sb fits hx hy rb ro le holds has next = reference_bits_run (number g.next) n old b below low count x y most p left m l u go where_fits so sb fits hx hy rb ro le holds has next
+    symbol_bits_run (s.integer z) n old b below low count x y most p left m l u go where_fits so sb fits hx hy rb ro le holds has next = reference_bits_run (number (pos z)) n old b below low count x y most p left m l u go where_fits so sb fits hx hy rb ro le holds has next
 
     set_bits_run : (a : Symbol) (low count : ℕ) (e : Term) (most p left : ℕ) (m : Memory) (l : Locals) (u : Temporaries) (go : Rest) → TermFits Local g f e → SymbolFits Local g f a (symbol_size g f a).bytes → low + count ≤ 8 * (symbol_size g f a).bytes → (size_of g f e).bytes ≤ (symbol_size g f a).bytes
         → left ≤ most → Holds g.endian Local m l u → HasAt g code p (set_bits_code top g f a low count e) → Good most (p + length (set_bits_code top g f a low count e)) go
@@ -273,18 +292,26 @@ module _ (g : Setting) (code : List Op) (Local : (node x n : ℕ) → Type 0) wh
         let ca = symbol_before top g f 1 a n in
         let b = term_operand top g f 0 e in
         let old = symbol_operand top g f 1 a n in
-        let rest = symbol_bits top g f a n old b low count in
+        let rest = symbol_bits top g f a n old b (is_below e count) low count in
+        let loose = is_loose (is_below e count) n b low count in
         let back = has_back g code p ce (ca ++ rest) has in
         let size = ap (λ (k : Size). k.bytes) (operand_size g code Local top lays well f e 0) in
         let len : p + length (ce ++ (ca ++ rest)) ≡ p + length ce + length ca + length rest = omega (arith, length-append ce (ca ++ rest), length-append ca rest) in
-        term_uses g code Local top lays well f e 0 p left m l u _ fits holds (has_front g code p ce _ has)
+        let then_put : ℕ → Final = λ z. go (assigned g f a n.bytes z (state m l left)) in
+        let put_over : (y v : ℕ) → ℕ = λ y v. put_value (is_over loose count v) n.bytes low count y v in
+        term_uses g code Local top lays well f e 0 p left m l u (λ v. then_put (put_over (symbol_value g f m l a n.bytes) v)) fits holds (has_front g code p ce _ has)
         (λ v u1 same1 lt1 reads1.
         let holds1 = holds_after 0 m l u u1 same1 holds in
-        symbol_uses g code Local top lays well f a n 1 (p + length ce) left m l u1 (λ y. go (assigned g f a n.bytes (with_bits low count y v) (state m l left))) where_fits holds1 (has_front g code _ ca rest back)
+        symbol_uses g code Local top lays well f a n 1 (p + length ce) left m l u1 (λ y. then_put (put_over y v)) where_fits holds1 (has_front g code _ ca rest back)
         (λ y u2 same2 lt2 reads2.
-        symbol_bits_run a n old b low count v y most (p + length ce + length ca) left m l u2 go where_fits (symbol_operand_size g code Local top lays well f a n (top + 1 * 16)) (subst (λ w. w ≤ n.bytes) (sym size) narrower) inside
+        symbol_bits_run a n old b (is_below e count) low count v y most (p + length ce + length ca) left m l u2 go where_fits (symbol_operand_size g code Local top lays well f a n (top + 1 * 16)) (subst (λ w. w ≤ n.bytes) (sym size) narrower) inside
         (subst (λ w. v < 256 ^ w) (sym size) lt1) lt2 (λ u'' same'. reads1 u'' (same_below _ _ u1 u'' (omega arith) (same_trans _ _ u1 u2 u'' (omega arith) same2 same'))) (λ u'' same'. reads2 u'' (same_below _ _ u2 u'' (omega arith) same')) le (holds_after 1 m l u1 u2 same2 holds1)
-        (has_back g code _ ca rest back) (good_at most _ _ go len next)))
+        (has_back g code _ ca rest back) (good_at most _ _ go len next)
+        ∙ ap then_put (over_value loose n.bytes low count y v inside lt2)))
+        ∙ with_known (value g f m l e) m (λ v. then_put (put_over (symbol_value g f m l a n.bytes) v)) (λ v. then_put (with_bits low count (symbol_value g f m l a n.bytes) v))
+        (λ v is. ap then_put (ap (λ q. put_value q n.bytes low count (symbol_value g f m l a n.bytes) v)
+        (none_over loose count v (λ few. below_value g f m l e count v (left_true (is_below e count) _ few) is))
+        ∙ plain_value n.bytes low count (symbol_value g f m l a n.bytes) v))
 
     -- ---- exits
 

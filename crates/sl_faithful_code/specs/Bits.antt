@@ -1,6 +1,6 @@
 -- law: the operations that take bits out of a value and that put bits into one: by masks, which
 -- are constants of at most 64 bits, and in a greater value by shifts.
-use Rattle.std.specs.Prelude.{ℕ, ◌+◌, ◌-◌, ◌*◌, ◌%◌, ◌^◌, ◌==◌, ◌&&◌, nat_le, nat_lt, not, Bool, true}
+use Rattle.std.specs.Prelude.{ℕ, ◌+◌, ◌-◌, ◌*◌, ◌%◌, ◌^◌, ◌==◌, ◌&&◌, ◌||◌, nat_le, nat_lt, not, Bool, true}
 use Rattle.std.specs.Prelude.{false, if◌then◌else◌, List, [], ◌∷◌, ◌++◌, Option, Some, None}
 use Rattle.sl_faithful_code.specs.Operations.{Operation, amount, at_temp, binary, constant, unary}
 use Rattle.sl_pcode.specs.declared.varnode.Place2.{Place2}
@@ -8,7 +8,10 @@ use Rattle.sl_pcode.specs.declared.varnode.Place2.TheVariants.{Const}
 use Rattle.sl_pcode.specs.declared.varnode.Varnode.{Varnode}
 use Rattle.sl_section_flat.specs.Sections as s
 use Rattle.sl_section_flat.specs.Sections.{Symbol, Term}
-use Rattle.sl_word.specs.declared.operation.Op1.TheVariants.{IntZext}
+use Rattle.sl_section_flat.specs.declared.term.Order.{Order}
+use Rattle.sl_section_flat.specs.declared.term.Order.TheVariants.{AsWritten, Exchanged}
+use Rattle.sl_word.specs.declared.operation.Op1.{Op1}
+use Rattle.sl_word.specs.declared.operation.Op1.TheVariants.{BoolNegate, IntZext}
 use Rattle.sl_word.specs.declared.operation.Op2.{Op2}
 use Rattle.sl_word.specs.declared.operation.Op2.TheVariants as two
 use Rattle.sl_word.specs.declared.operation.Op2.TheVariants.{IntAdd, IntAnd, IntLeft, IntOr, IntRight}
@@ -30,16 +33,40 @@ is_test two.IntScarry = true
 is_test two.IntSborrow = true
 is_test _ = false
 
+-- What an operator makes of values of which it is known, or isn't, that they have no bits but the
+-- lowest `count`.
+abbrev pub one_is_below : Op1 → (value : Bool) → (count : ℕ) → Bool
+one_is_below IntZext value count = value
+one_is_below BoolNegate value count = value && nat_lt 0 count
+one_is_below _ value count = false
+
+abbrev pub two_is_below : Op2 → (first second : Bool) → (count : ℕ) → Bool
+two_is_below two.IntAnd first second count = first || second
+two_is_below two.BoolAnd first second count = first || second
+two_is_below two.IntOr first second count = first && second
+two_is_below two.BoolOr first second count = first && second
+two_is_below two.IntXor first second count = first && second
+two_is_below two.BoolXor first second count = first && second
+two_is_below op first second count = is_test op && nat_lt 0 count
+
+abbrev pub ordered_is_below : Op2 → Order → (left right : Bool) → (count : ℕ) → Bool
+ordered_is_below op AsWritten left right count = two_is_below op left right count
+ordered_is_below op Exchanged left right count = two_is_below op right left count
+
 abbrev pub symbol_is_below : Symbol → (count : ℕ) → Bool
 symbol_is_below (s.bit_range space offset n low k) count = nat_le k count
 symbol_is_below _ count = false
 
 -- the value has no bits but the lowest `count`
 abbrev pub is_below : Term → (count : ℕ) → Bool
+is_below (s.number v x) count = nat_lt v (2 ^ count)
+is_below (s.sized v n x) count = nat_lt v (2 ^ count)
 is_below (s.name a x) count = symbol_is_below a count
 is_below (s.paren e x) count = is_below e count
 is_below (s.bits e low k x) count = nat_le k count
-is_below (s.two op order a b x) count = is_test op && nat_lt 0 count
+is_below (s.one op e x) count = one_is_below op (is_below e count) count
+is_below (s.two op order a b x) count =
+    ordered_is_below op order (is_below a count) (is_below b count) count
 is_below _ count = false
 
 -- ---- masks

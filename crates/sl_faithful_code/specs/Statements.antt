@@ -1,5 +1,5 @@
 -- law: the operations of statements and of sections.
-use Rattle.std.specs.Prelude.{ℕ, ◌+◌, ◌-◌, ◌%◌, ◌^◌, false, if◌then◌else◌, length}
+use Rattle.std.specs.Prelude.{ℕ, ◌+◌, ◌-◌, ◌%◌, ◌^◌, Bool, false, if◌then◌else◌, length}
 use Rattle.std.specs.Prelude.{List, [], ◌∷◌, ◌++◌, slice_get, slice_index, unwrap_or}
 use Rattle.sl_faithful_code.specs.Bits.{bits_put, is_below}
 use Rattle.sl_faithful_code.specs.Operations.{Operation, amount, at_temp, call_user, exit, exit_if}
@@ -33,15 +33,15 @@ module _ (top : ℕ) where
       ++ store_to space (operand (read_leaf pointer width) (at_temp top t width)) v ∷ []
 
   -- bits of a value are put where a reference stands
-  abbrev pub reference_bits : Reference → Size → (old v : Varnode) → (low count : ℕ)
-      → List Operation
-  reference_bits (storage space offset size) n old v low count =
-      bits_put top 2 n old v false low count (in_space space offset n)
-  reference_bits (local node x size) n old v low count =
-      bits_put top 2 n old v false low count (temporary (range_of node x) n)
-  reference_bits (number z) n old v low count = []
-  reference_bits (memory space size pointer width) n old v low count =
-      bits_put top 2 n old v false low count (at_temp top 2 n)
+  abbrev pub reference_bits : Reference → Size → (old v : Varnode) → (below : Bool)
+      → (low count : ℕ) → List Operation
+  reference_bits (storage space offset size) n old v below low count =
+      bits_put top 2 n old v below low count (in_space space offset n)
+  reference_bits (local node x size) n old v below low count =
+      bits_put top 2 n old v below low count (temporary (range_of node x) n)
+  reference_bits (number z) n old v below low count = []
+  reference_bits (memory space size pointer width) n old v below low count =
+      bits_put top 2 n old v below low count (at_temp top 2 n)
       ++ memory_put 4 space pointer width (at_temp top 2 n)
 
   module _ (g : Setting) (f : Frame) where
@@ -68,18 +68,19 @@ module _ (top : ℕ) where
     symbol_before t a n =
         code_before (symbol_leaf g f a n) (symbol_into top g f t a (at_temp top t n))
 
-    abbrev pub symbol_bits : Symbol → Size → (old v : Varnode) → (low count : ℕ) → List Operation
-    symbol_bits (s.bit_range space offset k low' count') n old v low count =
-        bits_put top 2 n old v false low count (at_temp top 2 n)
+    abbrev pub symbol_bits : Symbol → Size → (old v : Varnode) → (below : Bool)
+        → (low count : ℕ) → List Operation
+    symbol_bits (s.bit_range space offset k low' count') n old v below low count =
+        bits_put top 2 n old v below low count (at_temp top 2 n)
         ++ bits_put top 4 (size_at k) (in_space space offset (size_at k)) (at_temp top 2 n) false low'
         count' (in_space space offset (size_at k))
-    symbol_bits a n old v low count = reference_bits (meant g f a) n old v low count
+    symbol_bits a n old v below low count = reference_bits (meant g f a) n old v below low count
 
     abbrev pub set_bits_code : Symbol → (low count : ℕ) → Term → List Operation
     set_bits_code a low count e = term_before top g f 0 e
         ++ (symbol_before 1 a (symbol_size g f a)
         ++ symbol_bits a (symbol_size g f a) (symbol_operand 1 a (symbol_size g f a))
-        (term_operand top g f 0 e) low count)
+        (term_operand top g f 0 e) (is_below e count) low count)
 
     abbrev pub store_code : (space : ℕ) → (pointer e : Term) → List Operation
     store_code space pointer e = term_before top g f 0 e ++ (term_before top g f 1 pointer

@@ -191,15 +191,15 @@ module _ (top : ℕ) where
       let len : length (before ++ o ∷ []) ≡ length before + 1 = length-append before (o ∷ []) in
       omega (arith, h, h', len)
 
-  reference_bits_length : (r : Reference) (n : Size) (old v : Varnode) (low count : ℕ) → length (reference_bits top r n old v low count) ≤ pointers r + 9
-  reference_bits_length (storage space offset size) n old v low count = let h = bits_put_length 2 n old v false low count (in_space space offset n) in omega (arith, h)
-  reference_bits_length (local k x size) n old v low count = let h = bits_put_length 2 n old v false low count (temporary (range_of k x) n) in omega (arith, h)
-  reference_bits_length (number z) n old v low count = omega arith
-  reference_bits_length (memory space size pointer width) n old v low count =
-      let put = bits_put top 2 n old v false low count (at_temp top 2 n) in
+  reference_bits_length : (r : Reference) (n : Size) (old v : Varnode) (below : Bool) (low count : ℕ) → length (reference_bits top r n old v below low count) ≤ pointers r + 9
+  reference_bits_length (storage space offset size) n old v below low count = let h = bits_put_length 2 n old v below low count (in_space space offset n) in omega (arith, h)
+  reference_bits_length (local k x size) n old v below low count = let h = bits_put_length 2 n old v below low count (temporary (range_of k x) n) in omega (arith, h)
+  reference_bits_length (number z) n old v below low count = omega arith
+  reference_bits_length (memory space size pointer width) n old v below low count =
+      let put = bits_put top 2 n old v below low count (at_temp top 2 n) in
       let rest = memory_put top 4 space pointer width (at_temp top 2 n) in
       let h = memory_put_length 4 space pointer width (at_temp top 2 n) in
-      let k = bits_put_length 2 n old v false low count (at_temp top 2 n) in
+      let k = bits_put_length 2 n old v below low count (at_temp top 2 n) in
       let len = length-append put rest in
       omega (arith, h, k, len)
 
@@ -299,34 +299,34 @@ module _ (top : ℕ) where
     set_length s.next e = reference_set_length (number g.next) e (omega arith)
     set_length (s.integer v) e = reference_set_length (number (pos v)) e (omega arith)
 
-    symbol_bits_length : (a : Symbol) (n : Size) (old v : Varnode) (low count : ℕ) → length (symbol_bits top g f a n old v low count) ≤ 1033
-    symbol_bits_length (s.bit_range space offset k low' count') n old v low count =
+    symbol_bits_length : (a : Symbol) (n : Size) (old v : Varnode) (below : Bool) (low count : ℕ) → length (symbol_bits top g f a n old v below low count) ≤ 1033
+    symbol_bits_length (s.bit_range space offset k low' count') n old v below low count =
         let whole = in_space space offset (size_at k) in
-        let inner = bits_put top 2 n old v false low count (at_temp top 2 n) in
+        let inner = bits_put top 2 n old v below low count (at_temp top 2 n) in
         let outer = bits_put top 4 (size_at k) whole (at_temp top 2 n) false low' count' whole in
-        let h = bits_put_length 2 n old v false low count (at_temp top 2 n) in
+        let h = bits_put_length 2 n old v below low count (at_temp top 2 n) in
         let h' = bits_put_length 4 (size_at k) whole (at_temp top 2 n) false low' count' whole in
         let len = length-append inner outer in
         omega (arith, h, h', len)
-    symbol_bits_length (s.register space offset k) n old v low count = let h = bits_put_length 2 n old v false low count (in_space space offset n) in omega (arith, h)
-    symbol_bits_length (s.local x) n old v low count = let h = bits_put_length 2 n old v false low count (temporary (range_of f.node x) n) in omega (arith, h)
-    symbol_bits_length (s.table i) n old v low count = let h = reference_bits_length (reference_at f.refs i) n old v low count in let few = refs i in omega (arith, h, few)
-    symbol_bits_length (s.attached i k) n old v low count = let h = reference_bits_length (reference_at f.refs i) n old v low count in let few = refs i in omega (arith, h, few)
-    symbol_bits_length (s.value i) n old v low count = let h = reference_bits_length (reference_at f.refs i) n old v low count in let few = refs i in omega (arith, h, few)
-    symbol_bits_length s.start n old v low count = omega arith
-    symbol_bits_length s.next n old v low count = omega arith
-    symbol_bits_length (s.integer k) n old v low count = omega arith
+    symbol_bits_length (s.register space offset k) n old v below low count = let h = bits_put_length 2 n old v below low count (in_space space offset n) in omega (arith, h)
+    symbol_bits_length (s.local x) n old v below low count = let h = bits_put_length 2 n old v below low count (temporary (range_of f.node x) n) in omega (arith, h)
+    symbol_bits_length (s.table i) n old v below low count = let h = reference_bits_length (reference_at f.refs i) n old v below low count in let few = refs i in omega (arith, h, few)
+    symbol_bits_length (s.attached i k) n old v below low count = let h = reference_bits_length (reference_at f.refs i) n old v below low count in let few = refs i in omega (arith, h, few)
+    symbol_bits_length (s.value i) n old v below low count = let h = reference_bits_length (reference_at f.refs i) n old v below low count in let few = refs i in omega (arith, h, few)
+    symbol_bits_length s.start n old v below low count = omega arith
+    symbol_bits_length s.next n old v below low count = omega arith
+    symbol_bits_length (s.integer k) n old v below low count = omega arith
 
     set_bits_length : (a : Symbol) (low count : ℕ) (e : Term) → length (set_bits_code top g f a low count e) ≤ 4096 * term_parts e + 2058
     set_bits_length a low count e =
         let n = symbol_size g f a in
         let first = term_before top g f 0 e in
         let second = symbol_before top g f 1 a n in
-        let rest = symbol_bits top g f a n (symbol_operand top g f 1 a n) (term_operand top g f 0 e) low count in
+        let rest = symbol_bits top g f a n (symbol_operand top g f 1 a n) (term_operand top g f 0 e) (is_below e count) low count in
         let h = term_before_length e 0 in
         let k = symbol_length a 1 (at_temp top 1 n) in
         let k' = before_length (symbol_leaf g f a n) (symbol_into top g f 1 a (at_temp top 1 n)) in
-        let l = symbol_bits_length a n (symbol_operand top g f 1 a n) (term_operand top g f 0 e) low count in
+        let l = symbol_bits_length a n (symbol_operand top g f 1 a n) (term_operand top g f 0 e) (is_below e count) low count in
         let len = length-append first (second ++ rest) in
         let len' = length-append second rest in
         omega (arith, h, k, k', l, len, len')

@@ -175,16 +175,16 @@ module _ (g : Setting) (is : IsMachine g) (Local : (node x n : ℕ) → Type 0) 
       (fine_before g is Local top low below (read_leaf pointer width) _ (reference_fine g is Local top low below pointer Unique (top + t * 16) width t (temp_writable g is Local top low below t width room) fits placed' room))
       (store_stands g.sizes is.few space q v there (reference_reads g is Local top low below pointer width t fits placed' room).range reads, tt)
 
-  reference_bits_fine : (r : Reference) (n : Size) (old v : Varnode) (low' count : ℕ) → ReferenceFits Local r n.bytes → IsPlaced g r → IsInRange g.sizes old → IsInRange g.sizes v → n.bytes ≡ old.size.bytes → v.size.bytes ≤ n.bytes → low' + count ≤ 8 * n.bytes
-      → Straights (reference_bits top r n old v low' count)
-  reference_bits_fine (storage space offset size) n old v low' count fits there reads reads' same narrower inside =
-      bits_put_fine 2 n old v false low' count (In (record { 0 = space })) offset (space_writable g.sizes space offset n there) reads reads' same narrower inside (omega arith)
-  reference_bits_fine (local k x size) n old v low' count fits there reads reads' same narrower inside =
-      bits_put_fine 2 n old v false low' count Unique (range_of k x) (temporary_writable g.sizes (range_of k x) n (local_range g is Local top low below k x n fits)) reads reads' same narrower inside (omega arith)
-  reference_bits_fine (number z) n old v low' count fits there reads reads' same narrower inside = tt
-  reference_bits_fine (memory space size pointer width) n old v low' count fits there reads reads' same narrower inside =
-      straight_append g.sizes (bits_put top 2 n old v false low' count (at_temp top 2 n)) (memory_put top 4 space pointer width (at_temp top 2 n))
-      (bits_put_fine 2 n old v false low' count Unique (top + 2 * 16) (temp_writable g is Local top low below 2 n (omega arith)) reads reads' same narrower inside (omega arith))
+  reference_bits_fine : (r : Reference) (n : Size) (old v : Varnode) (below' : Bool) (low' count : ℕ) → ReferenceFits Local r n.bytes → IsPlaced g r → IsInRange g.sizes old → IsInRange g.sizes v → n.bytes ≡ old.size.bytes → v.size.bytes ≤ n.bytes → low' + count ≤ 8 * n.bytes
+      → Straights (reference_bits top r n old v below' low' count)
+  reference_bits_fine (storage space offset size) n old v below' low' count fits there reads reads' same narrower inside =
+      bits_put_fine 2 n old v below' low' count (In (record { 0 = space })) offset (space_writable g.sizes space offset n there) reads reads' same narrower inside (omega arith)
+  reference_bits_fine (local k x size) n old v below' low' count fits there reads reads' same narrower inside =
+      bits_put_fine 2 n old v below' low' count Unique (range_of k x) (temporary_writable g.sizes (range_of k x) n (local_range g is Local top low below k x n fits)) reads reads' same narrower inside (omega arith)
+  reference_bits_fine (number z) n old v below' low' count fits there reads reads' same narrower inside = tt
+  reference_bits_fine (memory space size pointer width) n old v below' low' count fits there reads reads' same narrower inside =
+      straight_append g.sizes (bits_put top 2 n old v below' low' count (at_temp top 2 n)) (memory_put top 4 space pointer width (at_temp top 2 n))
+      (bits_put_fine 2 n old v below' low' count Unique (top + 2 * 16) (temp_writable g is Local top low below 2 n (omega arith)) reads reads' same narrower inside (omega arith))
       (memory_put_fine 4 space pointer width (at_temp top 2 n) there.0 fits there.1 (temp_range g is Local top low below 2 n (omega arith)) (omega arith))
 
   module _ (f : Frame) where
@@ -218,22 +218,22 @@ module _ (g : Setting) (is : IsMachine g) (Local : (node x n : ℕ) → Type 0) 
     set_fine s.next e where_fits there fits formed room = reference_set_fine (number g.next) e where_fits there fits formed room
     set_fine (s.integer v) e where_fits there fits formed room = reference_set_fine (number (pos v)) e where_fits there fits formed room
 
-    symbol_bits_fine : (a : Symbol) (n : Size) (old v : Varnode) (low' count : ℕ) → SymbolFits Local g f a n.bytes → IsPlaced g (meant g f a) → IsInRange g.sizes old → IsInRange g.sizes v → n.bytes ≡ old.size.bytes → v.size.bytes ≤ n.bytes → low' + count ≤ 8 * n.bytes
-        → Straights (symbol_bits top g f a n old v low' count)
-    symbol_bits_fine (s.bit_range space offset k least count') n old v low' count fits there reads reads' same narrower inside =
+    symbol_bits_fine : (a : Symbol) (n : Size) (old v : Varnode) (below' : Bool) (low' count : ℕ) → SymbolFits Local g f a n.bytes → IsPlaced g (meant g f a) → IsInRange g.sizes old → IsInRange g.sizes v → n.bytes ≡ old.size.bytes → v.size.bytes ≤ n.bytes → low' + count ≤ 8 * n.bytes
+        → Straights (symbol_bits top g f a n old v below' low' count)
+    symbol_bits_fine (s.bit_range space offset k least count') n old v below' low' count fits there reads reads' same narrower inside =
         let tmp = at_temp top 2 n in
         let whole = in_space space offset (size_at k) in
-        straight_append g.sizes (bits_put top 2 n old v false low' count tmp) (bits_put top 4 (size_at k) whole tmp false least count' whole)
-        (bits_put_fine 2 n old v false low' count Unique (top + 2 * 16) (temp_writable g is Local top low below 2 n (omega arith)) reads reads' same narrower inside (omega arith))
+        straight_append g.sizes (bits_put top 2 n old v below' low' count tmp) (bits_put top 4 (size_at k) whole tmp false least count' whole)
+        (bits_put_fine 2 n old v below' low' count Unique (top + 2 * 16) (temp_writable g is Local top low below 2 n (omega arith)) reads reads' same narrower inside (omega arith))
         (bits_put_fine 4 (size_at k) whole tmp false least count' (In (record { 0 = space })) offset (space_writable g.sizes space offset (size_at k) there) there (temp_range g is Local top low below 2 n (omega arith)) refl fits.2 fits.0 (omega arith))
-    symbol_bits_fine (s.register space offset k) n old v low' count fits there reads reads' same narrower inside = reference_bits_fine (storage space offset (size_at k)) n old v low' count fits there reads reads' same narrower inside
-    symbol_bits_fine (s.local x) n old v low' count fits there reads reads' same narrower inside = reference_bits_fine (local f.node x (f.size x)) n old v low' count fits there reads reads' same narrower inside
-    symbol_bits_fine (s.table i) n old v low' count fits there reads reads' same narrower inside = reference_bits_fine (reference_at f.refs i) n old v low' count fits there reads reads' same narrower inside
-    symbol_bits_fine (s.attached i k) n old v low' count fits there reads reads' same narrower inside = reference_bits_fine (reference_at f.refs i) n old v low' count fits there reads reads' same narrower inside
-    symbol_bits_fine (s.value i) n old v low' count fits there reads reads' same narrower inside = reference_bits_fine (reference_at f.refs i) n old v low' count fits there reads reads' same narrower inside
-    symbol_bits_fine s.start n old v low' count fits there reads reads' same narrower inside = reference_bits_fine (number g.start) n old v low' count fits there reads reads' same narrower inside
-    symbol_bits_fine s.next n old v low' count fits there reads reads' same narrower inside = reference_bits_fine (number g.next) n old v low' count fits there reads reads' same narrower inside
-    symbol_bits_fine (s.integer k) n old v low' count fits there reads reads' same narrower inside = reference_bits_fine (number (pos k)) n old v low' count fits there reads reads' same narrower inside
+    symbol_bits_fine (s.register space offset k) n old v below' low' count fits there reads reads' same narrower inside = reference_bits_fine (storage space offset (size_at k)) n old v below' low' count fits there reads reads' same narrower inside
+    symbol_bits_fine (s.local x) n old v below' low' count fits there reads reads' same narrower inside = reference_bits_fine (local f.node x (f.size x)) n old v below' low' count fits there reads reads' same narrower inside
+    symbol_bits_fine (s.table i) n old v below' low' count fits there reads reads' same narrower inside = reference_bits_fine (reference_at f.refs i) n old v below' low' count fits there reads reads' same narrower inside
+    symbol_bits_fine (s.attached i k) n old v below' low' count fits there reads reads' same narrower inside = reference_bits_fine (reference_at f.refs i) n old v below' low' count fits there reads reads' same narrower inside
+    symbol_bits_fine (s.value i) n old v below' low' count fits there reads reads' same narrower inside = reference_bits_fine (reference_at f.refs i) n old v below' low' count fits there reads reads' same narrower inside
+    symbol_bits_fine s.start n old v below' low' count fits there reads reads' same narrower inside = reference_bits_fine (number g.start) n old v below' low' count fits there reads reads' same narrower inside
+    symbol_bits_fine s.next n old v below' low' count fits there reads reads' same narrower inside = reference_bits_fine (number g.next) n old v below' low' count fits there reads reads' same narrower inside
+    symbol_bits_fine (s.integer k) n old v below' low' count fits there reads reads' same narrower inside = reference_bits_fine (number (pos k)) n old v below' low' count fits there reads reads' same narrower inside
 
     set_bits_fine : (a : Symbol) (low' count : ℕ) (e : Term) → TermFits Local g f e → SymbolFits Local g f a (symbol_size g f a).bytes → low' + count ≤ 8 * (symbol_size g f a).bytes → (size_of g f e).bytes ≤ (symbol_size g f a).bytes → IsPlaced g (meant g f a) → TermIsFormed g f e → Room (term_parts e)
         → Straights (set_bits_code top g f a low' count e)
@@ -243,12 +243,12 @@ module _ (g : Setting) (is : IsMachine g) (Local : (node x n : ℕ) → Type 0) 
         let old = symbol_operand top g f 1 a n in
         let reads = term_reads g is Local top low below f e 0 fits formed (omega arith) in
         let reads' = symbol_reads g is Local top low below f a n 1 where_fits there (omega arith) in
-        let rest = symbol_bits top g f a n old v low' count in
+        let rest = symbol_bits top g f a n old v (is_below e count) low' count in
         straight_append g.sizes (term_before top g f 0 e) (symbol_before top g f 1 a n ++ rest)
         (before_fine g is Local top low below f e 0 fits formed (omega arith))
         (straight_append g.sizes (symbol_before top g f 1 a n) rest
         (fine_before g is Local top low below (symbol_leaf g f a n) _ (symbol_fine g is Local top low below f a Unique (top + 1 * 16) n 1 (temp_writable g is Local top low below 1 n (omega arith)) where_fits there (omega arith)))
-        (symbol_bits_fine a n old v low' count where_fits there reads'.range reads.range (sym (ap (λ (k : Size). k.bytes) reads'.size)) (omega (arith, size_bytes g is Local top low below f e v reads, narrower)) inside))
+        (symbol_bits_fine a n old v (is_below e count) low' count where_fits there reads'.range reads.range (sym (ap (λ (k : Size). k.bytes) reads'.size)) (omega (arith, size_bytes g is Local top low below f e v reads, narrower)) inside))
 
     store_fine : (space : ℕ) (pointer e : Term) → IsSpace g space → TermFits Local g f pointer → TermIsFormed g f pointer → TermFits Local g f e → TermIsFormed g f e → Room (term_parts pointer + term_parts e + 1) → Straights (store_code top g f space pointer e)
     store_fine space pointer e there fits formed fits' formed' room =

@@ -190,17 +190,17 @@ module _ (top : ℕ) (g : Setting) (userops : ℕ) where
       (lead_before g.default userops (read_leaf pointer width) (read_into top t pointer temp)
       (read_leads t pointer temp)) (tt, tt, tt)
 
-  reference_leads : (r : Reference) (n : Size) (old v : Varnode) (low count : ℕ)
-      → Lead (reference_bits top r n old v low count)
-  reference_leads (storage space offset size) n old v low count =
-      put_leads 2 n old v low count (in_space space offset n) false
-  reference_leads (local node x size) n old v low count =
-      put_leads 2 n old v low count (temporary (range_of node x) n) false
-  reference_leads (number z) n old v low count = tt
-  reference_leads (memory space size pointer width) n old v low count =
-      append (bits_put top 2 n old v false low count (at_temp top 2 n))
+  reference_leads : (r : Reference) (n : Size) (old v : Varnode) (below : Bool) (low count : ℕ)
+      → Lead (reference_bits top r n old v below low count)
+  reference_leads (storage space offset size) n old v below low count =
+      put_leads 2 n old v low count (in_space space offset n) below
+  reference_leads (local node x size) n old v below low count =
+      put_leads 2 n old v low count (temporary (range_of node x) n) below
+  reference_leads (number z) n old v below low count = tt
+  reference_leads (memory space size pointer width) n old v below low count =
+      append (bits_put top 2 n old v below low count (at_temp top 2 n))
       (memory_put top 4 space pointer width (at_temp top 2 n))
-      (put_leads 2 n old v low count (at_temp top 2 n) false)
+      (put_leads 2 n old v low count (at_temp top 2 n) below)
       (memory_leads 4 space pointer width (at_temp top 2 n))
 
   module _ (f : Frame) where
@@ -214,15 +214,16 @@ module _ (top : ℕ) (g : Setting) (userops : ℕ) where
         lead_before g.default userops (symbol_leaf g f a n)
         (symbol_into top g f t a (at_temp top t n)) (symbol_leads t a (at_temp top t n))
 
-    symbol_bits_lead : (a : Symbol) (n : Size) (old v : Varnode) (low count : ℕ)
-        → Lead (symbol_bits top g f a n old v low count)
-    symbol_bits_lead (s.bit_range space offset k low' count') n old v low count =
+    symbol_bits_lead : (a : Symbol) (n : Size) (old v : Varnode) (below : Bool) (low count : ℕ)
+        → Lead (symbol_bits top g f a n old v below low count)
+    symbol_bits_lead (s.bit_range space offset k low' count') n old v below low count =
         let whole = in_space space offset (size_at k) in
-        append (bits_put top 2 n old v false low count (at_temp top 2 n))
+        append (bits_put top 2 n old v below low count (at_temp top 2 n))
         (bits_put top 4 (size_at k) whole (at_temp top 2 n) false low' count' whole)
-        (put_leads 2 n old v low count (at_temp top 2 n) false)
+        (put_leads 2 n old v low count (at_temp top 2 n) below)
         (put_leads 4 (size_at k) whole (at_temp top 2 n) low' count' whole false)
-    symbol_bits_lead a n old v low count = reference_leads (meant g f a) n old v low count
+    symbol_bits_lead a n old v below low count =
+        reference_leads (meant g f a) n old v below low count
 
     -- ---- expressions, and statements
 
@@ -332,11 +333,12 @@ module _ (top : ℕ) (g : Setting) (userops : ℕ) where
           let n = symbol_size g f a in
           let old = symbol_operand top g f 1 a n in
           let v = term_operand top g f 0 e in
+          let below = is_below e count in
           append (term_before top g f 0 e)
-          (symbol_before top g f 1 a n ++ symbol_bits top g f a n old v low count)
+          (symbol_before top g f 1 a n ++ symbol_bits top g f a n old v below low count)
           (value_leads 0 e h)
-          (append (symbol_before top g f 1 a n) (symbol_bits top g f a n old v low count)
-          (before_leads 1 a n) (symbol_bits_lead a n old v low count))
+          (append (symbol_before top g f 1 a n) (symbol_bits top g f a n old v below low count)
+          (before_leads 1 a n) (symbol_bits_lead a n old v below low count))
 
       store_leads : (space : ℕ) (pointer e : Term) → Names pointer → Names e
           → Lead (store_code top g f space pointer e)
