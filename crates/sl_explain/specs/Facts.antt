@@ -11,10 +11,13 @@ use Rattle.sl_bind_compile.specs.declared.error.Flaw.TheVariants as flaw
 use Rattle.sl_cube_sets.specs.declared.report.Apart.{Apart}
 use Rattle.sl_cube_sets.specs.declared.report.Apart.TheVariants.{Same, Two}
 use Rattle.sl_explain_heads.specs.Heads.{head_line, pattern_line}
-use Rattle.sl_explain.specs.Sentences.{advice, asked, cause_words, feature_advice, flaw_advice, flaw_asked}
+use Rattle.sl_explain.specs.Sentences.{advice, asked, cause_words, feature_advice, flaw_advice, flaw_asked, rule_line}
 use Rattle.sl_explain_heads.specs.Words.{mode_at, text_before, token_words}
 use Rattle.sl_explain_lines.specs.Excerpts.{shown_up_to}
 use Rattle.sl_explain_lines.specs.FactLines.{fact_line, spot_lines}
+use Rattle.sl_explain_names.specs.Culprits.{culprit}
+use Rattle.sl_explain_names.specs.FaultWords.{advice_line, fault_line, sentence_of}
+use Rattle.sl_explain_names.specs.declared.culprits.Culprit.{Culprit}
 use Rattle.sl_lex.specs.Faults.{Fault}
 use Rattle.sl_lex.specs.Faults.Fault.{NoLexeme, OpenQuote, TooWide}
 use Rattle.sl_lex.specs.Reading.{Token}
@@ -201,6 +204,27 @@ item_lines ts with_pattern (Some index) = head_line ts index ++ (if with_pattern
 unfoldable pub flaw_facts : List Token → Flaw → Option ℕ → List ℕ
 flaw_facts ts flaw index =
     item_lines ts (is_of_pattern flaw) index ++ (flaw_asked flaw ++ flaw_advice flaw)
+
+-- ---- words of items
+
+-- the word that breaks a rule, of the item whose first token has this index, where one can be told
+abbrev pub culprit_of : List Token → Flaw → Option ℕ → Option Culprit
+culprit_of ts (flaw.Rule number) (Some index) = culprit ts index number
+culprit_of ts _ _ = None
+
+-- What is said of a word that breaks the rule of this number, in the item whose first token has this index.
+unfoldable pub culprit_facts : expanded.Text → List Token → (number index : ℕ) → Culprit → List ℕ
+culprit_facts t ts number index c =
+    token_spot t (slice_get ts c.index)
+    ++ (head_line ts index ++ (fault_line ts index c ++ (rule_line number (sentence_of ts number c) ++ advice_line ts number c)))
+
+abbrev pub word_facts : expanded.Text → List Token → Flaw → Option ℕ → Option Culprit → List ℕ
+word_facts t ts (flaw.Rule number) (Some index) (Some c) = culprit_facts t ts number index c
+word_facts t ts flaw index _ = flaw_facts ts flaw index
+
+-- A flaw is told with the word that is at fault, where there is one.
+unfoldable pub item_facts : expanded.Text → List Token → Flaw → Option ℕ → List ℕ
+item_facts t ts flaw index = word_facts t ts flaw index (culprit_of ts flaw index)
 
 -- ---- tables
 

@@ -1,5 +1,5 @@
 -- meaning: the sentence that a refused text breaks, and what to write instead where that is known.
-use Rattle.std.specs.Prelude.{ℕ, ◌==◌, List, [], ◌∷◌, ◌++◌, codes, if◌then◌else◌}
+use Rattle.std.specs.Prelude.{ℕ, ◌-◌, ◌==◌, List, [], ◌∷◌, ◌++◌, codes, if◌then◌else◌}
 use Rattle.sl_ast.specs.declared.symbols.Feature.{Feature}
 use Rattle.sl_ast.specs.declared.symbols.Feature.TheVariants as feature
 use Rattle.sl_bind_compile.specs.declared.error.Flaw.{Flaw}
@@ -98,6 +98,15 @@ lines_of number (row ∷ rows) = (if row.0 == number then asked row.1 else []) +
 
 abbrev pub rule_lines : ℕ → List ℕ
 rule_lines number = lines_of number rule_rows
+
+-- the line of the row of this number before which so many of the same number stand
+abbrev pub line_of : (number which : ℕ) → List (ℕ × List ℕ) → List ℕ
+line_of number which [] = []
+line_of number which (row ∷ rows) =
+    if row.0 == number then (if which == 0 then asked row.1 else line_of number (which - 1) rows) else line_of number which rows
+
+abbrev pub rule_line : (number which : ℕ) → List ℕ
+rule_line number which = line_of number which rule_rows
 
 abbrev pub rule_advice : ℕ → List ℕ
 rule_advice number =

@@ -6,6 +6,7 @@ ghost use Rattle.sl_explain.specs.Facts.{settling_facts};
 ghost use Rattle.sl_lex.specs.Faults.Fault.{NoLexeme, OpenQuote, TooWide};
 ghost use Rattle.sl_explain.specs.Facts.{ambiguity_facts, apart_advice, apart_fault, bad_byte};
 ghost use Rattle.sl_explain.specs.Facts.{cause_facts, end_of, end_spot, fault, flaw_facts};
+ghost use Rattle.sl_explain.specs.Facts.{culprit_facts, culprit_of, item_facts, word_facts};
 ghost use Rattle.sl_explain.specs.Facts.{is_of_pattern, item_lines, spot_at, token_spot};
 ghost use Rattle.sl_explain.specs.Errors.{lex_facts};
 ghost use Rattle.sl_lex.specs.Views.{view, views};
@@ -14,10 +15,15 @@ ghost use Rattle.sl_preproc.specs.Works.{names_of};
 
 use crate::sentences::{
     push_advice, push_advice_on_flaw, push_asked, push_asked_of_cause, push_asked_of_flaw,
+    push_sentence,
 };
 use sl_bind_compile::{Ambiguity, Apart, Flaw};
 use sl_explain_heads::{push_head, push_pattern};
 use sl_explain_lines::{push_fact, push_spot};
+use sl_explain_names::{
+    Culprit, find_culprit, push_advice as push_culprit_advice, push_fault as push_culprit_fault,
+    sentence_of,
+};
 use sl_lex::{LexError, Tok};
 use sl_preproc::{Expanded, Place};
 use sl_preproc_directives::fault::Cause;
@@ -225,8 +231,8 @@ fn push_item(
     }
 }
 
-/// Appends what more is said of a tree that has a flaw, in the item whose first token has this
-/// index, or in none.
+/// Appends what more is said of a flaw of the item whose first token has this index, or of none,
+/// without the word that is at fault.
 #[tactic(auto, unfolding(crate::specs::Facts::flaw_facts))]
 pub fn push_flaw_facts(
     alloc: Global,
@@ -241,6 +247,84 @@ pub fn push_flaw_facts(
     push_item(alloc, out, tokens, is_of_pattern(flaw), index)?;
     push_asked_of_flaw(out, flaw)?;
     push_advice_on_flaw(out, flaw)
+}
+
+// ---- words of items
+
+/// The word that breaks a rule, of the item whose first token has this index, where one can be told.
+fn culprit_of(
+    alloc: Global,
+    tokens: &[Tok<'_>],
+    flaw: Flaw,
+    index: Option<usize>,
+) -> Result<Option<Culprit>, AllocError>
+    ensures { IfOk result (λ found. found ≡ culprit_of (views tokens.now) flaw index) }
+{
+    match (flaw, index) {
+        (Flaw::Rule(number), Some(index)) => find_culprit(alloc, tokens, index, number),
+        _ => Ok(None),
+    }
+}
+
+/// Appends what is said of a word that breaks the rule of this number, in the item whose first token
+/// has this index.
+#[tactic(auto, unfolding(crate::specs::Facts::culprit_facts))]
+fn push_culprit_facts(
+    alloc: Global,
+    out: &mut Vec<u8>,
+    text: &Expanded,
+    tokens: &[Tok<'_>],
+    number: u8,
+    index: usize,
+    culprit: Culprit,
+) -> Result<(), AllocError>
+    ensures { OnOk result (out.new.items ≡ out.old.items
+        ++ culprit_facts (seen text.now) (views tokens.now) number index culprit) }
+{
+    push_token_spot(out, text, tokens.get(culprit.index))?;
+    push_head(alloc, out, tokens, index)?;
+    push_culprit_fault(alloc, out, tokens, index, culprit)?;
+    push_sentence(out, number, sentence_of(tokens, number, culprit))?;
+    push_culprit_advice(alloc, out, tokens, number, culprit)
+}
+
+/// Appends what is said of a flaw with this culprit.
+fn push_word_facts(
+    alloc: Global,
+    out: &mut Vec<u8>,
+    text: &Expanded,
+    tokens: &[Tok<'_>],
+    flaw: Flaw,
+    index: Option<usize>,
+    culprit: Option<Culprit>,
+) -> Result<(), AllocError>
+    ensures { OnOk result (out.new.items ≡ out.old.items
+        ++ word_facts (seen text.now) (views tokens.now) flaw index culprit) }
+{
+    match (flaw, index, culprit) {
+        (Flaw::Rule(number), Some(index), Some(culprit)) => {
+            push_culprit_facts(alloc, out, text, tokens, number, index, culprit)
+        }
+        _ => push_flaw_facts(alloc, out, tokens, flaw, index),
+    }
+}
+
+/// Appends what more is said of a text that has a flaw, in the item whose first token has this
+/// index, or in none; with the word that is at fault, where there is one.
+#[tactic(auto, unfolding(crate::specs::Facts::item_facts))]
+pub fn push_item_facts(
+    alloc: Global,
+    out: &mut Vec<u8>,
+    text: &Expanded,
+    tokens: &[Tok<'_>],
+    flaw: Flaw,
+    index: Option<usize>,
+) -> Result<(), AllocError>
+    ensures { OnOk result (out.new.items ≡ out.old.items
+        ++ item_facts (seen text.now) (views tokens.now) flaw index) }
+{
+    let culprit = culprit_of(alloc, tokens, flaw, index)?;
+    push_word_facts(alloc, out, text, tokens, flaw, index, culprit)
 }
 
 // ---- tables

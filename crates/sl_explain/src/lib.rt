@@ -7,5 +7,7 @@ mod facts;
 mod sentences;
 mod syntax;
 
-pub use facts::{push_ambiguity_facts, push_cause_facts, push_flaw_facts, push_lex_facts};
+pub use facts::{
+    push_ambiguity_facts, push_cause_facts, push_flaw_facts, push_item_facts, push_lex_facts,
+};
 pub use syntax::push_parse_facts;

@@ -3,7 +3,7 @@
 ghost use Rattle.std.specs.Prelude.{◌≡◌, ◌++◌, OnOk};
 ghost use Rattle.sl_explain.specs.Rows.{rows_of};
 ghost use Rattle.sl_explain.specs.Sentences.{advice, asked, cause_words, feature_advice, flaw_advice};
-ghost use Rattle.sl_explain.specs.Sentences.{flaw_asked, lines_of, rule_advice, rule_lines};
+ghost use Rattle.sl_explain.specs.Sentences.{flaw_asked, line_of, lines_of, rule_advice, rule_line, rule_lines};
 
 use sl_ast::symbols::Feature;
 use sl_bind_compile::Flaw;
@@ -258,6 +258,36 @@ fn push_rule(out: &mut Vec<u8>, number: u8) -> Result<(), AllocError>
     ensures { OnOk result (out.new.items ≡ out.old.items ++ rule_lines number) }
 {
     push_rows(out, number, &RULES)
+}
+
+/// Appends the line of the row of this number before which so many of the same number are.
+fn push_row(
+    out: &mut Vec<u8>,
+    number: u8,
+    which: usize,
+    rows: &[(u8, &[u8])],
+) -> Result<(), AllocError>
+    ensures { OnOk result (out.new.items
+        ≡ out.old.items ++ line_of number which (rows_of rows.now)) }
+{
+    let mut left = which;
+    'each: for row in rows {
+        let is_of_rule = row.0 == number;
+        if is_of_rule {
+            if left == 0 {
+                return push_asked(out, row.1);
+            }
+            left -= 1;
+        }
+    }
+    Ok(())
+}
+
+/// Appends one of the sentences of the rule with this number.
+pub fn push_sentence(out: &mut Vec<u8>, number: u8, which: usize) -> Result<(), AllocError>
+    ensures { OnOk result (out.new.items ≡ out.old.items ++ rule_line number which) }
+{
+    push_row(out, number, which, &RULES)
 }
 
 /// Appends what is asked of a text that has the flaw.

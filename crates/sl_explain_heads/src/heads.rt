@@ -40,7 +40,7 @@ fn ends_pattern(text: &[u8]) -> bool
 }
 
 /// The tokens from this index on.
-fn from<'a, 'b>(tokens: &'b [Tok<'a>], index: usize) -> &'b [Tok<'a>]
+pub fn from<'a, 'b>(tokens: &'b [Tok<'a>], index: usize) -> &'b [Tok<'a>]
     ensures { views result.now ≡ Rattle.std.specs.Prelude.drop index (views tokens.now) }
 {
     let (_, rest) = tokens.split_at(index.min(tokens.len()));
@@ -190,14 +190,30 @@ fn pattern_words(
     }
 }
 
-/// The words of a constructor: its table and its display.
-fn constructor_words(alloc: Global, tokens: &[Tok<'_>], index: usize) -> Result<Vec<u8>, AllocError>
-    ensures { IfOk result (λ words. words.items ≡ constructor_words (views tokens.now) index) }
+/// The table of the constructor whose first token has this index, or no name where neither it nor a
+/// block round it names one.
+pub fn table_of<'a>(
+    alloc: Global,
+    tokens: &[Tok<'a>],
+    index: usize,
+) -> Result<&'a [u8], AllocError>
+    ensures { IfOk result (λ table. table.now ≡ table_of (views tokens.now) index) }
 {
     let blocks = blocks_round(alloc, tokens, index)?;
-    let item = from(tokens, index);
-    let table = name_or(table_at(item), table_in(tokens, blocks.as_slice()));
-    let display = joined(alloc, display_at(item))?;
+    let outer = table_in(tokens, blocks.as_slice());
+    Ok(name_or(table_at(from(tokens, index)), outer))
+}
+
+/// The words of a constructor: its table and its display.
+pub fn constructor_words(
+    alloc: Global,
+    tokens: &[Tok<'_>],
+    index: usize,
+) -> Result<Vec<u8>, AllocError>
+    ensures { IfOk result (λ words. words.items ≡ constructor_words (views tokens.now) index) }
+{
+    let table = table_of(alloc, tokens, index)?;
+    let display = joined(alloc, display_at(from(tokens, index)))?;
     let mut words = Vec::new(alloc);
     push_table(&mut words, table)?;
     push_up_to(&mut words, 80, display.as_slice())?;

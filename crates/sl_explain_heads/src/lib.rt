@@ -7,5 +7,5 @@ mod heads;
 pub mod laws;
 mod words;
 
-pub use heads::{push_head, push_pattern};
-pub use words::{Mode, mode_at, push_token, text_before};
+pub use heads::{constructor_words, from, push_head, push_pattern, table_of};
+pub use words::{Mode, blocks_round, mode_at, next_mode, push_token, text_at, text_before};

@@ -70,7 +70,7 @@ pub enum Mode {
 }
 
 /// The mode in which a text goes on after a token with these bytes.
-fn next_mode(mode: Mode, text: &[u8]) -> Mode
+pub fn next_mode(mode: Mode, text: &[u8]) -> Mode
     ensures { mode_view result ≡ next_mode (mode_view mode) text.now }
 {
     match (mode, text) {

@@ -1,6 +1,6 @@
 //! The fourth stage: the tables that stand for the tree, which are sound.
 
-ghost use Rattle.std.specs.Prelude.{◌≡◌, IfOk};
+ghost use Rattle.std.specs.Prelude.{◌≡◌, ◌++◌, IfOk, OnOk};
 ghost use Rattle.sl_ast.specs.Views.{indexes_of, items_of};
 ghost use Rattle.sl_bind_compile.specs.Outcomes as outcome;
 ghost use Rattle.sl_bind_compile.specs.Outcomes.{flawed};
@@ -8,7 +8,8 @@ ghost use Rattle.sl_faithful_accepted.specs.Laws.{IsShort};
 ghost use Rattle.sl_tool_stages.specs.Halts.{TellsRefusal};
 ghost use Rattle.sl_tool_stages.specs.OriginView.{origin_view};
 ghost use Rattle.sl_tool_stages.specs.Places.{indexes_in};
-ghost use Rattle.sl_tool_stages.specs.Stages.{conflict_of, problem_of_flaw, refusal_told};
+ghost use Rattle.sl_tool_stages.specs.Stages.{conflict_of, flaw_lines, problem_of_flaw};
+ghost use Rattle.sl_tool_stages.specs.Stages.{refusal_told};
 
 use crate::facts::Facts;
 use crate::halt::Halt;
@@ -18,7 +19,7 @@ use crate::problem::{Conflict, Problem};
 use crate::refusal::{Refusal, Subject};
 use crate::tree::Tree;
 use sl_bind_compile::{Ambiguity, CompileError, Compiled as Specification, Flaw, compile};
-use sl_explain::{push_ambiguity_facts, push_flaw_facts};
+use sl_explain::{push_ambiguity_facts, push_flaw_facts, push_item_facts};
 use sl_store_text::pack_text;
 use sl_store_write::pack_parts;
 use std::alloc::{AllocError, Global};
@@ -52,6 +53,26 @@ fn problem_of(flaw: Flaw) -> Problem
     }
 }
 
+/// Appends what more is said of a flaw of the item with this index.
+fn push_flaw(
+    alloc: Global,
+    out: &mut Vec<u8>,
+    origin: &Origin<'_, '_>,
+    flaw: Flaw,
+    index: Option<usize>,
+) -> Result<(), AllocError>
+    ensures { OnOk result (out.new.items
+        ≡ out.old.items ++ flaw_lines (origin_view origin.now) flaw index) }
+{
+    match origin {
+        Origin::InText(of) => {
+            let text = &of.source.expanded;
+            push_item_facts(alloc, out, text, of.tokens.as_slice(), flaw, index)
+        }
+        Origin::Stored(_) => push_flaw_facts(alloc, out, &[], flaw, index),
+    }
+}
+
 /// The refusal for a flaw of the item with this index.
 fn flawed(
     alloc: Global,
@@ -63,7 +84,7 @@ fn flawed(
 {
     let place = origin.place_of(alloc, index)?;
     let mut lines = Vec::new(alloc);
-    push_flaw_facts(alloc, &mut lines, origin.tokens(), flaw, index)?;
+    push_flaw(alloc, &mut lines, origin, flaw, index)?;
     let subject = Subject::Line(place);
     let problem = problem_of(flaw);
     let facts = Facts::of(lines);

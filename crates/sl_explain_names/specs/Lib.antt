@@ -1,0 +1,10 @@
+pub mod TokenKinds
+pub mod Places
+pub mod Names
+pub mod Items
+pub mod ItemView
+pub mod Patterns
+pub mod Sections
+pub mod Definitions
+pub mod Culprits
+pub mod FaultWords

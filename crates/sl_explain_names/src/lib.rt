@@ -1,0 +1,22 @@
+//! The word of an item that breaks a rule, and what is wrong with it.
+//!
+//! An item is told by its tokens (`specs/Places.antt`), what names are by the definitions of the
+//! text (`specs/Names.antt`). Each rule is a row of tests (`specs/Culprits.antt`); the culprit is
+//! the first word, in the text's order, with which something is wrong.
+#![tactic(auto)]
+
+mod culprits;
+mod definitions;
+mod findings;
+mod item;
+mod names;
+mod patterns;
+mod places;
+mod sections;
+mod tokens;
+mod words;
+
+pub use culprits::{Culprit, find_culprit};
+pub use findings::Finding;
+pub use names::Kind;
+pub use words::{push_advice, push_fault, sentence_of};
