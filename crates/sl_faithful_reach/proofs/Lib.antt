@@ -5,7 +5,6 @@ pub mod MeaningLemmas
 pub mod OutcomeLemmas
 pub mod ReadLemmas
 pub mod SiteLemmas
-pub mod TokenLemmas
 pub mod WindowLemmas
 pub mod MeasureLemmas
 pub mod OperandLemmas

@@ -4,6 +4,3 @@
 
 pub mod decode_laws;
 pub mod instruction_laws;
-mod tokens;
-
-pub use tokens::tokens_are_short;

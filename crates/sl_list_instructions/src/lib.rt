@@ -2,6 +2,7 @@
 #![tactic(auto)]
 
 mod disassembly;
+mod image;
 pub mod image_laws;
 mod instructions;
 pub mod laws;
@@ -11,7 +12,8 @@ mod listings;
 mod specified;
 mod writing;
 
-pub use disassembly::Disassembly;
+pub use disassembly::{Disassembly, decoder_of};
+pub use image::Image;
 pub use instructions::{
     Decoder, ListBuffers, Listing, WINDOW, count_of, mark_of, put_line, window_at,
 };

@@ -16,7 +16,7 @@ use Rattle.sl_decode_meaning.specs.Decoding.{Decoded}
 use Rattle.sl_meaning_instruction.specs.Instructions.{Specification, specification_of}
 use Rattle.sl_list_instructions.specs.Listings.{Shows}
 use Rattle.sl_list_instructions.specs.Disassemblies as lister
-use Rattle.sl_list_instructions.specs.Listing.{Image, image_from}
+use Rattle.sl_list_instructions.specs.Listing.{Image}
 use Rattle.sl_pcode.specs.Operations.{operations}
 use Rattle.sl_pcode.specs.declared.print.Names.{Names}
 use Rattle.sl_list_pcode.specs.Listing.{Shown}
@@ -71,11 +71,8 @@ compiled_in l = l.translator.now.compiled.now
 abbrev pub choice_in : PcodeListing → Choice
 choice_in l = chosen l.translator.now.disassembly.disassembler.choosers
 
-abbrev pub image_in : PcodeListing → Image
-image_in l = image_from l.image.now l.base l.start
-
 abbrev pub shows_in : PcodeListing → Shows
-shows_in l = shows_by l.translator.now (image_in l)
+shows_in l = shows_by l.translator.now l.image.now
 
 -- Its specification is accepted, and is translated.
 pub record IsReady (l : PcodeListing) : Type 0 where

@@ -14,18 +14,20 @@ impl Lister for PcodeListing<'_, '_, '_> {
 
     ghost shows = { λ l. shows_in l };
 
-    ghost end = { λ l. length l.image.now };
+    ghost end = { λ l. length l.image.now.bytes };
 
     ghost ready = { λ l. IsReady l };
 
-    ghost start = { λ l. l.start };
+    ghost start = { λ l. l.image.now.start };
 
     fn end(&self) -> usize {
-        self.image.len()
+        let image = self.image;
+        image.bytes.len()
     }
 
     fn start(&self) -> u64 {
-        self.start
+        let image = self.image;
+        image.start
     }
 
     fn show(
@@ -39,8 +41,9 @@ impl Lister for PcodeListing<'_, '_, '_> {
         let tables = &self.translator.compiled.bound.tables;
         let size = address_size(tables);
         let alignment = usize::from(tables.alignment);
-        let address = self.base + at as u64;
-        let window = window_at(self.image, at);
+        let image = self.image;
+        let address = image.base + at as u64;
+        let window = window_at(image.bytes.as_slice(), at);
         let beyond = (address % u64::from(tables.alignment)) as usize;
         if beyond > 0 {
             let count = alignment - beyond;

@@ -5,7 +5,6 @@ ghost use Rattle.std.specs.Result.{IsErrOf};
 ghost use Rattle.sl_ast.specs.Views.{items_of};
 ghost use Rattle.sl_faithful_accepted.specs.Laws.{IsShort};
 ghost use Rattle.sl_bind_compile.specs.Compiled.{IsCompiled};
-ghost use Rattle.sl_list_instructions.specs.Listing.{image_from};
 ghost use Rattle.sl_outside.specs.Uses.{UsesSink};
 ghost use Rattle.sl_list_pcode.specs.Writing.{Writes};
 ghost use Rattle.sl_section_sizes.specs.Sizings.{lists_of};
@@ -13,7 +12,7 @@ ghost use Rattle.sl_section_sizes.specs.Sizings.{lists_of};
 use crate::shown::{PcodeBuffers, PcodeListing};
 use crate::translator::Translator;
 use sl_bind_compile::Compiled;
-use sl_list_instructions::{ListError, list_all};
+use sl_list_instructions::{Image, ListError, list_all};
 use sl_outside::Sink;
 use std::alloc::Global;
 
@@ -25,17 +24,15 @@ use std::alloc::Global;
 pub fn list_pcode<K: Sink>(
     alloc: Global,
     compiled: &Compiled<'_>,
-    image: &[u8],
-    base: u64,
-    start: u64,
+    image: &Image,
     out: &mut K,
 ) -> Result<(), ListError>
     requires short { IsShort (items_of compiled.now.bound.spec) }
     requires compiled { IsCompiled compiled.now }
-    requires fits { base + length image.now ≤ 2 ^ 64 }
+    requires fits { image.now.base + length image.now.bytes ≤ 2 ^ 64 }
     ensures writes { Writes (items_of compiled.now.bound.spec) compiled.now.bound.tables
-        (lists_of compiled.now.bound.sizes.items) (image_from image.now base start)
-        (K.taken out.old) (K.taken out.new) result }
+        (lists_of compiled.now.bound.sizes.items) image.now (K.taken out.old) (K.taken out.new)
+        result }
     ensures sink { UsesSink K.faults K.calls out.old out.new
         (IsErrOf result ListError.WriteFault) }
 {
@@ -46,8 +43,6 @@ pub fn list_pcode<K: Sink>(
         alloc,
         translator: &translator,
         image,
-        base,
-        start,
     };
     let mut buffers = PcodeBuffers::new(alloc);
     list_all(alloc, &listing, &mut buffers, out)

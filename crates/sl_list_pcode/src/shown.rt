@@ -4,6 +4,7 @@ ghost use Rattle.std.specs.Prelude.{◌+◌, ◌^◌, ◌≤◌, length};
 
 use crate::translator::Translator;
 use sl_decode::Walk;
+use sl_list_instructions::Image;
 use std::alloc::Global;
 
 /// An image that is listed with the operations of its instructions.
@@ -11,12 +12,8 @@ use std::alloc::Global;
 pub struct PcodeListing<'l, 't, 'a> {
     pub alloc: Global,
     pub translator: &'l Translator<'t, 'a>,
-    pub image: &'l [u8],
-    /// The address of the first byte.
-    pub base: u64,
-    /// The context where no commit counts.
-    pub start: u64,
-    ghost fits: { base + length image.now ≤ 2 ^ 64 },
+    pub image: &'l Image,
+    ghost fits: { image.now.base + length image.now.bytes ≤ 2 ^ 64 },
 }
 
 /// Buffers of a listing: a decoded tree, and its text.

@@ -5,4 +5,5 @@ pub mod ReadLemmas
 pub mod SightLemmas
 pub mod SlotLemmas
 pub mod StepLemmas
+pub mod TokenLemmas
 pub mod WindowLemmas

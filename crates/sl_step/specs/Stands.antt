@@ -10,7 +10,6 @@ use Rattle.sl_bind_compile.specs.Compiled.{IsCompiled}
 use Rattle.sl_decode_meaning.specs.Actions.{address_bytes}
 use Rattle.sl_decode_meaning.specs.Choices.{Choice}
 use Rattle.sl_meaning_instruction.specs.Instructions.{Specification, specification_of}
-use Rattle.sl_faithful_reach.specs.DecodeLaws.{TokensAreShort}
 use Rattle.sl_section_sizes.specs.Sizings.{lists_of}
 use Rattle.sl_step.specs.declared.stepper.Stepper.{Stepper}
 
@@ -32,7 +31,6 @@ pub record StandsFor (x : Stepper) : Type 0 where
       (specification_in x).constructors
   pub chooses : IsChoiceOf (specification_in x).tables (specification_in x).constructors
       (choice_in x)
-  pub tokens : TokensAreShort (specification_in x).tables
   pub builds : sections.StandsFor x.sections (specification_in x)
   pub space : position (λ z. z.default) (specification_in x).tables.spaces ≡ Some x.space.0
   pub size : x.size.bytes ≡ address_bytes (specification_in x).tables

@@ -2,7 +2,6 @@
 #![tactic(auto)]
 
 mod buffers;
-mod decoder;
 mod error;
 mod instruction;
 mod machine;

@@ -11,7 +11,6 @@ ghost use Rattle.sl_step.specs.Windows.{window_in};
 ghost use Rattle.sl_word.specs.Bytes.{address_sizes};
 
 use crate::buffers::StepBuffers;
-use crate::decoder::decoder_of;
 use crate::error::StepError;
 use crate::instruction::{Instruction, Listed};
 use crate::sight::sight_of;
@@ -21,7 +20,8 @@ use sl_bind_compile::Compiled;
 use sl_build::{Built, Decoded, Sections};
 use sl_decode::{DecodeError, Disassembler, Walk, address_size};
 use sl_decode_choices::Choosers;
-use sl_faithful_reach::tokens_are_short;
+use sl_list_instructions::decoder_of;
+use sl_spec::unfolded_constructors;
 use sl_word::{AddressSize, SpaceId, State};
 use std::alloc::{AllocError, Global};
 use std::rc::Rc;
@@ -46,11 +46,11 @@ impl<'t, 'a> Stepper<'t, 'a> {
         ensures stands { IfOk result StandsFor }
     {
         let tables = &compiled.bound.tables;
-        let disassembler = decoder_of(alloc, compiled)?;
+        let constructors = unfolded_constructors(alloc, compiled.bound.spec.items.as_slice())?;
+        let disassembler = decoder_of(alloc, compiled, constructors.as_slice())?;
         let sections = Sections::new(alloc, &compiled.bound)?;
         let space = default_space(tables)?;
         let size = address_size(tables);
-        tokens_are_short(tables);
         Ok(Stepper {
             compiled,
             disassembler,

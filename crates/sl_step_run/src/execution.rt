@@ -5,7 +5,6 @@ ghost use Rattle.sl_ast.specs.Views.{items_of};
 ghost use Rattle.sl_faithful_accepted.specs.Laws.{IsShort};
 ghost use Rattle.sl_bind_compile.specs.Compiled.{IsCompiled};
 ghost use Rattle.sl_decode_meaning.specs.Actions.{address_bytes};
-ghost use Rattle.sl_list_instructions.specs.Listing.{image_from};
 ghost use Rattle.sl_step_run.specs.Executing.{Executes, Runs, Steps, stopped_by};
 ghost use Rattle.sl_step_run.specs.Running.{HasRoom};
 ghost use Rattle.sl_section_sizes.specs.Sizings.{lists_of};
@@ -19,6 +18,7 @@ use crate::opening::opening;
 use sl_bind_compile::Compiled;
 use sl_decode_contexts::ContextMap;
 use sl_emu::Runner;
+use sl_list_instructions::Image;
 use sl_step::{Machine, StepBuffers, Stepper};
 use std::alloc::{AllocError, Global};
 
@@ -84,32 +84,29 @@ fn run_steps<R: Runner>(
     Ok((steps, None))
 }
 
-/// Runs an image for at most `steps` steps from its first byte, which has the address `base`;
-/// `start` is the context where no commit counts. The run ends at the first fault. The only error
-/// is want of memory.
+/// Runs an image for at most `steps` steps from its first byte. The run ends at the first fault. The
+/// only error is want of memory.
 pub fn execute<R: Runner>(
     alloc: Global,
     compiled: &Compiled<'_>,
-    image: &[u8],
-    base: u64,
-    start: u64,
+    image: &Image,
     steps: u64,
     runner: &mut R,
 ) -> Result<Execution, AllocError>
     requires short { IsShort (items_of compiled.now.bound.spec) }
     requires compiled { IsCompiled compiled.now }
-    requires room { HasRoom (256 ^ address_bytes compiled.now.bound.tables) base
-        (length image.now) }
+    requires room { HasRoom (256 ^ address_bytes compiled.now.bound.tables) image.now.base
+        (length image.now.bytes) }
     ensures { IfOk result (Executes (items_of compiled.now.bound.spec) compiled.now.bound.tables
-        (lists_of compiled.now.bound.sizes.items) (image_from image.now base start) steps
-        (R.count runner.old) (R.count runner.new)) }
+        (lists_of compiled.now.bound.sizes.items) image.now steps (R.count runner.old)
+        (R.count runner.new)) }
 {
     let stepper = Stepper::new(alloc, compiled)?;
-    let state = opening(alloc, &compiled.bound.tables, image, base)?;
-    let contexts = ContextMap::new(alloc, start);
+    let state = opening(alloc, &compiled.bound.tables, image)?;
+    let contexts = ContextMap::new(alloc, image.start);
     let mut machine = Machine {
         state,
-        counter: base,
+        counter: image.base,
         contexts,
     };
     let (ran, fault) = run_steps(alloc, &stepper, &mut machine, steps, runner)?;

@@ -1,13 +1,13 @@
 //! Machines before their first step.
 
-ghost use Rattle.std.specs.Prelude.{◌≡◌, ℕ, ◌+◌, ◌^◌, ◌<◌, ◌≤◌, ◌↔◌, IfOk, IsTrue, length};
+ghost use Rattle.std.specs.Prelude.{◌≡◌, ◌+◌, ◌^◌, ◌<◌, ◌≤◌, ◌↔◌, IfOk, IsTrue, length};
 ghost use Rattle.sl_faithful_code.specs.Faithful.{AreBytes};
 ghost use Rattle.sl_decode_meaning.specs.Actions.{address_bytes};
-ghost use Rattle.sl_list_instructions.specs.Listing.{image_from};
 ghost use Rattle.sl_step_run.specs.Running.{opening};
 ghost use Rattle.sl_step_run.specs.Told.{HasSpacesOf};
 ghost use Rattle.sl_word.specs.Bytes.{byte_at};
 
+use sl_list_instructions::Image;
 use sl_section_sizes::address_sizes;
 use sl_spec::{Space, Tables};
 use sl_step::default_space;
@@ -33,17 +33,11 @@ fn have_room(sizes: &[AddressSize]) -> bool
 
 /// The bytes of a machine before its first step: the image in the default space from its base on,
 /// and zeros.
-pub(crate) fn opening(
-    alloc: Global,
-    tables: &Tables,
-    image: &[u8],
-    base: u64,
-) -> Result<State, AllocError>
-    requires { base + length image.now ≤ 256 ^ address_bytes tables.now }
+pub(crate) fn opening(alloc: Global, tables: &Tables, image: &Image) -> Result<State, AllocError>
+    requires { image.now.base + length image.now.bytes ≤ 256 ^ address_bytes tables.now }
     ensures spaces { IfOk result (HasSpacesOf tables.now) }
     ensures bytes { IfOk result (λ state. AreBytes (byte_at state)) }
-    ensures memory { IfOk result (λ state. (start : ℕ)
-        → byte_at state ≡ opening tables.now (image_from image.now base start)) }
+    ensures memory { IfOk result (λ state. byte_at state ≡ opening tables.now image.now) }
 {
     let sizes = address_sizes(alloc, tables)?;
     if !have_room(sizes.as_slice()) {
@@ -51,6 +45,6 @@ pub(crate) fn opening(
     }
     let space = default_space(tables)?;
     let mut state = State::new(alloc, tables.endian, sizes.as_slice())?;
-    state.load_image(space, base, image)?;
+    state.load_image(space, image.base, image.bytes.as_slice())?;
     Ok(state)
 }

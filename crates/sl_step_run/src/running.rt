@@ -5,7 +5,6 @@ ghost use Rattle.sl_ast.specs.Views.{items_of};
 ghost use Rattle.sl_faithful_accepted.specs.Laws.{IsShort};
 ghost use Rattle.sl_bind_compile.specs.Compiled.{IsCompiled};
 ghost use Rattle.sl_decode_meaning.specs.Actions.{address_bytes};
-ghost use Rattle.sl_list_instructions.specs.Listing.{image_from};
 ghost use Rattle.sl_step_run.specs.Executing.{RunsAs};
 ghost use Rattle.sl_step_run.specs.Running.{HasRoom};
 ghost use Rattle.sl_step_run.specs.Told.{HasSpacesOf, IsTold, RegistersAreInSpaces};
@@ -17,6 +16,7 @@ use crate::lines::{push_changes, push_counter, push_registers, push_steps};
 use crate::opening::opening;
 use sl_bind_compile::Compiled;
 use sl_emu::Runner;
+use sl_list_instructions::Image;
 use sl_spec::Tables;
 use sl_word::State;
 use std::alloc::{AllocError, Global};
@@ -53,30 +53,26 @@ fn run_text(
     Ok(out)
 }
 
-/// Runs an image by a compiled specification for at most `steps` steps, and tells what they did to
-/// the machine. The image's first byte has the address `base`, where the run begins; `start` is the
-/// context where no commit counts. The run ends at the first fault. The only error is want of
-/// memory.
+/// Runs an image by a compiled specification for at most `steps` steps from its first byte, and tells
+/// what they did to the machine. The run ends at the first fault. The only error is want of memory.
 pub fn run_image<R: Runner>(
     alloc: Global,
     compiled: &Compiled<'_>,
-    image: &[u8],
-    base: u64,
-    start: u64,
+    image: &Image,
     steps: u64,
     runner: &mut R,
 ) -> Result<Ran, AllocError>
     requires short { IsShort (items_of compiled.now.bound.spec) }
     requires compiled { IsCompiled compiled.now }
-    requires room { HasRoom (256 ^ address_bytes compiled.now.bound.tables) base
-        (length image.now) }
+    requires room { HasRoom (256 ^ address_bytes compiled.now.bound.tables) image.now.base
+        (length image.now.bytes) }
     ensures { IfOk result (RunsAs (items_of compiled.now.bound.spec) compiled.now.bound.tables
-        (lists_of compiled.now.bound.sizes.items) (image_from image.now base start) steps
-        (R.count runner.old) (R.count runner.new)) }
+        (lists_of compiled.now.bound.sizes.items) image.now steps (R.count runner.old)
+        (R.count runner.new)) }
 {
     let tables = &compiled.bound.tables;
-    let execution = execute(alloc, compiled, image, base, start, steps, runner)?;
-    let opening = opening(alloc, tables, image, base)?;
+    let execution = execute(alloc, compiled, image, steps, runner)?;
+    let opening = opening(alloc, tables, image)?;
     let text = run_text(alloc, tables, &opening, &execution)?;
     let stopped = execution.fault.is_some();
     Ok(Ran { text, stopped })

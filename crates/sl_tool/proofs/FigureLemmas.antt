@@ -7,16 +7,15 @@ use Rattle.sl_ast.specs.Trees.{Item}
 use Rattle.sl_bind.specs.Binding.{Binds, constructors_of}
 use Rattle.sl_decode_lengths.proofs.AcceptedLemmas.{bound_are_taken}
 use Rattle.sl_faithful_places.proofs.PlaceLemmas.{taken_are_defined}
-use Rattle.sl_tool_generator.specs.Image.{image}
 use Rattle.sl_tool_generator.specs.Line.{figures_line}
-use Rattle.sl_list_instructions.specs.Listing.{IsListing, image_from}
+use Rattle.sl_list_instructions.specs.Listing.{Image, IsListing}
 use Rattle.sl_step_run.specs.Executing.{Executes}
 use Rattle.sl_step_run.specs.Running.{RunsCountedTo}
 use Rattle.sl_step_run.specs.Told.{RegistersAreInSpaces}
 use Rattle.sl_step_run.specs.declared.execution.Execution.{Execution}
 use Rattle.sl_spec.specs.declared.tables.Tables.{Tables}
 use Rattle.sl_tool.specs.Figures.{CountsSo, IsFigured, IsListed}
-use Rattle.sl_tool.specs.Generated.{figures_told, lines_behind, shown_from, shown_lines}
+use Rattle.sl_tool.specs.Generated.{figures_told, generated_image, lines_behind, shown_from, shown_lines}
 use Rattle.sl_tool_stages.specs.Values.{Compiled}
 use Rattle.sl_word.specs.Bytes.{byte_at}
 use Rattle.sl_word.specs.Memories.{Memory}
@@ -66,10 +65,10 @@ registers_lie items t sizes binds = λ k r is.
 
 -- ---- what is told
 
-pub figures_due : (c : Compiled) (size listed : ℕ) (sizes : List (List Size)) (bytes : List ℕ) (e : Execution) (old new : ℕ) (line : List ℕ) → bytes ≡ image size
-    → Binds c.tree.items (Ok (c.tables, sizes)) → IsListed c bytes listed → Executes c.tree.items c.tables sizes (image_from bytes 0 0) size old new e
+pub figures_due : (c : Compiled) (size listed : ℕ) (sizes : List (List Size)) (i : Image) (e : Execution) (old new : ℕ) (line : List ℕ) → i ≡ generated_image size
+    → Binds c.tree.items (Ok (c.tables, sizes)) → IsListed c i listed → Executes c.tree.items c.tables sizes i size old new e
     → line ≡ figures_line (figures_told c.tables size listed e.ran (byte_at e.machine.state)) → IsFigured c size old new line
-figures_due c size listed sizes bytes e old new line is binds lists runs told =
+figures_due c size listed sizes i e old new line is binds lists runs told =
     let ran = ap (λ (n : ℕ). figures_told c.tables size listed n (byte_at e.machine.state)) (sym runs.ran_is) in
     let memory = ap (λ (m : Memory). figures_told c.tables size listed runs.outcome.ran m) runs.seen.memory in
     let shown = ap (λ (n : ℕ). figures_told c.tables size n runs.outcome.ran runs.outcome.machine.memory) lists.2 in (
@@ -79,8 +78,8 @@ figures_due c size listed sizes bytes e old new line is binds lists runs told =
         listing = lists.0;
         outcome = runs.outcome;
         bound = binds;
-        lists = subst (λ (b : List ℕ). IsListing c.tables (constructors_of c.tree.items) (image_from b 0 0) lists.0) is lists.1;
-        runs = subst (λ (b : List ℕ). RunsCountedTo c.tree.items c.tables sizes (image_from b 0 0) size runs.count runs.outcome) is runs.runs;
+        lists = subst (λ (x : Image). IsListing c.tables (constructors_of c.tree.items) x lists.0) is lists.1;
+        runs = subst (λ (x : Image). RunsCountedTo c.tree.items c.tables sizes x size runs.count runs.outcome) is runs.runs;
         ending = refl;
         text = told ∙ ap figures_line (ran ∙ memory ∙ shown);
       },

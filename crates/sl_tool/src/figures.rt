@@ -2,13 +2,13 @@
 
 ghost use Rattle.std.specs.Prelude.{◌≡◌, ◌-◌, ◌^◌, ◌<◌, IfOk};
 ghost use Rattle.sl_bind_compile.specs.Compiled.{IsCompiled};
-ghost use Rattle.sl_tool_generator.specs.Image.{image};
 ghost use Rattle.sl_outside.specs.Uses.{UsesSink};
 ghost use Rattle.sl_step_run.specs.Told.{RegistersAreInSpaces};
 ghost use Rattle.sl_step.specs.Machines.{Fits};
 ghost use Rattle.sl_tool.specs.Answers.{figures_of};
 ghost use Rattle.sl_tool.specs.Figures.{ImageFits, IsFigured, IsListed};
-ghost use Rattle.sl_tool.specs.Generated.{figures_told, lines_behind, register_at, shown_lines};
+ghost use Rattle.sl_tool.specs.Generated.{figures_told, generated_image, lines_behind};
+ghost use Rattle.sl_tool.specs.Generated.{register_at, shown_lines};
 ghost use Rattle.sl_tool.specs.Streams.{Streams};
 ghost use Rattle.sl_tool.specs.Growth.{Grew};
 ghost use Rattle.sl_tool_stages.specs.Outcomes.{FailsToWrite};
@@ -19,7 +19,7 @@ use crate::status::Ending;
 use crate::writing::write_all;
 use sl_decode::address_size;
 use sl_emu::Runner;
-use sl_list_instructions::list_image;
+use sl_list_instructions::{Image, list_image};
 use sl_outside::{MemSink, Sink};
 use sl_spec::Tables;
 use sl_step_run::{Execution, Machine, execute, held};
@@ -58,8 +58,8 @@ fn line<R: Runner>(
 {
     let specification = &compiled.specification;
     let image = image_for(alloc, &specification.bound.tables, size)?;
-    let listed = listed(alloc, compiled, image.as_slice())?;
-    let execution = execute(alloc, specification, image.as_slice(), 0, 0, size, runner)?;
+    let listed = listed(alloc, compiled, &image)?;
+    let execution = execute(alloc, specification, &image, size, runner)?;
     let mut line = Vec::new(alloc);
     let figures = figures_of(&specification.bound.tables, size, listed, &execution);
     push_line(&mut line, figures)?;
@@ -68,29 +68,33 @@ fn line<R: Runner>(
 
 /// The image of so many instructions. One that doesn't fit the default space of the tables, as the
 /// generated one does, is answered as want of memory.
-fn image_for(alloc: Global, tables: &Tables<'_>, size: u64) -> Result<Vec<u8>, AllocError>
-    ensures same { IfOk result (λ i. i.items ≡ image size) }
-    ensures fits { IfOk result (λ i. ImageFits tables.now i.items) }
+fn image_for(alloc: Global, tables: &Tables<'_>, size: u64) -> Result<Image, AllocError>
+    ensures same { IfOk result (λ i. i ≡ generated_image size) }
+    ensures fits { IfOk result (ImageFits tables.now) }
 {
     let Ok(count) = u32::try_from(size) else {
         return Err(AllocError);
     };
-    let image = generated_image(alloc, count)?;
+    let bytes = generated_image(alloc, count)?;
     let address_bytes = u64::from(address_size(tables).bytes);
-    if !has_room(address_bytes, 0, image.len()) {
+    if !has_room(address_bytes, 0, bytes.len()) {
         return Err(AllocError);
     }
-    Ok(image)
+    Ok(Image {
+        bytes,
+        base: 0,
+        start: 0,
+    })
 }
 
 /// How many lines of the image's listing show an instruction.
-fn listed(alloc: Global, compiled: &Compiled<'_, '_>, image: &[u8]) -> Result<u64, AllocError>
+fn listed(alloc: Global, compiled: &Compiled<'_, '_>, image: &Image) -> Result<u64, AllocError>
     requires compiled { IsCompiled compiled.now.specification }
     requires fits { ImageFits compiled.now.specification.bound.tables image.now }
     ensures { IfOk result (IsListed (compiled_view compiled.now) image.now) }
 {
     let mut listing = MemSink::new(alloc);
-    match list_image(alloc, &compiled.specification, image, 0, 0, &mut listing) {
+    match list_image(alloc, &compiled.specification, image, &mut listing) {
         Ok(()) => Ok(shown_lines(listing.bytes())),
         Err(_) => Err(AllocError),
     }

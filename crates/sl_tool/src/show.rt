@@ -97,10 +97,7 @@ fn write_listing<K: Sink>(
         (K.taken out.old) (K.taken out.new) RanNone result }
     ensures sink { UsesSink K.faults K.calls out.old out.new (FailsToWrite result) }
 {
-    let specification = &loaded.compiled.specification;
-    let image = &loaded.image;
-    let bytes = image.bytes.as_slice();
-    let written = list_image(alloc, specification, bytes, image.base, image.start, out);
+    let written = list_image(alloc, &loaded.compiled.specification, &loaded.image, out);
     listed(written)
 }
 
@@ -115,10 +112,7 @@ fn write_operations<K: Sink>(
         (K.taken out.old) (K.taken out.new) RanNone result }
     ensures sink { UsesSink K.faults K.calls out.old out.new (FailsToWrite result) }
 {
-    let specification = &loaded.compiled.specification;
-    let image = &loaded.image;
-    let bytes = image.bytes.as_slice();
-    let written = list_pcode(alloc, specification, bytes, image.base, image.start, out);
+    let written = list_pcode(alloc, &loaded.compiled.specification, &loaded.image, out);
     listed(written)
 }
 
@@ -136,17 +130,7 @@ fn write_run<K: Sink, R: Runner>(
     ensures sink { UsesSink K.faults K.calls out.old out.new (FailsToWrite result) }
 {
     let specification = &loaded.compiled.specification;
-    let image = &loaded.image;
-    let bytes = image.bytes.as_slice();
-    let ran = run_image(
-        alloc,
-        specification,
-        bytes,
-        image.base,
-        image.start,
-        steps,
-        runner,
-    )?;
+    let ran = run_image(alloc, specification, &loaded.image, steps, runner)?;
     write_all(out, ran.text.as_slice())?;
     Ok(ending_of(ran.stopped))
 }

@@ -8,5 +8,5 @@ use Rattle.sl_tool_stages.specs.declared.loaded.Loaded.{Loaded}
 -- The specification was compiled, and the image fits its default space.
 pub record IsLoaded (l : Loaded) : Type 0 where
   pub compiled : IsCompiled l.compiled.specification
-  pub room : HasRoom (256 ^ address_bytes l.compiled.specification.bound.tables) l.image.base (length l.image.bytes.items)
-  pub fits : l.image.base + length l.image.bytes.items ≤ 2 ^ 64
+  pub room : HasRoom (256 ^ address_bytes l.compiled.specification.bound.tables) l.image.base (length l.image.bytes)
+  pub fits : l.image.base + length l.image.bytes ≤ 2 ^ 64

@@ -2,8 +2,8 @@
 //!
 //! [`Source`] is the text that the main file of a specification expands to, [`Tokens`] are its
 //! tokens, [`Tree`] is the tree that they spell, and [`Compiled`] has the tables of that tree,
-//! which are sound. [`Loaded`] has an [`Image`] beside them: bytes, where they lie in memory, and
-//! the context. Each is made by its call `read` and keeps the one before, so that the place of a
+//! which are sound. [`Loaded`] has an image beside them: bytes, where they lie in memory, and the
+//! context. Each is made by its call `read` and keeps the one before, so that the place of a
 //! token can still be told:
 //!
 //! ```text
@@ -48,7 +48,7 @@ pub use fetching::fetched;
 pub use halt::Halt;
 pub use image::has_room;
 pub use lines::{push_counted, push_place, push_point};
-pub use loaded::{Image, Loaded};
+pub use loaded::Loaded;
 pub use origin::{Origin, Stored};
 pub use place::{Name, Place};
 pub use places::Places;

@@ -9,7 +9,7 @@ use Rattle.sl_list_instructions.specs.Instructions.{Listed}
 use Rattle.sl_list_instructions.specs.Fronts.{IsBegun, IsListed}
 use Rattle.sl_list_instructions.proofs.AcceptedLemmas.{aligned}
 use Rattle.sl_list_instructions.proofs.ImageLawLemmas.{listed_written}
-use Rattle.sl_list_instructions.specs.Listing.{image_from, subject}
+use Rattle.sl_list_instructions.specs.Listing.{subject}
 use Rattle.sl_spec.specs.declared.tables.Tables.{Tables}
 use Rattle.sl_list_instructions.proofs.listing.list_image.Goals as goal
 
@@ -25,7 +25,7 @@ returns-clause-writes g c =
     let d = c.in-Ok.disassembly.disassembler in
     let stands = c.in-Ok.ensures in
     let choose = chosen d.choosers in
-    let i = image_from c.args.image.now c.args.base c.args.start in
+    let i = c.args.image.now in
     let old = g.K.Sink.taken c.args.out.now in
     let new = g.K.Sink.taken c.list_by.new.out in
     let whole = subst (λ (t : Tables). OnOk c.list_by.result (IsListed (Listed (subject t cs choose i)) (length i.bytes) old new)) stands.decodes.tables

@@ -1,4 +1,3 @@
-use Rattle.sl_list_instructions.specs.Listing.{image_from}
 use Rattle.sl_list_pcode.proofs.ReadyLemmas.{ready, written}
 use Rattle.sl_list_pcode.proofs.listing.list_pcode.Goals as goal
 
@@ -8,5 +7,5 @@ list_all-requires g c = ready _ c.args.compiled.now c.in-Ok.ensures c.requires.s
 pub returns-clause-writes : goal.returns-clause-writes
 returns-clause-writes g c =
     written c.in-Ok.translator c.args.compiled.now c.in-Ok.ensures
-    (image_from c.args.image.now c.args.base c.args.start) (g.K.Sink.taken c.args.out.now)
+    c.args.image.now (g.K.Sink.taken c.args.out.now)
     (g.K.Sink.taken c.list_all.new.out) c.list_all.result c.list_all.ensures.whole c.list_all.ensures.front

@@ -1,7 +1,6 @@
 use Rattle.sl_ast.specs.Views.{items_of}
 use Rattle.sl_faithful_places.proofs.PlaceLemmas.{taken_are_defined}
 use Rattle.sl_list_instructions.proofs.AcceptedLemmas.{accepted}
-use Rattle.sl_list_instructions.specs.Listing.{image_from}
 use Rattle.sl_step_run.proofs.RunLemmas.{registers_lie, run_text}
 use Rattle.sl_section_sizes.specs.Sizings.{lists_of}
 use Rattle.sl_step_run.proofs.running.run_image.Goals as goal
@@ -15,7 +14,7 @@ run_text-requires-clause-registers g c =
 pub returns : goal.returns
 returns g c =
     let b = c.args.compiled.now.bound in
-    let i = image_from c.args.image.now c.args.base c.args.start in
+    let i = c.args.image.now in
     let defined = taken_are_defined (items_of b.spec) b.tables
     (accepted (items_of b.spec) b.tables c.requires.compiled.compiles).keeps_rules in
     let h = c.in_ok-execution.ensures in
@@ -25,7 +24,7 @@ returns g c =
           run_text (items_of b.spec) b.tables (lists_of b.sizes.items) i c.args.steps
           (g.R.Runner.count c.args.runner.now) (g.R.Runner.count c.execute.new.runner)
           defined c.in_ok-opening.opening c.in_ok-execution.execution
-          (c.in_ok-opening.ensures.memory c.args.start) h c.in_ok-text.text.items c.in_ok-text.ensures
+          c.in_ok-opening.ensures.memory h c.in_ok-text.text.items c.in_ok-text.ensures
           c.is_some-stopped.result c.is_some-stopped.ensures;
       counted = h.counted;
     }

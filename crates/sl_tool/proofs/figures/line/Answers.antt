@@ -1,11 +1,8 @@
 use Rattle.std.proofs.Common.{ℕ, List, ◌++◌, ap, subst, ◌∙◌}
 use Rattle.sl_ast.specs.Views.{items_of}
-use Rattle.sl_list_instructions.specs.Listing.{image_from}
 use Rattle.sl_tool_generator.specs.Line.{figures_line}
 use Rattle.sl_tool_generator.specs.declared.line.Figures.{Figures}
-use Rattle.sl_step_run.specs.Executing.{Executes}
 use Rattle.sl_section_sizes.specs.Sizings.{lists_of}
-use Rattle.sl_tool.specs.Figures.{IsListed}
 use Rattle.sl_tool_stages.specs.StageViews.{compiled_view}
 use Rattle.sl_tool.proofs.FigureLemmas.{figures_due, registers_lie}
 use Rattle.sl_tool.proofs.figures.line.Goals as goal
@@ -23,7 +20,5 @@ returns g c =
     let sizes = lists_of b.sizes.items in
     let old = g.R.Runner.count c.args.runner.now in
     let new = g.R.Runner.count c.execute.new.runner in
-    let listed = subst (λ (bytes : List ℕ). IsListed v bytes c.in_ok-listed.listed) c.as_slice.ensures.value c.in_ok-listed.ensures in
-    let runs = subst (λ (bytes : List ℕ). Executes v.tree.items v.tables sizes (image_from bytes 0 0) c.args.size old new e) c.as_slice-2.ensures.value c.in_ok-execution.ensures in
-    figures_due v c.args.size c.in_ok-listed.listed sizes c.in_ok-image.image.items e old new c.push_line.new.line.items c.in_ok-image.ensures.same c.requires.binds
-    listed runs (c.in_ok-push_line.ensures ∙ ap (λ (s : List ℕ). s ++ figures_line c.figures_of-figures.result) c.new-line.ensures.items ∙ ap (λ (f : Figures). figures_line f) c.figures_of-figures.ensures)
+    figures_due v c.args.size c.in_ok-listed.listed sizes c.in_ok-image.image e old new c.push_line.new.line.items c.in_ok-image.ensures.same c.requires.binds
+    c.in_ok-listed.ensures c.in_ok-execution.ensures (c.in_ok-push_line.ensures ∙ ap (λ (s : List ℕ). s ++ figures_line c.figures_of-figures.result) c.new-line.ensures.items ∙ ap (λ (f : Figures). figures_line f) c.figures_of-figures.ensures)

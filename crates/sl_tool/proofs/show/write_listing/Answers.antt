@@ -1,7 +1,4 @@
 use Rattle.std.proofs.Common.{ℕ, List, Result, sym, subst}
-use Rattle.sl_bind_compile.specs.Outcomes.{all_constructors}
-use Rattle.sl_list_instructions.specs.Listing.{image_from}
-use Rattle.sl_list_instructions.specs.Writing.{Writes}
 use Rattle.sl_tool.specs.Answers.{shows_of}
 use Rattle.sl_tool.specs.Streams.{RanNone, Streams}
 use Rattle.sl_tool.specs.Request.{Listing}
@@ -16,12 +13,9 @@ use Rattle.sl_tool.proofs.show.write_listing.Goals as goal
 pub returns-clause-streams : goal.returns-clause-streams
 returns-clause-streams g c =
     let l = loaded_view c.args.loaded.now in
-    let i = c.args.loaded.now.image in
     let old = g.K.Sink.taken c.args.out.now in
     let new = g.K.Sink.taken c.list_image-written.new.out in
-    let wrote = subst (λ (b : List ℕ). Writes l.compiled.tables (all_constructors l.compiled.tree.items) (image_from b i.base i.start) old new c.list_image-written.result)
-    c.as_slice-bytes.ensures.value c.list_image-written.ensures.writes in
-    subst (λ (r : Result Ending Halt). Streams (shows_of Listing l) old new RanNone r) (sym c.listed.ensures) (listed_streams l old new c.list_image-written.result wrote)
+    subst (λ (r : Result Ending Halt). Streams (shows_of Listing l) old new RanNone r) (sym c.listed.ensures) (listed_streams l old new c.list_image-written.result c.list_image-written.ensures.writes)
 
 pub returns-clause-sink : goal.returns-clause-sink
 returns-clause-sink g c =

@@ -1,7 +1,5 @@
 use Rattle.std.proofs.Common.{ℕ, List, Result, sym, subst}
-use Rattle.sl_list_instructions.specs.Listing.{image_from}
 use Rattle.sl_outside.specs.Uses.{UsesSink}
-use Rattle.sl_list_pcode.specs.Writing.{Writes}
 use Rattle.sl_section_sizes.specs.Sizings.{lists_of}
 use Rattle.sl_tool.specs.Answers.{shows_of}
 use Rattle.sl_tool.specs.Streams.{RanNone, Streams}
@@ -16,15 +14,12 @@ use Rattle.sl_tool.proofs.show.write_operations.Goals as goal
 pub returns-clause-streams : goal.returns-clause-streams
 returns-clause-streams g c =
     let l = loaded_view c.args.loaded.now in
-    let i = c.args.loaded.now.image in
     let old = g.K.Sink.taken c.args.out.now in
     let new = g.K.Sink.taken c.list_pcode-written.new.out in
     let sizes = lists_of c.args.loaded.now.compiled.specification.bound.sizes.items in
     let is = c.requires.compiled in
-    let wrote = subst (λ (b : List ℕ). Writes l.compiled.tree.items l.compiled.tables sizes (image_from b i.base i.start) old new c.list_pcode-written.result)
-    c.as_slice-bytes.ensures.value c.list_pcode-written.ensures.writes in
     subst (λ (r : Result Ending Halt). Streams (shows_of Operations l) old new RanNone r) (sym c.listed.ensures)
-    (printed_streams l sizes c.args.loaded.now.compiled.short is.binds is.compiles old new c.list_pcode-written.result wrote)
+    (printed_streams l sizes c.args.loaded.now.compiled.short is.binds is.compiles old new c.list_pcode-written.result c.list_pcode-written.ensures.writes)
 
 pub returns-clause-sink : goal.returns-clause-sink
 returns-clause-sink g c =
