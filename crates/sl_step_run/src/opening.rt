@@ -1,6 +1,6 @@
 //! Machines before their first step.
 
-ghost use Rattle.std.specs.Prelude.{◌≡◌, ◌+◌, ◌^◌, ◌<◌, ◌≤◌, ◌↔◌, IfOk, IsTrue, length};
+ghost use Rattle.std.specs.Prelude.{◌≡◌, ◌+◌, ◌^◌, ◌<◌, ◌≤◌, ◌↔◌, IfOk, IsTrue, ℕ, length, slice_index};
 ghost use Rattle.sl_faithful_code.specs.Faithful.{AreBytes};
 ghost use Rattle.sl_decode_meaning.specs.Actions.{address_bytes};
 ghost use Rattle.sl_step_run.specs.Running.{opening};
@@ -31,6 +31,15 @@ fn have_room(sizes: &[AddressSize]) -> bool
     sizes.len() <= MOST_SPACES
 }
 
+/// The bytes of an image.
+fn bytes_of(image: &Image) -> &[u8]
+    ensures same { result.now ≡ image.now.bytes }
+    ensures bytes { (k : ℕ) → slice_index image.now.bytes k < 256 }
+{
+    let bytes = image.bytes.as_slice();
+    bytes
+}
+
 /// The bytes of a machine before its first step: the image in the default space from its base on,
 /// and zeros.
 pub(crate) fn opening(alloc: Global, tables: &Tables, image: &Image) -> Result<State, AllocError>
@@ -45,6 +54,6 @@ pub(crate) fn opening(alloc: Global, tables: &Tables, image: &Image) -> Result<S
     }
     let space = default_space(tables)?;
     let mut state = State::new(alloc, tables.endian, sizes.as_slice())?;
-    state.load_image(space, image.base, image.bytes.as_slice())?;
+    state.load_image(space, image.base, bytes_of(image))?;
     Ok(state)
 }

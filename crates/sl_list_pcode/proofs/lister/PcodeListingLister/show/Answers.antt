@@ -72,8 +72,8 @@ returns-in_ok-push_lines-in-Ok-clause-shown c cs stands =
     c.requires.ready.short c.requires.ready.compiled.binds is.disassembles.chooses c.in-Ok.instruction
     c.in-Ok.is count c.in_ok-count-in-Ok.ensures.same fits
     (c.in_ok-put_line-in-Ok.ensures
-    ∙ ap (λ (n : ℕ). listed_line n address (take count window) c.as_slice-2.result.now) c.address_size-size.ensures
-    ∙ ap (λ (text : List ℕ). listed_line (address_bytes t) address (take count window) text) c.as_slice-2.ensures.value)
+    ∙ ap (λ (n : ℕ). listed_line n address (take count window) c.as_slice-in-Ok.result.now) c.address_size-size.ensures
+    ∙ ap (λ (text : List ℕ). listed_line (address_bytes t) address (take count window) text) c.as_slice-in-Ok.ensures.value)
     c.push_lines.new.out.items
     (λ d decode after nodes values. c.in_ok-push_lines-in-Ok.ensures k d is decode after nodes values)) stands
 
