@@ -192,11 +192,7 @@ fn pattern_words(
 
 /// The table of the constructor whose first token has this index, or no name where neither it nor a
 /// block round it names one.
-pub fn table_of<'a>(
-    alloc: Global,
-    tokens: &[Tok<'a>],
-    index: usize,
-) -> Result<&'a [u8], AllocError>
+pub fn table_of<'a>(alloc: Global, tokens: &[Tok<'a>], index: usize) -> Result<&'a [u8], AllocError>
     ensures { IfOk result (λ table. table.now ≡ table_of (views tokens.now) index) }
 {
     let blocks = blocks_round(alloc, tokens, index)?;
