@@ -1,23 +1,27 @@
 -- meaning: what more is said of a refusal, by the stage that refuses: files and directives, bytes, tokens, items, tables.
 use Rattle.hex.specs.Hex.{encode_lower}
-use Rattle.std.specs.Prelude.{ℕ, ◌-◌, ◌==◌, ◌&&◌, ◌||◌, List, [], ◌∷◌, ◌++◌, codes, drop, length, min, nat_lt, take}
-use Rattle.std.specs.Prelude.{Bool, true, false, not, Option, Some, None, slice_get, slice_index_or, if◌then◌else◌}
+use Rattle.std.specs.Prelude.{ℕ, ◌-◌, ◌==◌, ◌&&◌, List, [], ◌∷◌, ◌++◌, codes, length, min}
+use Rattle.std.specs.Prelude.{Bool, true, false, Option, Some, None, slice_get, slice_index_or, if◌then◌else◌}
 use Rattle.std.specs.Option.{is_some}
 use Rattle.std.specs.Str.{bytes_eq}
 use Rattle.sl_ast.specs.Symbols.{keyword_of}
 use Rattle.sl_bind_compile.specs.Ambiguity.{Ambiguity}
 use Rattle.sl_bind_compile.specs.declared.error.Flaw.{Flaw}
 use Rattle.sl_bind_compile.specs.declared.error.Flaw.TheVariants as flaw
+use Rattle.sl_cube.specs.declared.Point.{Point}
 use Rattle.sl_cube_sets.specs.declared.report.Apart.{Apart}
 use Rattle.sl_cube_sets.specs.declared.report.Apart.TheVariants.{Same, Two}
 use Rattle.sl_explain_heads.specs.Heads.{head_line, pattern_line}
 use Rattle.sl_explain.specs.Sentences.{advice, asked, cause_words, feature_advice, flaw_advice, flaw_asked, rule_line}
 use Rattle.sl_explain_heads.specs.Words.{mode_at, text_before, token_words}
 use Rattle.sl_explain_lines.specs.Excerpts.{shown_up_to}
-use Rattle.sl_explain_lines.specs.FactLines.{fact_line, spot_lines}
+use Rattle.sl_explain_lines.specs.FactLines.{fact_line, line_words, spot_lines}
 use Rattle.sl_explain_names.specs.Culprits.{culprit}
 use Rattle.sl_explain_names.specs.FaultWords.{advice_line, fault_line, sentence_of}
 use Rattle.sl_explain_names.specs.declared.culprits.Culprit.{Culprit}
+use Rattle.sl_explain_points.specs.FieldsAtPoints.{fields_words}
+use Rattle.sl_explain_points.specs.Sites.{sites_of_both}
+use Rattle.sl_explain_points.specs.declared.sites.Site.{Site}
 use Rattle.sl_lex.specs.Faults.{Fault}
 use Rattle.sl_lex.specs.Faults.Fault.{NoLexeme, OpenQuote, TooWide}
 use Rattle.sl_lex.specs.Reading.{Token}
@@ -68,7 +72,7 @@ token_spot t (Some k) = spot_at t k.from (length k.text)
 -- ---- bytes
 
 unfoldable pub bad_byte : ℕ → List ℕ
-bad_byte byte = fault (codes "byte 0x" ++ encode_lower (byte ∷ []))
+bad_byte byte = fault (codes "byte 0x" ++ shown_up_to 2 (encode_lower (byte ∷ [])))
 
 unfoldable pub byte_asked : List ℕ
 byte_asked = asked (codes "bytes outside of comments are those of words, numbers, texts and marks")
@@ -207,24 +211,30 @@ flaw_facts ts flaw index =
 
 -- ---- words of items
 
--- the word that breaks a rule, of the item whose first token has this index, where one can be told
-abbrev pub culprit_of : List Token → Flaw → Option ℕ → Option Culprit
-culprit_of ts (flaw.Rule number) (Some index) = culprit ts index number
-culprit_of ts _ _ = None
+-- where the word is, and in which item
+unfoldable pub word_lines : expanded.Text → List Token → (index : ℕ) → Culprit → List ℕ
+word_lines t ts index c = token_spot t (slice_get ts c.index) ++ head_line ts index
+
+-- the sentence that it breaks, and what to write instead
+unfoldable pub wanted_lines : List Token → (number : ℕ) → Culprit → List ℕ
+wanted_lines ts number c = rule_line number (sentence_of ts number c) ++ advice_line ts number c
 
 -- What is said of a word that breaks the rule of this number, in the item whose first token has this index.
 unfoldable pub culprit_facts : expanded.Text → List Token → (number index : ℕ) → Culprit → List ℕ
-culprit_facts t ts number index c =
-    token_spot t (slice_get ts c.index)
-    ++ (head_line ts index ++ (fault_line ts index c ++ (rule_line number (sentence_of ts number c) ++ advice_line ts number c)))
+culprit_facts t ts number index c = word_lines t ts index c ++ (fault_line ts index c ++ wanted_lines ts number c)
 
-abbrev pub word_facts : expanded.Text → List Token → Flaw → Option ℕ → Option Culprit → List ℕ
-word_facts t ts (flaw.Rule number) (Some index) (Some c) = culprit_facts t ts number index c
-word_facts t ts flaw index _ = flaw_facts ts flaw index
+unfoldable pub word_facts : expanded.Text → List Token → (number index : ℕ) → Option Culprit → List ℕ
+word_facts t ts number index None = flaw_facts ts (flaw.Rule number) (Some index)
+word_facts t ts number index (Some c) = culprit_facts t ts number index c
 
--- A flaw is told with the word that is at fault, where there is one.
+-- A broken rule is told with the word of the item that breaks it, where one can be told.
+unfoldable pub rule_facts : expanded.Text → List Token → (number : ℕ) → Option ℕ → List ℕ
+rule_facts t ts number None = flaw_facts ts (flaw.Rule number) None
+rule_facts t ts number (Some index) = word_facts t ts number index (culprit ts index number)
+
 unfoldable pub item_facts : expanded.Text → List Token → Flaw → Option ℕ → List ℕ
-item_facts t ts flaw index = word_facts t ts flaw index (culprit_of ts flaw index)
+item_facts t ts (flaw.Rule number) index = rule_facts t ts number index
+item_facts t ts flaw index = flaw_facts ts flaw index
 
 -- ---- tables
 
@@ -236,6 +246,11 @@ abbrev pub apart_advice : Apart → List ℕ
 apart_advice Same = advice (codes "a constraint more in one, or one of the two alone")
 apart_advice (Two first second) = advice (codes "a third constructor for what both match, or a constraint more in one")
 
+-- the token of this index, if one is given
+abbrev pub token_of : List Token → Option ℕ → Option Token
+token_of ts None = None
+token_of ts (Some index) = slice_get ts index
+
 -- the two constructors, by their first tokens
 unfoldable pub both_items : List Token → (first second : Option ℕ) → List ℕ
 both_items ts first second = item_lines ts true first ++ item_lines ts true second
@@ -246,6 +261,37 @@ settled_asked = asked (codes "at each point that some constructor matches, one l
 unfoldable pub settling_facts : Apart → List ℕ
 settling_facts apart = apart_fault apart ++ (settled_asked ++ apart_advice apart)
 
--- A table isn't settled, by these two constructors.
-unfoldable pub ambiguity_facts : List Token → Ambiguity → List ℕ
-ambiguity_facts ts a = both_items ts a.first a.second ++ settling_facts a.apart
+-- the file and the line of a token
+abbrev pub line_of_token : expanded.Text → Option Token → List ℕ
+line_of_token t None = []
+line_of_token t (Some k) =
+    let place = place_at t (min k.from (length t.bytes)) in
+    line_words (slice_index_or t.files place.file []) place.line
+
+-- who matches a point, and fields with their values at it, if there are any
+unfoldable pub point_fault : (who fields : List ℕ) → List ℕ
+point_fault who [] = []
+point_fault who (c ∷ cs) = fault (who ++ shown_up_to 80 (c ∷ cs))
+
+-- one of the two matches a point by itself
+abbrev pub alone_words : expanded.Text → List Token → Option ℕ → List ℕ
+alone_words t ts index = line_of_token t (token_of ts index) ++ codes " alone matches"
+
+-- the points that each of the two matches by itself
+unfoldable pub alone_faults : expanded.Text → List Token → Ambiguity → List Site → (first second : Point) → List ℕ
+alone_faults t ts a sites first second =
+    point_fault (alone_words t ts a.first) (fields_words ts first sites)
+    ++ point_fault (alone_words t ts a.second) (fields_words ts second sites)
+
+-- The points of two constructors, in the fields that their patterns constrain.
+abbrev pub point_faults : expanded.Text → List Token → Ambiguity → List Site → Apart → List ℕ
+point_faults t ts a sites Same = []
+point_faults t ts a sites (Two first second) =
+    point_fault (codes "both match") (fields_words ts a.both sites) ++ alone_faults t ts a sites first second
+
+unfoldable pub points_facts : expanded.Text → List Token → Ambiguity → List ℕ
+points_facts t ts a = point_faults t ts a (sites_of_both ts a.first a.second) a.apart
+
+-- A table of a text isn't settled, by these two constructors.
+unfoldable pub ambiguity_facts : expanded.Text → List Token → Ambiguity → List ℕ
+ambiguity_facts t ts a = both_items ts a.first a.second ++ (points_facts t ts a ++ settling_facts a.apart)

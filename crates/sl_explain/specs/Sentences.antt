@@ -96,7 +96,7 @@ abbrev pub lines_of : ℕ → List (ℕ × List ℕ) → List ℕ
 lines_of number [] = []
 lines_of number (row ∷ rows) = (if row.0 == number then asked row.1 else []) ++ lines_of number rows
 
-abbrev pub rule_lines : ℕ → List ℕ
+unfoldable pub rule_lines : ℕ → List ℕ
 rule_lines number = lines_of number rule_rows
 
 -- the line of the row of this number before which so many of the same number stand
@@ -105,7 +105,7 @@ line_of number which [] = []
 line_of number which (row ∷ rows) =
     if row.0 == number then (if which == 0 then asked row.1 else line_of number (which - 1) rows) else line_of number which rows
 
-abbrev pub rule_line : (number which : ℕ) → List ℕ
+unfoldable pub rule_line : (number which : ℕ) → List ℕ
 rule_line number which = line_of number which rule_rows
 
 abbrev pub rule_advice : ℕ → List ℕ

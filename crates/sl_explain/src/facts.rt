@@ -1,12 +1,10 @@
 //! What more is said of files, bytes, items and tables that are refused.
 
 ghost use Rattle.std.specs.Prelude.{[], ◌≡◌, ◌++◌, OnOk, option_map, slice_index_or};
-ghost use Rattle.sl_explain.specs.Facts.{both_items, byte_asked, byte_facts, settled_asked};
-ghost use Rattle.sl_explain.specs.Facts.{settling_facts};
 ghost use Rattle.sl_lex.specs.Faults.Fault.{NoLexeme, OpenQuote, TooWide};
-ghost use Rattle.sl_explain.specs.Facts.{ambiguity_facts, apart_advice, apart_fault, bad_byte};
+ghost use Rattle.sl_explain.specs.Facts.{bad_byte, byte_asked, byte_facts};
 ghost use Rattle.sl_explain.specs.Facts.{cause_facts, end_of, end_spot, fault, flaw_facts};
-ghost use Rattle.sl_explain.specs.Facts.{culprit_facts, culprit_of, item_facts, word_facts};
+ghost use Rattle.sl_explain.specs.Facts.{culprit_facts, item_facts, rule_facts, wanted_lines, word_facts, word_lines};
 ghost use Rattle.sl_explain.specs.Facts.{is_of_pattern, item_lines, spot_at, token_spot};
 ghost use Rattle.sl_explain.specs.Errors.{lex_facts};
 ghost use Rattle.sl_lex.specs.Views.{view, views};
@@ -14,18 +12,18 @@ ghost use Rattle.sl_preproc.specs.Expanded.{seen};
 ghost use Rattle.sl_preproc.specs.Works.{names_of};
 
 use crate::sentences::{
-    push_advice, push_advice_on_flaw, push_asked, push_asked_of_cause, push_asked_of_flaw,
-    push_sentence,
+    push_advice_on_flaw, push_asked, push_asked_of_cause, push_asked_of_flaw, push_sentence,
 };
-use sl_bind_compile::{Ambiguity, Apart, Flaw};
+use crate::syntax::token_at;
+use sl_bind_compile::Flaw;
 use sl_explain_heads::{push_head, push_pattern};
-use sl_explain_lines::{push_fact, push_spot};
+use sl_explain_lines::{push_fact, push_spot, push_up_to};
 use sl_explain_names::{
     Culprit, find_culprit, push_advice as push_culprit_advice, push_fault as push_culprit_fault,
     sentence_of,
 };
 use sl_lex::{LexError, Tok};
-use sl_preproc::{Expanded, Place};
+use sl_preproc::Expanded;
 use sl_preproc_directives::fault::Cause;
 use std::alloc::{AllocError, Global};
 
@@ -47,7 +45,7 @@ pub fn push_cause_facts(out: &mut Vec<u8>, cause: Cause) -> Result<(), AllocErro
 // ---- places
 
 /// The name of the file with this number, or an empty one where there is none.
-fn name_of(files: &[String], file: u32) -> &[u8]
+pub fn name_of(files: &[String], file: u32) -> &[u8]
     ensures { result.now ≡ slice_index_or (names_of files.now) file [] }
 {
     match files.get(file as usize) {
@@ -131,7 +129,7 @@ fn push_bad_byte(out: &mut Vec<u8>, byte: u8) -> Result<(), AllocError>
     let mut digits = [0; 2];
     hex::encode_to_slice(&[byte], &mut digits).unwrap();
     out.extend_from_slice(b"  fault byte 0x")?;
-    out.extend_from_slice(&digits)?;
+    push_up_to(out, 2, &digits)?;
     out.extend_from_slice(b"\n")
 }
 
@@ -210,7 +208,7 @@ fn is_of_pattern(flaw: Flaw) -> bool
 /// Appends the item whose first token has this index, if one is given: its head, and its pattern
 /// where that is wanted.
 #[tactic(auto, unfolding(crate::specs::Facts::item_lines))]
-fn push_item(
+pub fn push_item(
     alloc: Global,
     out: &mut Vec<u8>,
     tokens: &[Tok<'_>],
@@ -251,19 +249,37 @@ pub fn push_flaw_facts(
 
 // ---- words of items
 
-/// The word that breaks a rule, of the item whose first token has this index, where one can be told.
-fn culprit_of(
+/// Appends where a word is, and in which item: the one whose first token has this index.
+#[tactic(auto, unfolding(crate::specs::Facts::word_lines))]
+fn push_word_lines(
     alloc: Global,
+    out: &mut Vec<u8>,
+    text: &Expanded,
     tokens: &[Tok<'_>],
-    flaw: Flaw,
-    index: Option<usize>,
-) -> Result<Option<Culprit>, AllocError>
-    ensures { IfOk result (λ found. found ≡ culprit_of (views tokens.now) flaw index) }
+    index: usize,
+    culprit: Culprit,
+) -> Result<(), AllocError>
+    ensures { OnOk result (out.new.items ≡ out.old.items
+        ++ word_lines (seen text.now) (views tokens.now) index culprit) }
 {
-    match (flaw, index) {
-        (Flaw::Rule(number), Some(index)) => find_culprit(alloc, tokens, index, number),
-        _ => Ok(None),
-    }
+    push_token_spot(out, text, token_at(tokens, culprit.index))?;
+    push_head(alloc, out, tokens, index)
+}
+
+/// Appends the sentence that a word breaks, and what to write instead.
+#[tactic(auto, unfolding(crate::specs::Facts::wanted_lines))]
+fn push_wanted_lines(
+    alloc: Global,
+    out: &mut Vec<u8>,
+    tokens: &[Tok<'_>],
+    number: u8,
+    culprit: Culprit,
+) -> Result<(), AllocError>
+    ensures { OnOk result (out.new.items ≡ out.old.items
+        ++ wanted_lines (views tokens.now) number culprit) }
+{
+    push_sentence(out, number, sentence_of(tokens, number, culprit))?;
+    push_culprit_advice(alloc, out, tokens, number, culprit)
 }
 
 /// Appends what is said of a word that breaks the rule of this number, in the item whose first token
@@ -281,36 +297,56 @@ fn push_culprit_facts(
     ensures { OnOk result (out.new.items ≡ out.old.items
         ++ culprit_facts (seen text.now) (views tokens.now) number index culprit) }
 {
-    push_token_spot(out, text, tokens.get(culprit.index))?;
-    push_head(alloc, out, tokens, index)?;
+    push_word_lines(alloc, out, text, tokens, index, culprit)?;
     push_culprit_fault(alloc, out, tokens, index, culprit)?;
-    push_sentence(out, number, sentence_of(tokens, number, culprit))?;
-    push_culprit_advice(alloc, out, tokens, number, culprit)
+    push_wanted_lines(alloc, out, tokens, number, culprit)
 }
 
-/// Appends what is said of a flaw with this culprit.
+/// Appends what is said of a rule that the item with this first token breaks, with the word that
+/// breaks it, where there is one.
+#[tactic(auto, unfolding(crate::specs::Facts::word_facts))]
 fn push_word_facts(
     alloc: Global,
     out: &mut Vec<u8>,
     text: &Expanded,
     tokens: &[Tok<'_>],
-    flaw: Flaw,
-    index: Option<usize>,
+    number: u8,
+    index: usize,
     culprit: Option<Culprit>,
 ) -> Result<(), AllocError>
     ensures { OnOk result (out.new.items ≡ out.old.items
-        ++ word_facts (seen text.now) (views tokens.now) flaw index culprit) }
+        ++ word_facts (seen text.now) (views tokens.now) number index culprit) }
 {
-    match (flaw, index, culprit) {
-        (Flaw::Rule(number), Some(index), Some(culprit)) => {
-            push_culprit_facts(alloc, out, text, tokens, number, index, culprit)
+    match culprit {
+        Some(culprit) => push_culprit_facts(alloc, out, text, tokens, number, index, culprit),
+        None => push_flaw_facts(alloc, out, tokens, Flaw::Rule(number), Some(index)),
+    }
+}
+
+/// Appends what is said of a rule that the item with this first token breaks, or the whole text.
+#[tactic(auto, unfolding(crate::specs::Facts::rule_facts))]
+fn push_rule_facts(
+    alloc: Global,
+    out: &mut Vec<u8>,
+    text: &Expanded,
+    tokens: &[Tok<'_>],
+    number: u8,
+    index: Option<usize>,
+) -> Result<(), AllocError>
+    ensures { OnOk result (out.new.items ≡ out.old.items
+        ++ rule_facts (seen text.now) (views tokens.now) number index) }
+{
+    match index {
+        Some(index) => {
+            let culprit = find_culprit(alloc, tokens, index, number)?;
+            push_word_facts(alloc, out, text, tokens, number, index, culprit)
         }
-        _ => push_flaw_facts(alloc, out, tokens, flaw, index),
+        None => push_flaw_facts(alloc, out, tokens, Flaw::Rule(number), None),
     }
 }
 
 /// Appends what more is said of a text that has a flaw, in the item whose first token has this
-/// index, or in none; with the word that is at fault, where there is one.
+/// index, or in none.
 #[tactic(auto, unfolding(crate::specs::Facts::item_facts))]
 pub fn push_item_facts(
     alloc: Global,
@@ -323,84 +359,8 @@ pub fn push_item_facts(
     ensures { OnOk result (out.new.items ≡ out.old.items
         ++ item_facts (seen text.now) (views tokens.now) flaw index) }
 {
-    let culprit = culprit_of(alloc, tokens, flaw, index)?;
-    push_word_facts(alloc, out, text, tokens, flaw, index, culprit)
-}
-
-// ---- tables
-
-/// Appends how two constructors match the same, if they do.
-fn push_apart(out: &mut Vec<u8>, apart: &Apart) -> Result<(), AllocError>
-    ensures { OnOk result (out.new.items ≡ out.old.items ++ apart_fault apart.now) }
-{
-    match apart {
-        Apart::Same => push_fault(out, b"both match the same"),
-        Apart::Two { .. } => Ok(()),
+    match flaw {
+        Flaw::Rule(number) => push_rule_facts(alloc, out, text, tokens, number, index),
+        _ => push_flaw_facts(alloc, out, tokens, flaw, index),
     }
-}
-
-/// Appends what would settle two constructors.
-fn push_apart_advice(out: &mut Vec<u8>, apart: &Apart) -> Result<(), AllocError>
-    ensures { OnOk result (out.new.items ≡ out.old.items ++ apart_advice apart.now) }
-{
-    match apart {
-        Apart::Same => push_advice(out, b"a constraint more in one, or one of the two alone"),
-        Apart::Two { .. } => push_advice(
-            out,
-            b"a third constructor for what both match, or a constraint more in one",
-        ),
-    }
-}
-
-/// Appends two constructors, each by the index of its first token.
-#[tactic(auto, unfolding(crate::specs::Facts::both_items))]
-fn push_both(
-    alloc: Global,
-    out: &mut Vec<u8>,
-    tokens: &[Tok<'_>],
-    first: Option<usize>,
-    second: Option<usize>,
-) -> Result<(), AllocError>
-    ensures { OnOk result (out.new.items
-        ≡ out.old.items ++ both_items (views tokens.now) first second) }
-{
-    push_item(alloc, out, tokens, true, first)?;
-    push_item(alloc, out, tokens, true, second)
-}
-
-/// Appends what is asked of tables.
-#[tactic(auto, unfolding(crate::specs::Facts::settled_asked))]
-fn push_asked_of_tables(out: &mut Vec<u8>) -> Result<(), AllocError>
-    ensures { OnOk result (out.new.items ≡ out.old.items ++ settled_asked) }
-{
-    push_asked(
-        out,
-        b"at each point that some constructor matches, one lies properly within every other that \
-            matches",
-    )
-}
-
-/// Appends what is asked of two constructors, and what would settle them.
-#[tactic(auto, unfolding(crate::specs::Facts::settling_facts))]
-fn push_settling(out: &mut Vec<u8>, apart: &Apart) -> Result<(), AllocError>
-    ensures { OnOk result (out.new.items ≡ out.old.items ++ settling_facts apart.now) }
-{
-    push_apart(out, apart)?;
-    push_asked_of_tables(out)?;
-    push_apart_advice(out, apart)
-}
-
-/// Appends what more is said of a table that isn't settled.
-#[tactic(auto, unfolding(crate::specs::Facts::ambiguity_facts))]
-pub fn push_ambiguity_facts(
-    alloc: Global,
-    out: &mut Vec<u8>,
-    tokens: &[Tok<'_>],
-    told: &Ambiguity<'_>,
-) -> Result<(), AllocError>
-    ensures { OnOk result (out.new.items
-        ≡ out.old.items ++ ambiguity_facts (views tokens.now) told.now) }
-{
-    push_both(alloc, out, tokens, told.first, told.second)?;
-    push_settling(out, &told.apart)
 }

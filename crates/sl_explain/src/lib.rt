@@ -4,10 +4,12 @@
 #![tactic(auto)]
 
 mod facts;
+mod laws;
 mod sentences;
 mod syntax;
+mod tables;
 
-pub use facts::{
-    push_ambiguity_facts, push_cause_facts, push_flaw_facts, push_item_facts, push_lex_facts,
-};
+pub use facts::{push_cause_facts, push_flaw_facts, push_item_facts, push_lex_facts};
+pub use laws::facts_are_lines;
 pub use syntax::push_parse_facts;
+pub use tables::{push_ambiguity_facts, push_settling_facts};

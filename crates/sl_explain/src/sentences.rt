@@ -254,6 +254,7 @@ fn push_rows(out: &mut Vec<u8>, number: u8, rows: &[(u8, &[u8])]) -> Result<(), 
 }
 
 /// Appends the sentences of the rule with this number.
+#[tactic(auto, unfolding(crate::specs::Sentences::rule_lines))]
 fn push_rule(out: &mut Vec<u8>, number: u8) -> Result<(), AllocError>
     ensures { OnOk result (out.new.items ≡ out.old.items ++ rule_lines number) }
 {
@@ -284,6 +285,7 @@ fn push_row(
 }
 
 /// Appends one of the sentences of the rule with this number.
+#[tactic(auto, unfolding(crate::specs::Sentences::rule_line))]
 pub fn push_sentence(out: &mut Vec<u8>, number: u8, which: usize) -> Result<(), AllocError>
     ensures { OnOk result (out.new.items ≡ out.old.items ++ rule_line number which) }
 {

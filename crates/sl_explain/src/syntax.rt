@@ -243,7 +243,7 @@ fn push_form_fault(out: &mut Vec<u8>, token: Option<&Tok<'_>>) -> Result<(), All
 }
 
 /// The token of this index, if there is one.
-fn token_at<'a, 'b>(tokens: &'b [Tok<'a>], at: usize) -> Option<&'b Tok<'a>>
+pub fn token_at<'a, 'b>(tokens: &'b [Tok<'a>], at: usize) -> Option<&'b Tok<'a>>
     ensures { option_map (λ t. view t.now) result ≡ slice_get (views tokens.now) at }
 {
     match tokens.get(at) {

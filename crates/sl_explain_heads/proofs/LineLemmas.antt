@@ -1,6 +1,6 @@
 -- The lines that tell an item.
-use Rattle.std.proofs.Common.{ℕ, Bool, true, false, List, [], ◌++◌, drop, refl}
-use Rattle.std.specs.Prelude.{◌||◌, codes, if◌then◌else◌}
+use Rattle.std.proofs.Common.{ℕ, List, [], ◌++◌, drop, refl}
+use Rattle.std.specs.Prelude.{◌||◌, codes}
 use Rattle.std.specs.Str.{bytes_eq}
 use Rattle.sl_explain_heads.specs.Heads.{Kind, constructor_words, display_at, head_by, head_line, kind_of, macro_words, pattern_by, pattern_line, pattern_words, table_of, table_words}
 use Rattle.sl_explain_heads.specs.Heads.Kind.{constructor, macro, other}
@@ -9,18 +9,15 @@ use Rattle.sl_explain_heads.specs.Words.{blocks_round, joined, text_at}
 use Rattle.sl_explain_lines.specs.Excerpts.{shown_up_to}
 use Rattle.sl_explain_lines.specs.Laws.{AreLines}
 use Rattle.sl_explain_lines.specs.Laws.AreLines.{no_line}
-use Rattle.sl_explain_lines.proofs.ShownLemmas.{AllShown, all_both, last_fact, words_shown}
+use Rattle.sl_explain_lines.proofs.ShownLemmas.{AllShown, all_both, all_either, last_fact, words_shown}
 use Rattle.sl_lex.specs.Reading.{Token}
 
-table_by : (table : List ℕ) (plain : Bool)
-    → AllShown (let words : List ℕ = if plain then codes ":" else shown_up_to 40 table ++ codes ": " in words)
-table_by table true = refl
-table_by table false = all_both (shown_up_to 40 table) (codes ": ") (words_shown 40 table) refl
-
 table_shown : (table : List ℕ) → AllShown (table_words table)
-table_shown table = table_by table (bytes_eq table [] || bytes_eq table (codes "instruction"))
+table_shown table =
+    all_either (bytes_eq table [] || bytes_eq table (codes "instruction")) (codes ":") (shown_up_to 40 table ++ codes ": ") refl
+    (all_both (shown_up_to 40 table) (codes ": ") (words_shown 40 table) refl)
 
-constructor_shown : (ts : List Token) (index : ℕ) → AllShown (constructor_words ts index)
+pub constructor_shown : (ts : List Token) (index : ℕ) → AllShown (constructor_words ts index)
 constructor_shown ts index =
     all_both (table_words (table_of ts index)) (shown_up_to 80 (joined (display_at (drop index ts)))) (table_shown (table_of ts index))
     (words_shown 80 (joined (display_at (drop index ts))))

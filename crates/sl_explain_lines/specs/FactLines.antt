@@ -11,9 +11,13 @@ fact_line label words = label ++ (words ++ codes "\n")
 abbrev pub shown_in_name : ℕ → ℕ
 shown_in_name b = if nat_lt b 32 || (b == 127) then 63 else b
 
--- a column of a line of a file, all counted from 1
+-- a line of a file, counted from 1
+abbrev pub line_words : (file : List ℕ) → (line : ℕ) → List ℕ
+line_words file line = map shown_in_name file ++ (codes ":" ++ decimal line)
+
+-- a column of it, counted from 1
 abbrev pub column_words : (file : List ℕ) → (line column : ℕ) → List ℕ
-column_words file line column = map shown_in_name file ++ (codes ":" ++ (decimal line ++ (codes ":" ++ decimal column)))
+column_words file line column = line_words file line ++ (codes ":" ++ decimal column)
 
 -- Of a token of so many bytes in a line: its place, the line, and carets under the token as far as the line goes. So many bytes
 -- of the line stand before the token, and so many from its first byte on.

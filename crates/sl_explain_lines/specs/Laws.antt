@@ -1,5 +1,5 @@
 -- law: whatever bytes a text has, what is said of a place in it is whole lines that a terminal shows as they are.
-use Rattle.std.specs.Prelude.{◌≡◌, ℕ, ◌==◌, ◌||◌, ◌<◌, ◌^◌, Bool, true, List, [], ◌∷◌, ◌++◌, length, nat_lt, not}
+use Rattle.std.specs.Prelude.{◌≡◌, ℕ, ◌==◌, ◌||◌, Bool, true, List, [], ◌∷◌, ◌++◌, nat_lt, not}
 use Rattle.std.specs.List.{list_all}
 use Rattle.sl_explain_lines.specs.Excerpts.{shown_up_to}
 use Rattle.sl_explain_lines.specs.FactLines.{fact_line, spot_lines}
@@ -19,5 +19,4 @@ WordsAreShown = (most : ℕ) (bytes : List ℕ) → list_all is_shown (shown_up_
 
 -- The lines of any place in any text are lines.
 abbrev pub SpotsAreLines : Type 0
-SpotsAreLines = (file : List ℕ) (number : ℕ) (text : List ℕ) (byte width : ℕ) → number < 2 ^ 64 → length text < 2 ^ 63
-    → AreLines (spot_lines file number text byte width)
+SpotsAreLines = (file : List ℕ) (number : ℕ) (text : List ℕ) (byte width : ℕ) → AreLines (spot_lines file number text byte width)

@@ -2,7 +2,7 @@
 
 ghost use Rattle.std.specs.Prelude.{◌≡◌, ◌+◌, ◌++◌, ◌<◌, ◌≤◌, ◌^◌, OnOk, codes, length, map};
 ghost use Rattle.sl_explain_lines.specs.Excerpts.{carets, excerpt};
-ghost use Rattle.sl_explain_lines.specs.FactLines.{column_words, fact_line, shown_in_name};
+ghost use Rattle.sl_explain_lines.specs.FactLines.{column_words, fact_line, line_words, shown_in_name};
 ghost use Rattle.sl_explain_lines.specs.FactLines.{spot_in, spot_lines};
 
 use crate::excerpt::{push_carets, push_excerpt};
@@ -40,14 +40,22 @@ fn push_name(out: &mut Vec<u8>, name: &[u8]) -> Result<(), AllocError>
     Ok(())
 }
 
+/// Appends a line of a file.
+pub fn push_line(out: &mut Vec<u8>, file: &[u8], line: u64) -> Result<(), AllocError>
+    ensures { OnOk result (out.new.items ≡ out.old.items ++ line_words file.now line) }
+{
+    let mut buffer = Buffer::new();
+    push_name(out, file)?;
+    out.extend_from_slice(b":")?;
+    out.extend_from_slice(buffer.format(line).as_bytes())
+}
+
 /// Appends a column of a line of a file.
 fn push_column(out: &mut Vec<u8>, file: &[u8], line: u64, column: u64) -> Result<(), AllocError>
     ensures { OnOk result (out.new.items ≡ out.old.items ++ column_words file.now line column) }
 {
     let mut buffer = Buffer::new();
-    push_name(out, file)?;
-    out.extend_from_slice(b":")?;
-    out.extend_from_slice(buffer.format(line).as_bytes())?;
+    push_line(out, file, line)?;
     out.extend_from_slice(b":")?;
     out.extend_from_slice(buffer.format(column).as_bytes())
 }

@@ -9,4 +9,4 @@ pub mod laws;
 mod line;
 
 pub use excerpt::push_up_to;
-pub use facts::{push_fact, push_spot};
+pub use facts::{push_fact, push_line, push_spot};

@@ -148,7 +148,7 @@ fault_words ts start index (finding.ManyMembers members values) =
     members_words members ++ values_words ts index values
 fault_words ts start index f = words_at ts index ++ said f
 
-abbrev pub fault_line : List Token → (start : ℕ) → Culprit → List ℕ
+unfoldable pub fault_line : List Token → (start : ℕ) → Culprit → List ℕ
 fault_line ts start c = fact_line (codes "  fault ") (fault_words ts start c.index c.finding)
 
 -- ---- what to write instead
@@ -210,7 +210,7 @@ abbrev pub advice_by : (words : List ℕ) → List ℕ
 advice_by [] = []
 advice_by (c ∷ cs) = fact_line (codes "  write ") (c ∷ cs)
 
-abbrev pub advice_line : List Token → (rule : ℕ) → Culprit → List ℕ
+unfoldable pub advice_line : List Token → (rule : ℕ) → Culprit → List ℕ
 advice_line ts rule c = advice_by (advice_words ts rule c.index c.finding)
 
 -- ---- which sentence
@@ -239,7 +239,7 @@ call_sentence ts index finding.InMacro = 2
 call_sentence ts index _ = place_sentence ts index
 
 -- the sentence of a rule that asks for what a culprit lacks, by its number among those of the rule
-abbrev pub sentence_of : List Token → (rule : ℕ) → Culprit → ℕ
+unfoldable pub sentence_of : List Token → (rule : ℕ) → Culprit → ℕ
 sentence_of ts rule c =
     if rule == 26 then name_sentence c.finding
     else if rule == 30 then export_sentence c.finding

@@ -8,3 +8,4 @@ pub mod Sections
 pub mod Definitions
 pub mod Culprits
 pub mod FaultWords
+pub mod Laws

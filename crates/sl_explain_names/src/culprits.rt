@@ -202,7 +202,7 @@ fn form_of(table: &[u8]) -> Form
 
 /// The item whose first token has this index.
 #[tactic(auto, unfolding(crate::specs::Culprits::item_at))]
-fn item_at<'t, 's>(
+pub fn item_at<'t, 's>(
     alloc: Global,
     tokens: &'t [Tok<'s>],
     start: usize,

@@ -365,7 +365,7 @@ fn is_attribute(text: &[u8]) -> bool
 }
 
 /// How often an attribute is among those with which the tokens begin.
-fn times_in(attribute: &[u8], tokens: &[Tok<'_>]) -> usize
+pub fn times_in(attribute: &[u8], tokens: &[Tok<'_>]) -> usize
     ensures is { result ≡ spec.times_in attribute.now (views tokens.now) }
     ensures most { result ≤ length tokens.now }
 {

@@ -398,6 +398,7 @@ fn push_words(
 
 /// Appends the line that says what is wrong with a word of the item whose first token has this
 /// index.
+#[tactic(auto, unfolding(crate::specs::FaultWords::fault_line))]
 pub fn push_fault(
     alloc: Global,
     out: &mut Vec<u8>,
@@ -597,6 +598,7 @@ fn push_advice_by(out: &mut Vec<u8>, words: &[u8]) -> Result<(), AllocError>
 }
 
 /// Appends the line that says what to write in the place of a culprit, where that is known.
+#[tactic(auto, unfolding(crate::specs::FaultWords::advice_line))]
 pub fn push_advice(
     alloc: Global,
     out: &mut Vec<u8>,
@@ -660,6 +662,7 @@ fn call_sentence(tokens: &[Tok<'_>], index: usize, finding: Finding) -> usize
 }
 
 /// The sentence of a rule that asks for what a culprit lacks, by its number among those of the rule.
+#[tactic(auto, unfolding(crate::specs::FaultWords::sentence_of))]
 pub fn sentence_of(tokens: &[Tok<'_>], rule: u8, culprit: Culprit) -> usize
     ensures { result ≡ spec.sentence_of (views tokens.now) rule culprit }
 {

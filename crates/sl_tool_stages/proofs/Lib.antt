@@ -14,3 +14,4 @@ pub mod AssemblingLemmas
 pub mod HaltLemmas
 pub mod ReadLemmas
 pub mod PackingLemmas
+pub mod ExplainedLemmas

@@ -15,3 +15,4 @@ pub mod Packing
 pub mod Packable
 pub mod Halts
 pub mod Loaded
+pub mod Laws

@@ -11,13 +11,13 @@ use Rattle.sl_bind_compile.specs.declared.error.Flaw.TheVariants as flaw
 use Rattle.sl_tool_contexts.specs.Words.{Bad, starting_context}
 use Rattle.sl_tool_contexts.specs.declared.words.Cause as context
 use Rattle.sl_tool_contexts.specs.declared.words.Cause.TheVariants as word
-use Rattle.sl_explain.specs.Facts.{ambiguity_facts, byte_facts, flaw_facts, item_facts, token_facts}
+use Rattle.sl_explain.specs.Facts.{ambiguity_facts, byte_facts, flaw_facts, item_facts, settling_facts, token_facts}
 use Rattle.sl_decode_meaning.specs.Actions.{address_bytes}
 use Rattle.sl_preproc_directives.specs.declared.fault.Cause.{Cause}
 use Rattle.sl_preproc_directives.specs.declared.fault.Cause.TheVariants as cause
 use Rattle.sl_lex.specs.Faults.{Fault}
 use Rattle.sl_lex.specs.Faults.Fault.{NoLexeme, OpenQuote, TooWide}
-use Rattle.sl_lex.specs.Reading.{HasBadPlace, ReadsAs, Token}
+use Rattle.sl_lex.specs.Reading.{HasBadPlace, ReadsAs}
 use Rattle.sl_list_instructions.specs.Listing.{Image, image_from}
 use Rattle.sl_outside.specs.Folder.{Folder, FolderHas, Lacks, HoldsTooLong, size_limit}
 use Rattle.sl_parse_faults.specs.Causes.{IsFault, Reason, no_spelling, too_deep, left_out}
@@ -143,21 +143,21 @@ problem_of_flaw (flaw.WindowTooLong count) = WindowTooLong count
 abbrev pub conflict_of : Origin → Ambiguity → Conflict
 conflict_of o a = record { table = a.table; other = place_in o a.second; both = a.both; apart = a.apart }
 
--- the tokens of a text; stored places come without
-abbrev pub tokens_in : Origin → List Token
-tokens_in (InText k) = k.tokens
-tokens_in (Stored files places) = []
-
 -- what more is said of a flaw: in a text with the word that is at fault, where there is one
 abbrev pub flaw_lines : Origin → Flaw → Option ℕ → List ℕ
 flaw_lines (InText k) flaw index = item_facts k.source.text k.tokens flaw index
 flaw_lines (Stored files places) flaw index = flaw_facts [] flaw index
 
+-- the same of a table that isn't settled
+abbrev pub ambiguity_lines : Origin → Ambiguity → List ℕ
+ambiguity_lines (InText k) a = ambiguity_facts k.source.text k.tokens a
+ambiguity_lines (Stored files places) a = settling_facts a.apart
+
 -- why a specification is refused, at the place of an item that is told by its index, or at the text's end where there is none
 abbrev pub refusal_told : Origin → outcome.Refusal → Refusal
 refusal_told o (flawed flaw index) =
     refusal_with (place_in o index) (problem_of_flaw flaw) (flaw_lines o flaw index)
-refusal_told o (ambiguous a) = refusal_with (place_in o a.first) (Ambiguous (conflict_of o a)) (ambiguity_facts (tokens_in o) a)
+refusal_told o (ambiguous a) = refusal_with (place_in o a.first) (Ambiguous (conflict_of o a)) (ambiguity_lines o a)
 
 -- The specification that the tree is keeps all rules and its tables are sound, or this is why it is refused.
 abbrev pub Compiles : Stage Refusal Tree Compiled

@@ -8,7 +8,7 @@ ghost use Rattle.sl_faithful_accepted.specs.Laws.{IsShort};
 ghost use Rattle.sl_tool_stages.specs.Halts.{TellsRefusal};
 ghost use Rattle.sl_tool_stages.specs.OriginView.{origin_view};
 ghost use Rattle.sl_tool_stages.specs.Places.{indexes_in};
-ghost use Rattle.sl_tool_stages.specs.Stages.{conflict_of, flaw_lines, problem_of_flaw};
+ghost use Rattle.sl_tool_stages.specs.Stages.{ambiguity_lines, conflict_of, flaw_lines, problem_of_flaw};
 ghost use Rattle.sl_tool_stages.specs.Stages.{refusal_told};
 
 use crate::facts::Facts;
@@ -19,7 +19,7 @@ use crate::problem::{Conflict, Problem};
 use crate::refusal::{Refusal, Subject};
 use crate::tree::Tree;
 use sl_bind_compile::{Ambiguity, CompileError, Compiled as Specification, Flaw, compile};
-use sl_explain::{push_ambiguity_facts, push_flaw_facts, push_item_facts};
+use sl_explain::{push_ambiguity_facts, push_flaw_facts, push_item_facts, push_settling_facts};
 use sl_store_text::pack_text;
 use sl_store_write::pack_parts;
 use std::alloc::{AllocError, Global};
@@ -70,6 +70,25 @@ fn push_flaw(
             push_item_facts(alloc, out, text, of.tokens.as_slice(), flaw, index)
         }
         Origin::Stored(_) => push_flaw_facts(alloc, out, &[], flaw, index),
+    }
+}
+
+/// Appends what more is said of a table that isn't settled.
+fn push_ambiguity(
+    alloc: Global,
+    out: &mut Vec<u8>,
+    origin: &Origin<'_, '_>,
+    told: &Ambiguity<'_>,
+) -> Result<(), AllocError>
+    ensures { OnOk result (out.new.items
+        ≡ out.old.items ++ ambiguity_lines (origin_view origin.now) told.now) }
+{
+    match origin {
+        Origin::InText(of) => {
+            let text = &of.source.expanded;
+            push_ambiguity_facts(alloc, out, text, of.tokens.as_slice(), told)
+        }
+        Origin::Stored(_) => push_settling_facts(out, &told.apart),
     }
 }
 
@@ -125,7 +144,7 @@ fn ambiguous(
     let place = origin.place_of(alloc, told.first)?;
     let conflict = conflict(alloc, origin, told)?;
     let mut lines = Vec::new(alloc);
-    push_ambiguity_facts(alloc, &mut lines, origin.tokens(), told)?;
+    push_ambiguity(alloc, &mut lines, origin, told)?;
     let subject = Subject::Line(place);
     let problem = Problem::Ambiguous(conflict);
     let facts = Facts::of(lines);

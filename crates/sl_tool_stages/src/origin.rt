@@ -8,7 +8,6 @@ ghost use Rattle.sl_tool_stages.specs.Places.{named, stored_place};
 use crate::place::{Name, Place};
 use crate::tokens::Tokens;
 use sl_ast::items::Spec;
-use sl_lex::Tok;
 use sl_preproc::Place as Line;
 use sl_store_text::item_places;
 use std::alloc::{AllocError, Global};
@@ -78,19 +77,7 @@ impl<'s, 'r> Origin<'s, 'r> {
     ghost use Rattle.sl_ast.specs.Views.{indexes_of, items_of};
     ghost use Rattle.sl_tool_stages.specs.ItemLines.{files_in, lines_in, place_of_line};
     ghost use Rattle.sl_tool_stages.specs.OriginView.{origin_view};
-    ghost use Rattle.sl_lex.specs.Views.{views};
     ghost use Rattle.sl_tool_stages.specs.Places.{indexes_in, place_in};
-    ghost use Rattle.sl_tool_stages.specs.Stages.{tokens_in};
-
-    /// The tokens of a text; stored places come without.
-    pub fn tokens(&self) -> &[Tok<'s>]
-        ensures { views result.now ≡ tokens_in (origin_view self.now) }
-    {
-        match self {
-            Origin::InText(tokens) => tokens.tokens.as_slice(),
-            Origin::Stored(_) => &[],
-        }
-    }
 
     /// The place of the item with this index, as the tree has it: that of its first token, or its
     /// number. Where none is given, it is the place of the text's end.

@@ -1,0 +1,4 @@
+pub mod Readings
+pub mod Sites
+pub mod FieldsAtPoints
+pub mod Laws
