@@ -33,6 +33,7 @@ facts_in (Ok s) = []
 facts_in (Err x) = x.facts
 
 expansion_lines : (x : Refusal) (name : List ℕ) (r : Result Text preproc.Refusal) → Err x ≡ source_of name r → HasLines x
+unfolding facts_in
 expansion_lines x name (Ok t) e = subst AreLines (sym (ap facts_in e)) no_line
 expansion_lines x name (Err r) e = subst AreLines (sym (ap facts_in e)) no_line
 
