@@ -17,8 +17,8 @@ use Rattle.sl_asm_narrow.proofs.ReadingLemmas.{opened}
 use Rattle.sl_asm_narrow.specs.Candidates.{Candidate, Says, input_of, text_of}
 use Rattle.sl_cube_sets.specs.Unions.{has_set}
 use Rattle.sl_cube_sets.specs.declared.CubeSet.{CubeSet}
-use Rattle.sl_asm_narrow.specs.Nodes.{ActsOn, BoundsConstructor, BoundsPlanned, BoundsTable, BoundsTexts, HasPlace, IsNode, IsPlanned, spot_in}
-use Rattle.sl_asm_narrow.specs.Readers.{IsReader, tables_of, written_of}
+use Rattle.sl_asm_narrow.specs.Nodes.{ActsOn, BoundsConstructor, BoundsPlanned, BoundsTable, HasPlace, IsNode, IsPlanned, spot_in}
+use Rattle.sl_asm_narrow.specs.Readers.{IsReader, parts_at, tables_of, written_of}
 use Rattle.sl_asm_narrow.specs.declared.reader.Goal.{Goal}
 use Rattle.sl_asm_narrow.specs.declared.reader.Reader.{Reader}
 use Rattle.sl_asm_narrow.specs.declared.reader.Setting.{Setting}
@@ -36,7 +36,7 @@ use Rattle.sl_decode_meaning.specs.Meanings.{Meaning, says}
 use Rattle.sl_decode_meaning.specs.declared.notes.Noted.{Noted}
 use Rattle.sl_decode_plan.specs.Plans.{done}
 use Rattle.sl_decode_plan.specs.declared.plans.Plan.{Plan}
-use Rattle.sl_show.specs.Templates.{part_text, parts_of, parts_text}
+use Rattle.sl_show.specs.Templates.{part_text, parts_text}
 use Rattle.sl_show.specs.Texts.{Spot, node_text}
 use Rattle.sl_show.specs.declared.templates.Part.{Part}
 
@@ -116,9 +116,6 @@ module _ (r : Reader) (ready : IsReader r) (table : ℕ) (kept : TableSets) (kep
         f at_place.place (omega (arith, within, whole)) c inside found.ctor before long text after at_place.ctor_is at_place.has_place known shown found.is_node
 
 -- ---- plans and parts
-
-abbrev pub parts_at : Reader → ℕ → List Part
-parts_at r number = parts_of (slice_get r.disassembly.now.templates.items number)
 
 module _ (r : Reader) (ready : IsReader r) {s : Setting} (c : Candidate r s) where
   -- a plan does what the node's constructor says
@@ -237,9 +234,15 @@ pub no_texts : (shows : Part → List ℕ) (parts : List Part) → AreTexts show
 no_texts shows parts = λ k part text part_is text_is. absurd cc
 
 module _ (r : Reader) (s : Setting) (region : List Cell) (plan : Plan) (parts : List Part) (goal : Goal) where
-  -- the bounds hold for nodes whose parts have the texts of one of the first ways
+  -- the bounds hold for nodes whose parts have these texts
+  abbrev pub BoundsTexts : List (Bor (List ℕ)) → Option Bounds → Type 0
+  BoundsTexts texts found = (c : Candidate r s) → IsOf region c.bytes → (context long : ℕ) (text : List ℕ) (after : ℕ)
+      → Fits goal.context context → (n : IsPlanned c plan parts goal.at context long text after)
+      → AreTexts (part_text (tables_of r) (spot_in c n)) parts texts → Holds found c.bytes long after
+
+  -- so they do for those that have the texts of one of the first ways
   abbrev pub FirstWays : List (Vec (Bor (List ℕ)) Global) → ℕ → Option Bounds → Type 0
-  FirstWays ways n all = (k : ℕ) (way : Vec (Bor (List ℕ)) Global) → k < n → slice_get ways k ≡ Some way → BoundsTexts r s region plan parts way.items goal all
+  FirstWays ways n all = (k : ℕ) (way : Vec (Bor (List ℕ)) Global) → k < n → slice_get ways k ≡ Some way → BoundsTexts way.items all
 
   pub no_ways : (ways : List (Vec (Bor (List ℕ)) Global)) (all : Option Bounds) → FirstWays ways 0 all
   no_ways ways all = λ k way below. absurd (omega (arith, below))
@@ -248,7 +251,7 @@ module _ (r : Reader) (s : Setting) (region : List Cell) (plan : Plan) (parts : 
       → ((way : Vec (Bor (List ℕ)) Global) → slice_get ways n ≡ Some way → way.items ≡ texts)
       → ((xs : List ℕ) (long after : ℕ) → length xs ≡ length region → Holds old xs long after → Holds new xs long after)
       → ((xs : List ℕ) (long after : ℕ) → length xs ≡ length region → Holds one xs long after → Holds new xs long after)
-      → BoundsTexts r s region plan parts texts goal one → FirstWays ways n old → FirstWays ways (n + 1) new
+      → BoundsTexts texts one → FirstWays ways n old → FirstWays ways (n + 1) new
   more_ways ways n texts old one new way_is first second its f = λ k way below there c inside context long text after known n' texts_are.
       elim (cases_lt k n) [
         | inl lt ↦ first c.bytes long after inside.long (f k way lt there c inside context long text after known n' texts_are)
@@ -271,5 +274,5 @@ module _ (r : Reader) (s : Setting) (region : List Cell) (plan : Plan) (parts : 
       f at.0 split.0 (omega (arith, within, whole)) at.1 c inside context long text after known n' (pieces_are shows parts split.0.items split.2)
 
   -- where no text is known, none of the parts has one
-  pub without_text : (all : Option Bounds) → BoundsTexts r s region plan parts [] goal all → BoundsPlanned r s region plan parts goal all
+  pub without_text : (all : Option Bounds) → BoundsTexts [] all → BoundsPlanned r s region plan parts goal all
   without_text all its = λ c inside context long text after known shown n'. its c inside context long text after known n' (no_texts (part_text (tables_of r) (spot_in c n')) parts)

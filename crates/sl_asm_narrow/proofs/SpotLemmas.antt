@@ -15,10 +15,11 @@ use Rattle.sl_asm_known.specs.Frames.{AreOf, IsSiteOf}
 use Rattle.sl_asm_known.specs.declared.Frame.{Frame}
 use Rattle.sl_asm_narrow.proofs.PointLemmas.{same_number}
 use Rattle.sl_asm_narrow.specs.Candidates.{Candidate, input_of}
-use Rattle.sl_asm_narrow.specs.Nodes.{IsPlanned, IsWithinAll, spot_in}
+use Rattle.sl_asm_narrow.specs.Nodes.{IsRead, IsWithinAll, spot_in}
 use Rattle.sl_asm_narrow.specs.declared.operands.Operands.{Operands}
 use Rattle.sl_asm_narrow.specs.Readers.{tables_of}
 use Rattle.sl_asm_narrow.specs.Spots.{AreNamesTexts, IsSpotIn, IsTextOfName, IsTokenField, KeepsField, KeepsPart, KeepsParts}
+use Rattle.sl_asm_narrow.specs.declared.reader.Node.{Node}
 use Rattle.sl_asm_narrow.specs.declared.reader.Reader.{Reader}
 use Rattle.sl_asm_narrow.specs.declared.reader.Setting.{Setting}
 use Rattle.sl_asm_print.specs.Fields.{AddsWhere, HasText}
@@ -35,7 +36,6 @@ use Rattle.sl_decode_meaning.specs.Outcomes.{in_turn}
 use Rattle.sl_decode_meaning.specs.Values.{Site, value_or_zero}
 use Rattle.sl_decode_plan.specs.Steps.{late_step}
 use Rattle.sl_decode_plan.specs.declared.late.Late.{Late}
-use Rattle.sl_decode_plan.specs.declared.plans.Plan.{Plan}
 use Rattle.sl_faithful_reach.proofs.OutcomeLemmas.{came, same_ok}
 use Rattle.sl_show.specs.Numbers.{number_text}
 use Rattle.sl_show.specs.Templates.{part_text}
@@ -125,23 +125,23 @@ one_name_more parts texts wanted n found long its are = λ number text is. elim 
       subst (λ (k : ℕ). IsTextOfName parts texts k text) at (subst (λ (o : Option (Bor (List ℕ))). IfSome o (IsTextOfName parts texts n)) last.1 its)
 ]
 
-module _ {r : Reader} {s : Setting} (c : Candidate r s) (plan : Plan) (parts : List Part) (texts : List (Bor (List ℕ))) (at context long : ℕ) (text : List ℕ) (after : ℕ)
-    (n : IsPlanned c plan parts at context long text after) (are : AreTexts (part_text (tables_of r) (spot_in c n)) parts texts) where
+module _ {r : Reader} {s : Setting} (c : Candidate r s) (node : Node) (context long : ℕ) (text : List ℕ) (after : ℕ)
+    (n : IsRead c node context long text after) (are : AreTexts (part_text (tables_of r) (spot_in c n)) node.parts.now node.texts.now) where
   abbrev pub site : Site
-  site = site_at (input_of c) n.ctor at n.inner context c.next
+  site = site_at (input_of c) n.ctor node.goal.at n.inner context c.next
 
   -- the node's names have the texts that are wanted of them
-  pub names_are : (wanted : List (Option (Bor (List ℕ)))) → AreNamesTexts parts texts wanted → v.Names (tables_of r) plan.late wanted site
+  pub names_are : (wanted : List (Option (Bor (List ℕ)))) → AreNamesTexts node.parts.now node.texts.now wanted → v.Names (tables_of r) node.plan.now.late wanted site
   names_are wanted wanted_are =
-      let looked = came (in_turn (look_step (tables_of r) site) plan.looks.items (own n.notes [] n.commits)) _ (own n.others n.values n.more) n.late in
-      let same = looks_keep (tables_of r) site plan.looks.items (own n.notes [] n.commits) looked.0 looked.1 in
+      let looked = came (in_turn (look_step (tables_of r) site) node.plan.now.looks.items (own n.notes [] n.commits)) _ (own n.others n.values n.more) n.late in
+      let same = looks_keep (tables_of r) site node.plan.now.looks.items (own n.notes [] n.commits) looked.0 looked.1 in
       record {
         notes = n.notes;
         others = n.others;
         values = n.values;
         commits = n.commits;
         more = n.more;
-        are = ap (λ (o : Own). in_turn (late_step (tables_of r) site) plan.late o) same ∙ looked.2;
+        are = ap (λ (o : Own). in_turn (late_step (tables_of r) site) node.plan.now.late o) same ∙ looked.2;
         wanted_are = λ i wish z wish_is z_is.
             let its = wanted_are i wish wish_is in
             let shows = are its.index (p.Action i) wish its.part_is its.text_is in
@@ -150,10 +150,10 @@ module _ {r : Reader} {s : Setting} (c : Candidate r s) (plan : Plan) (parts : L
 
   -- lists of a region in which the parts have these texts
   pub in_parts : (o : Operands) (found : Option (List Cell)) → IsWithinAll o c.bytes n.inner after
-      → KeepsParts (tables_of r) o.region.items o.lengths at parts texts found → IsOfSome found c.bytes
+      → KeepsParts (tables_of r) o.region.items o.lengths node.goal.at node.parts.now node.texts.now found → IsOfSome found c.bytes
   in_parts o found within keeps = keeps c.bytes (spot_in c n) within.region (record { reads = refl; place = refl; between = within.between }) are
 
-  abbrev pub site_is : (f : Frame) (region : List Cell) → IsOf region c.bytes → f.at ≡ at → f.lengths.now ≡ n.inner → f.context ≡ context
+  abbrev pub site_is : (f : Frame) (region : List Cell) → IsOf region c.bytes → f.at ≡ node.goal.at → f.lengths.now ≡ n.inner → f.context ≡ context
       → f.start ≡ s.start → f.next ≡ c.next → f.names.now ≡ [] → IsSiteOf f region site
   site_is f region inside at_is lengths_is context_is start_is next_is names_is = record {
     bytes = c.bytes;

@@ -13,6 +13,7 @@ use Rattle.sl_asm_narrow.specs.Candidates.{Candidate, Says, input_of, text_of}
 use Rattle.sl_asm_narrow.specs.Readers.{tables_of, written_of}
 use Rattle.sl_asm_narrow.specs.declared.operands.Operands.{Operands}
 use Rattle.sl_asm_narrow.specs.declared.reader.Goal.{Goal}
+use Rattle.sl_asm_narrow.specs.declared.reader.Node.{Node}
 use Rattle.sl_asm_narrow.specs.declared.reader.Reader.{Reader}
 use Rattle.sl_asm_narrow.specs.declared.reader.Setting.{Setting}
 use Rattle.sl_conflict.specs.declared.table_sets.TableSets.{TableSets}
@@ -85,6 +86,10 @@ module _ {r : Reader} {s : Setting} (c : Candidate r s) where
     pub length : long ≡ extent plan.length inner
     pub shows : text ≡ flat_map (part_text (tables_of r) (spot_of (input_of c) at context values inner texts)) parts
 
+  -- So is one with this plan, these parts and this place.
+  abbrev pub IsRead : Node → (context long : ℕ) (text : List ℕ) (after : ℕ) → Type 0
+  IsRead one context long text after = IsPlanned one.plan.now one.parts.now one.goal.at context long text after
+
   abbrev pub spot_in : {plan : Plan} {parts : List Part} {at context long : ℕ} {text : List ℕ} {after : ℕ}
       → IsPlanned plan parts at context long text after → Spot
   spot_in {at = at} {context = context} n = spot_of (input_of c) at context n.values n.inner n.texts
@@ -110,17 +115,17 @@ module _ (r : Reader) (s : Setting) (region : List Cell) where
       → Fits goal.context context → Fits (text_of goal.text) text
       → IsPlanned c plan parts goal.at context long text after → Holds found c.bytes long after
 
-  -- For those whose parts have these texts, as far as they are there.
-  abbrev pub BoundsTexts : Plan → List Part → List (Bor (List ℕ)) → Goal → Option Bounds → Type 0
-  BoundsTexts plan parts texts goal found = (c : Candidate r s) → IsOf region c.bytes → (context long : ℕ) (text : List ℕ) (after : ℕ)
-      → Fits goal.context context → (n : IsPlanned c plan parts goal.at context long text after)
-      → AreTexts (part_text (tables_of r) (spot_in c n)) parts texts → Holds found c.bytes long after
+  -- For a node whose first parts have texts that are known.
+  abbrev pub BoundsNode : Node → Option Bounds → Type 0
+  BoundsNode one found = (c : Candidate r s) → IsOf region c.bytes → (context long : ℕ) (text : List ℕ) (after : ℕ)
+      → Fits one.goal.context context → (n : IsRead c one context long text after)
+      → AreTexts (part_text (tables_of r) (spot_in c n)) one.parts.now one.texts.now → Holds found c.bytes long after
 
-  -- And for their operands.
-  abbrev pub BoundsOperands : Plan → List Part → List (Bor (List ℕ)) → Goal → Option Operands → Type 0
-  BoundsOperands plan parts texts goal found = (c : Candidate r s) → IsOf region c.bytes → (context long : ℕ) (text : List ℕ) (after : ℕ)
-      → Fits goal.context context → (n : IsPlanned c plan parts goal.at context long text after)
-      → AreTexts (part_text (tables_of r) (spot_in c n)) parts texts → HoldAll found c.bytes n.inner after
+  -- And for its operands.
+  abbrev pub BoundsOperands : Node → Option Operands → Type 0
+  BoundsOperands one found = (c : Candidate r s) → IsOf region c.bytes → (context long : ℕ) (text : List ℕ) (after : ℕ)
+      → Fits one.goal.context context → (n : IsRead c one context long text after)
+      → AreTexts (part_text (tables_of r) (spot_in c n)) one.parts.now one.texts.now → HoldAll found c.bytes n.inner after
 
 -- Where the plan's actions are met at a node, from a context as the goal has it, the context after them is
 -- as known.
@@ -137,9 +142,10 @@ module _ (r : Reader) (s : Setting) where
       → IsWithinAll known c.bytes lengths before → Fits (text_of wanted) text
       → Says c (node slot.table (at + extent slot.place lengths) before long text after) → Holds found c.bytes long after
 
-  -- Wherever the operands of a node are as known, and its parts have these texts, the bounds hold.
-  abbrev pub BoundsShown : Operands → Plan → List Part → List (Bor (List ℕ)) → Goal → Option Bounds → Type 0
-  BoundsShown known plan parts texts goal found = (c : Candidate r s) (context long : ℕ) (text : List ℕ) (after : ℕ)
-      → Fits goal.context context → (n : IsPlanned c plan parts goal.at context long text after)
+  -- Wherever the operands of a node are as known, and its first parts have the texts that are known, the
+  -- bounds hold.
+  abbrev pub BoundsShown : Operands → Node → Option Bounds → Type 0
+  BoundsShown known one found = (c : Candidate r s) (context long : ℕ) (text : List ℕ) (after : ℕ)
+      → Fits one.goal.context context → (n : IsRead c one context long text after)
       → IsWithinAll known c.bytes n.inner after
-      → AreTexts (part_text (tables_of r) (spot_in c n)) parts texts → Holds found c.bytes long after
+      → AreTexts (part_text (tables_of r) (spot_in c n)) one.parts.now one.texts.now → Holds found c.bytes long after

@@ -8,12 +8,11 @@ use Rattle.sl_asm_fit.specs.Regions.{IsOf}
 use Rattle.sl_asm_fit.specs.Windows.{with_zeros}
 use Rattle.sl_asm_fit.specs.declared.Cell.{Cell}
 use Rattle.sl_asm_narrow.specs.Candidates.{Candidate}
-use Rattle.sl_asm_narrow.specs.Nodes.{IsPlanned, spot_in}
+use Rattle.sl_asm_narrow.specs.Nodes.{IsRead, spot_in}
 use Rattle.sl_asm_narrow.specs.Readers.{tables_of}
-use Rattle.sl_asm_narrow.specs.declared.reader.Goal.{Goal}
+use Rattle.sl_asm_narrow.specs.declared.reader.Node.{Node}
 use Rattle.sl_asm_narrow.specs.declared.reader.Reader.{Reader}
 use Rattle.sl_asm_narrow.specs.declared.reader.Setting.{Setting}
-use Rattle.sl_decode_plan.specs.declared.plans.Plan.{Plan}
 use Rattle.sl_show.specs.Templates.{part_text}
 use Rattle.sl_show.specs.Texts.{Spot, field_text}
 use Rattle.sl_show.specs.declared.templates.Part.{Part}
@@ -64,9 +63,9 @@ module _ (t : Tables) (region : List Cell) where
       → AreTexts (part_text t s) parts texts → IsOfSome found bytes
 
 -- Lists of the region stay in which a node is read whose operands have lengths within the bounds and whose
--- parts have these texts.
-abbrev pub KeepsNames : Reader → Setting → List Cell → Lengths → Plan → List Part → List (Bor (List ℕ)) → Goal → Option (List Cell) → Type 0
-KeepsNames r s region lengths plan parts texts goal found = (c : Candidate r s) → IsOf region c.bytes → (context long : ℕ) (text : List ℕ) (after : ℕ)
-    → Fits goal.context context → (n : IsPlanned c plan parts goal.at context long text after)
+-- first parts have the texts that are known.
+abbrev pub KeepsNames : Reader → Setting → List Cell → Lengths → Node → Option (List Cell) → Type 0
+KeepsNames r s region lengths node found = (c : Candidate r s) → IsOf region c.bytes → (context long : ℕ) (text : List ℕ) (after : ℕ)
+    → Fits node.goal.context context → (n : IsRead c node context long text after)
     → AreBetween lengths.leasts.items lengths.mosts.items n.inner
-    → AreTexts (part_text (tables_of r) (spot_in c n)) parts texts → IsOfSome found c.bytes
+    → AreTexts (part_text (tables_of r) (spot_in c n)) node.parts.now node.texts.now → IsOfSome found c.bytes

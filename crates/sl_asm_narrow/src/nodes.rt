@@ -8,13 +8,13 @@ ghost use Rattle.sl_asm_narrow.specs.Candidates.{text_of};
 ghost use Rattle.sl_asm_print.specs.Splits.{KeepsTexts};
 ghost use Rattle.sl_show.specs.declared.templates.Part.{Part as PartOf};
 ghost use Rattle.sl_asm_narrow.specs.Nodes.{ActsOn, BoundsConstructor, BoundsOperand};
-ghost use Rattle.sl_asm_narrow.specs.Nodes.{BoundsOperands};
-ghost use Rattle.sl_asm_narrow.specs.Nodes.{BoundsPlanned, BoundsTable, BoundsTexts};
+ghost use Rattle.sl_asm_narrow.specs.Nodes.{BoundsNode, BoundsOperands};
+ghost use Rattle.sl_asm_narrow.specs.Nodes.{BoundsPlanned, BoundsTable};
 ghost use Rattle.sl_asm_narrow.specs.Readers.{IsReader};
 ghost use Rattle.sl_conflict.specs.Kept.{IsPaired};
 
 use crate::operands::{Operands, begins_with};
-use crate::reader::{Goal, Reader, Setting};
+use crate::reader::{Goal, Node, Reader, Setting};
 use sl_asm_bounds::{Bounds, after_steps, either, narrow_some, text_of, unknown};
 use sl_asm_fit::Cell;
 use sl_asm_known::Frame;
@@ -108,8 +108,10 @@ impl Reader<'_, '_, '_> {
         }
         let mut all = None;
         'places: for place in 0..kept.ctors.len() {
-            let one = self.constructor(alloc, setting, depth - 1, region, kept, place, goal)?;
-            all = either(alloc, region.len(), all, one)?;
+            if self.may_begin(kept.ctors[place], goal) {
+                let one = self.constructor(alloc, setting, depth - 1, region, kept, place, goal)?;
+                all = either(alloc, region.len(), all, one)?;
+            }
         }
         Ok(all)
     }
@@ -174,14 +176,25 @@ impl Reader<'_, '_, '_> {
         ensures long { IfOk result (AreAsLong (length region.now)) }
     {
         let Some(text) = goal.text else {
-            let found = self.inner(alloc, setting, depth, region, plan, parts, &[], goal)?;
+            let node = Node {
+                plan,
+                parts,
+                texts: &[],
+                goal: *goal,
+            };
+            let found = self.inner(alloc, setting, depth, region, &node)?;
             return Ok(found);
         };
         let ways = splits(alloc, parts, text)?;
         let mut all = None;
         'ways: for index in 0..ways.len() {
-            let texts = ways[index].as_slice();
-            let one = self.inner(alloc, setting, depth, region, plan, parts, texts, goal)?;
+            let node = Node {
+                plan,
+                parts,
+                texts: ways[index].as_slice(),
+                goal: *goal,
+            };
+            let one = self.inner(alloc, setting, depth, region, &node)?;
             all = either(alloc, region.len(), all, one)?;
         }
         Ok(all)
@@ -195,23 +208,19 @@ impl Reader<'_, '_, '_> {
         setting: &Setting,
         depth: usize,
         region: &[Cell],
-        plan: &Plan,
-        parts: &[Part],
-        texts: &[&[u8]],
-        goal: &Goal,
+        node: &Node,
     ) -> Result<Option<Bounds>, AllocError>
         requires ready { IsReader self.now }
-        requires place { goal.now.at ≤ 255 }
+        requires place { node.now.goal.at ≤ 255 }
         requires long { length region.now ≤ 255 }
-        ensures bounds { IfOk result (BoundsTexts self.now setting.now region.now plan.now
-            parts.now texts.now goal.now) }
+        ensures bounds { IfOk result (BoundsNode self.now setting.now region.now node.now) }
         ensures long { IfOk result (AreAsLong (length region.now)) }
     {
-        let below = self.operands(alloc, setting, depth, region, plan, parts, texts, goal)?;
+        let below = self.operands(alloc, setting, depth, region, node)?;
         let Some(operands) = below else {
             return Ok(None);
         };
-        let found = self.shown(alloc, setting, operands, plan, parts, texts, goal)?;
+        let found = self.shown(alloc, setting, operands, node)?;
         Ok(found)
     }
 
@@ -223,24 +232,21 @@ impl Reader<'_, '_, '_> {
         setting: &Setting,
         depth: usize,
         region: &[Cell],
-        plan: &Plan,
-        parts: &[Part],
-        texts: &[&[u8]],
-        goal: &Goal,
+        node: &Node,
     ) -> Result<Option<Operands>, AllocError>
         requires ready { IsReader self.now }
-        requires place { goal.now.at ≤ 255 }
+        requires place { node.now.goal.at ≤ 255 }
         requires long { length region.now ≤ 255 }
-        ensures bounds { IfOk result (BoundsOperands self.now setting.now region.now plan.now
-            parts.now texts.now goal.now) }
+        ensures bounds { IfOk result (BoundsOperands self.now setting.now region.now node.now) }
         ensures long { IfOk result (λ found. IfSome found (λ o. length o.region.items
             ≡ length region.now)) }
     {
-        let mut known = Operands::none(alloc, region, goal.context)?;
-        let slots = plan.slots.as_slice();
+        let mut known = Operands::none(alloc, region, node.goal.context)?;
+        let slots = node.plan.slots.as_slice();
         'slots: for index in 0..slots.len() {
-            let text = text_of(parts, texts, index);
-            let next = self.operand(alloc, setting, depth, &known, &slots[index], goal.at, text)?;
+            let text = text_of(node.parts, node.texts, index);
+            let at = node.goal.at;
+            let next = self.operand(alloc, setting, depth, &known, &slots[index], at, text)?;
             let Some(bounds) = next else {
                 return Ok(None);
             };

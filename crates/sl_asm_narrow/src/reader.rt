@@ -1,21 +1,24 @@
 //! What a text is read by.
 
-ghost use Rattle.std.specs.Prelude.{◌≡◌, ◌≤◌, Some, IfOk, length, slice_get};
-ghost use Rattle.sl_asm_bounds.specs.Bounds.{AreAsLong};
+ghost use Rattle.std.specs.Prelude.{◌≡◌, ◌≤◌, ℕ, List, Some, IfOk, IfSome, IsTrue, length, slice_get};
+ghost use Rattle.std.specs.List.{flat_map};
+ghost use Rattle.sl_asm_bounds.specs.Bounds.{AreAsLong, Fits};
+ghost use Rattle.sl_asm_narrow.specs.Candidates.{text_of};
 ghost use Rattle.sl_asm_narrow.specs.Nodes.{BoundsTable};
-ghost use Rattle.sl_asm_narrow.specs.Readers.{IsReader, tables_of};
+ghost use Rattle.sl_asm_narrow.specs.Readers.{AreHeads, HasHead, IsReader, parts_at, tables_of};
+ghost use Rattle.sl_asm_print.specs.Splits.{KeepsTexts};
 ghost use Rattle.sl_ast.specs.Views.{items_of};
 ghost use Rattle.sl_bind_compile.specs.Compiled.{IsCompiled};
 ghost use Rattle.sl_bind_compile.specs.Outcomes.{all_constructors};
 ghost use Rattle.sl_list_instructions.specs.Disassemblies.{StandsFor};
-ghost use Rattle.sl_show.specs.Templates.{parts_of};
+ghost use Rattle.sl_show.specs.declared.templates.Part.{Part as PartOf};
 
 use sl_asm_bounds::Bounds;
 use sl_asm_fit::Cell;
 use sl_bind_compile::Compiled;
 use sl_decode_plan::{Plan, make_plans};
 use sl_list_instructions::Disassembly;
-use sl_show::Part;
+use sl_show::{Part, Template};
 use sl_spec::{TableId, Tables, unfolded_constructors};
 use std::alloc::{AllocError, Global};
 
@@ -26,6 +29,8 @@ pub struct Reader<'d, 't, 'a> {
     pub compiled: &'d Compiled<'a>,
     pub disassembly: &'d Disassembly<'t, 'a>,
     pub(crate) plans: Vec<Plan>,
+    /// The byte with which all texts of a constructor begin, where there is one.
+    pub(crate) heads: Vec<Option<u8>>,
 }
 
 /// The instruction of which nodes are read: its address, and the one after it where its length is
@@ -45,6 +50,47 @@ pub struct Goal<'x> {
     pub text: Option<&'x [u8]>,
 }
 
+/// The byte with which all texts begin that the parts show, where there is one.
+fn head_of(parts: &[Part]) -> Option<u8>
+    ensures { IfSome result (HasHead parts.now) }
+{
+    match parts.first() {
+        Some(Part::Text(text)) => text.first().copied(),
+        _ => None,
+    }
+}
+
+/// Whether the text begins with the byte.
+fn has_first(text: &[u8], byte: u8) -> bool
+    ensures { slice_get text.now 0 ≡ Some byte → IsTrue result }
+{
+    match text.first() {
+        Some(first) => *first == byte,
+        None => false,
+    }
+}
+
+/// The heads of all templates.
+fn heads_of(alloc: Global, templates: &[Template]) -> Result<Vec<Option<u8>>, AllocError>
+    ensures { IfOk result (λ heads. AreHeads templates.now heads.items) }
+{
+    let mut heads = Vec::new(alloc);
+    'templates: for number in 0..templates.len() {
+        heads.push(head_of(&templates[number].parts))?;
+    }
+    Ok(heads)
+}
+
+/// A node of a constructor that is read: what is done at it, how it is shown, the texts of the first
+/// parts, as far as they are known, and its goal after its own actions.
+#[derive(Clone, Copy)]
+pub struct Node<'n, 'x> {
+    pub plan: &'n Plan,
+    pub parts: &'n [Part],
+    pub texts: &'n [&'x [u8]],
+    pub goal: Goal<'x>,
+}
+
 impl<'d, 't, 'a> Reader<'d, 't, 'a> {
     /// A reader of the texts of a specification. The only error is want of memory.
     pub fn new(
@@ -61,10 +107,12 @@ impl<'d, 't, 'a> Reader<'d, 't, 'a> {
         let items = compiled.bound.spec.items.as_slice();
         let constructors = unfolded_constructors(alloc, items)?;
         let plans = make_plans(alloc, &compiled.bound.tables, constructors.as_slice())?;
+        let heads = heads_of(alloc, &disassembly.templates)?;
         Ok(Reader {
             compiled,
             disassembly,
             plans,
+            heads,
         })
     }
 
@@ -77,12 +125,23 @@ impl<'d, 't, 'a> Reader<'d, 't, 'a> {
 
     /// The parts of the text of a constructor's nodes; none where there is no such constructor.
     pub(crate) fn parts(&self, number: u32) -> &[Part]
-        ensures { result.now
-            ≡ parts_of (slice_get self.now.disassembly.now.templates.items number) }
+        ensures { result.now ≡ parts_at self.now number }
     {
         match self.disassembly.templates.get(number as usize) {
             Some(template) => template.parts.as_slice(),
             None => &[],
+        }
+    }
+
+    /// Whether nodes of the constructor may have the goal's text, by the byte with which it begins.
+    pub(crate) fn may_begin(&self, number: u32, goal: &Goal) -> bool
+        ensures { IsReader self.now → (shows : PartOf → List ℕ) → KeepsTexts shows
+            → Fits (text_of goal.now.text) (flat_map shows (parts_at self.now number))
+            → IsTrue result }
+    {
+        match (self.heads.get(number as usize), goal.text) {
+            (Some(Some(head)), Some(text)) => has_first(text, *head),
+            _ => true,
         }
     }
 

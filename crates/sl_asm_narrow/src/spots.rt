@@ -9,14 +9,13 @@ ghost use Rattle.sl_asm_narrow.specs.Spots.{AreNamesTexts, IsTokenField, IsTextO
 ghost use Rattle.sl_asm_narrow.specs.Spots.{KeepsField, KeepsNames, KeepsPart, KeepsParts};
 
 use crate::operands::Operands;
-use crate::reader::{Goal, Reader, Setting};
+use crate::reader::{Node, Reader, Setting};
 use sl_asm_bounds::{Bounds, Lengths, narrow_some};
 use sl_asm_fit::Cell;
 use sl_asm_known::Frame;
 use sl_asm_print::put_field;
 use sl_asm_values::narrowed_by_names;
 use sl_decode_leaves::token_of;
-use sl_decode_plan::Plan;
 use sl_show::Part;
 use sl_spec::{FieldId, Tables};
 use std::alloc::{AllocError, Global};
@@ -155,15 +154,11 @@ impl Reader<'_, '_, '_> {
         alloc: Global,
         setting: &Setting,
         operands: Operands,
-        plan: &Plan,
-        parts: &[Part],
-        texts: &[&[u8]],
-        goal: &Goal,
+        node: &Node,
     ) -> Result<Option<Bounds>, AllocError>
         requires ready { IsReader self.now }
         requires long { length operands.region.items ≤ 255 }
-        ensures bounds { IfOk result (BoundsShown self.now setting.now operands plan.now parts.now
-            texts.now goal.now) }
+        ensures bounds { IfOk result (BoundsShown self.now setting.now operands node.now) }
         ensures long { IfOk result (AreAsLong (length operands.region.items)) }
     {
         let Operands {
@@ -172,18 +167,19 @@ impl Reader<'_, '_, '_> {
             context,
         } = operands;
         let t = self.tables();
-        let narrow = by_parts(alloc, t, region, &lengths, goal.at, parts, texts)?;
+        let at = node.goal.at;
+        let narrow = by_parts(alloc, t, region, &lengths, at, node.parts, node.texts)?;
         let Some(cells) = narrow else {
             return Ok(None);
         };
-        let named = self.by_names(alloc, setting, cells, &lengths, plan, parts, texts, goal)?;
+        let named = self.by_names(alloc, setting, cells, &lengths, node)?;
         let Some(region) = named else {
             return Ok(None);
         };
         Ok(Some(Bounds {
             region,
-            least: lengths.least(&plan.length),
-            most: lengths.most(&plan.length),
+            least: lengths.least(&node.plan.length),
+            most: lengths.most(&node.plan.length),
             after: context,
         }))
     }
@@ -196,35 +192,32 @@ impl Reader<'_, '_, '_> {
         setting: &Setting,
         region: Vec<Cell>,
         lengths: &Lengths,
-        plan: &Plan,
-        parts: &[Part],
-        texts: &[&[u8]],
-        goal: &Goal,
+        node: &Node,
     ) -> Result<Option<Vec<Cell>>, AllocError>
         requires ready { IsReader self.now }
         requires long { length region.items ≤ 255 }
         ensures keeps { IfOk result (λ found. KeepsNames self.now setting.now region.items
-            lengths.now plan.now parts.now texts.now goal.now (option_map (λ v. v.items) found)) }
+            lengths.now node.now (option_map (λ v. v.items) found)) }
         ensures long { IfOk result (λ found. IsAsLong (length region.items)
             (option_map (λ v. v.items) found)) }
     {
-        let (Some(next), Some(context)) = (setting.next, goal.context) else {
+        let (Some(next), Some(context)) = (setting.next, node.goal.context) else {
             return Ok(Some(region));
         };
         if !lengths.are_known() {
             return Ok(Some(region));
         }
         let frame = Frame {
-            at: goal.at,
+            at: node.goal.at,
             lengths: lengths.leasts.as_slice(),
             context,
             start: setting.start,
             next,
             names: &[],
         };
-        let wanted = names_texts(alloc, parts.len(), parts, texts)?;
+        let wanted = names_texts(alloc, node.parts.len(), node.parts, node.texts)?;
         let t = self.tables();
-        let narrow = narrowed_by_names(alloc, t, &frame, &region, &plan.late, &wanted)?;
+        let narrow = narrowed_by_names(alloc, t, &frame, &region, &node.plan.late, &wanted)?;
         Ok(narrow)
     }
 }

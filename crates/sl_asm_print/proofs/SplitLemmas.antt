@@ -1,12 +1,12 @@
 -- Cuts of a text, by where its first part ends.
-use Rattle.std.proofs.Common.{◌≡◌, ℕ, ◌+◌, ◌<◌, List, [], ◌∷◌, ◌++◌, length, take, drop, map, false, IsTrue, ap, arith, refl, sym, subst, ◌∙◌, below_more, append_assoc}
+use Rattle.std.proofs.Common.{◌≡◌, ℕ, ◌+◌, ◌<◌, ◌≤◌, min, List, [], ◌∷◌, ◌++◌, length, take, drop, map, false, IsTrue, ap, arith, refl, sym, subst, ◌∙◌, below_more, append_assoc}
 use Rattle.std.specs.Prelude.{Contains, Vec}
 use Rattle.std.specs.List.{flat_map}
 use Rattle.std.specs.declared.alloc.Global.{Global}
 use denote.Ref.{Bor}
 use Rattle.std.proofs.Math.Seq.{drop-append_seam, take-append_seam}
 use Rattle.std.proofs.lemmas.Bool.{false≢true}
-use Rattle.std.proofs.lemmas.List.{length-append, map-append}
+use Rattle.std.proofs.lemmas.List.{length-take, map-append, take-append-drop}
 use Rattle.std.proofs.lemmas.List.Elements.{Contains-append_left, Contains-push}
 use Rattle.sl_asm_print.specs.Splits.{AddsSplits, HasSplit, KeepsTexts, pieces}
 use Rattle.sl_show.specs.declared.templates.Part.{Part}
@@ -23,8 +23,16 @@ pub record CutFirst (first : Part) (rest : List Part) (text : List ℕ) (front :
   pub cuts : (k : ℕ) → k < n → (shows : Part → List ℕ) → KeepsTexts shows → take k text ≡ shows first → flat_map shows rest ≡ drop k text
       → HasSplit (front ++ (shows first ∷ map shows rest)) new
 
-pub cut_none : (first : Part) (rest : List Part) (text : List ℕ) (front : List (List ℕ)) (old : List Split) → CutFirst first rest text front 0 old old
-cut_none first rest text front old = record { kept = λ s h. h; cuts = λ k below. absurd (omega (arith, below)) }
+-- no part ends before the least length
+pub cut_none : (first : Part) (rest : List Part) (text : List ℕ) (front : List (List ℕ)) (least : ℕ) (old : List Split)
+    → ((shows : Part → List ℕ) → KeepsTexts shows → flat_map shows (first ∷ rest) ≡ text → least ≤ length (shows first)) → CutFirst first rest text front least old old
+cut_none first rest text front least old is_least = record {
+  kept = λ s h. h;
+  cuts = λ k below shows keeps here behind.
+      let e : flat_map shows (first ∷ rest) ≡ text = ap (λ (l : List ℕ). l ++ flat_map shows rest) (sym here) ∙ ap (λ (l : List ℕ). take k text ++ l) behind ∙ take-append-drop k text in
+      let long : length (shows first) ≡ min k (length text) = ap length (sym here) ∙ length-take k text in
+      absurd (omega (arith, below, long, is_least shows keeps e));
+}
 
 pub cut_more : (first : Part) (rest : List Part) (text : List ℕ) (front : List (Bor (List ℕ))) (n : ℕ) (old middle new : List Split) (piece : Bor (List ℕ))
     → piece.now ≡ take n text → CutFirst first rest text (pieces front) n old middle → AddsSplits rest (drop n text) (pieces (front ++ piece ∷ [])) middle new
@@ -69,15 +77,15 @@ cut_other first rest text front n old new piece is not f = record {
       (λ shows keeps here behind. absurd (false≢true (not shows keeps (sym here ∙ sym is))));
 }
 
-pub cut_all : (first : Part) (rest : List Part) (text : List ℕ) (front : List (List ℕ)) (n : ℕ) (old new : List Split) → length text < n
+pub cut_all : (first : Part) (rest : List Part) (text : List ℕ) (front : List (List ℕ)) (n : ℕ) (old new : List Split)
+    → ((shows : Part → List ℕ) → KeepsTexts shows → flat_map shows (first ∷ rest) ≡ text → length (shows first) < n)
     → CutFirst first rest text front n old new → AddsSplits (first ∷ rest) text front old new
 cut_all first rest text front n old new whole f = record {
   kept = f.kept;
   all = λ shows keeps e.
       let one = shows first in
       let others = flat_map shows rest in
-      let long : length one + length others ≡ length text = sym (length-append one others) ∙ ap length e in
-      f.cuts (length one) (omega (arith, long, whole)) shows keeps
+      f.cuts (length one) (whole shows keeps e) shows keeps
       (ap (take (length one)) (sym e) ∙ take-append_seam one others)
       (sym (drop-append_seam one others) ∙ ap (drop (length one)) e);
 }

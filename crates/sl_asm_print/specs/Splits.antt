@@ -1,5 +1,5 @@
 -- view: ways to cut a text into the parts of a display.
-use Rattle.std.specs.Prelude.{◌≡◌, ℕ, List, ◌++◌, Contains, Vec, map}
+use Rattle.std.specs.Prelude.{◌≡◌, ℕ, ◌≤◌, List, ◌++◌, Contains, Vec, map}
 use Rattle.std.specs.List.{flat_map}
 use Rattle.std.specs.declared.alloc.Global.{Global}
 use denote.Ref.{Bor}
@@ -9,6 +9,10 @@ use Rattle.sl_show.specs.declared.templates.Part.TheVariants as p
 -- Parts that are texts stand for themselves.
 abbrev pub KeepsTexts : (Part → List ℕ) → Type 0
 KeepsTexts shows = (text : Vec ℕ Global) → shows (p.Text text) ≡ text.items
+
+-- A length is between these.
+abbrev pub IsBetween : ℕ → ℕ → ℕ → Type 0
+IsBetween least most long = (least ≤ long) × (long ≤ most)
 
 -- pieces of a text, as lists of bytes
 abbrev pub pieces : List (Bor (List ℕ)) → List (List ℕ)

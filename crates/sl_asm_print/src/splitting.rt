@@ -1,8 +1,8 @@
 //! Ways to cut a text into parts.
 
-ghost use Rattle.std.specs.Prelude.{◌≡◌, [], List, ℕ, IfOk, IsTrue, OnOk, map};
+ghost use Rattle.std.specs.Prelude.{◌≡◌, ◌≤◌, ◌∷◌, [], List, ℕ, IfOk, IsTrue, OnOk, length, map};
 ghost use Rattle.std.specs.List.{flat_map};
-ghost use Rattle.sl_asm_print.specs.Splits.{AddsSplits, HasSplit, KeepsTexts, pieces};
+ghost use Rattle.sl_asm_print.specs.Splits.{AddsSplits, HasSplit, IsBetween, KeepsTexts, pieces};
 ghost use Rattle.sl_show.specs.declared.templates.Part.{Part as PartOf};
 
 use sl_show::Part;
@@ -36,6 +36,24 @@ fn copied<'x>(alloc: Global, pieces: &[&'x [u8]]) -> Result<Split<'x>, AllocErro
     pieces.iter().copied().collect(alloc)
 }
 
+/// The least and the greatest length that the first part can have in a text that the parts show.
+fn lengths_of(first: &Part, rest: &[Part], text: &[u8]) -> (usize, usize)
+    ensures within { result.1 ≤ length text.now }
+    ensures between { (shows : PartOf → List ℕ) → KeepsTexts shows
+        → flat_map shows (first.now ∷ rest.now) ≡ text.now
+        → IsBetween result.0 result.1 (length (shows first.now)) }
+{
+    let whole = text.len();
+    if let Part::Text(own) = first {
+        let end = own.len().min(whole);
+        return (end, end);
+    }
+    if rest.is_empty() {
+        return (whole, whole);
+    }
+    (0, whole)
+}
+
 /// Adds the ways to cut the text into these parts, each after the front.
 fn add_splits<'x>(
     alloc: Global,
@@ -52,7 +70,8 @@ fn add_splits<'x>(
         return add_whole(alloc, text, front, out);
     };
     let depth = front.len();
-    'ends: for end in 0..text.len() + 1 {
+    let (least, most) = lengths_of(first, rest, text);
+    'ends: for end in least..most + 1 {
         let (piece, more) = text.split_at(end);
         if can_be(first, piece) {
             front.push(piece)?;

@@ -1,5 +1,5 @@
 -- Regions whose lists give wanted values.
-use Rattle.std.proofs.Common.{◌≡◌, ℕ, List, get_or, Option, Some, None, MatchOption, false, arith, refl, sym, subst, ◌∙◌, inl, inr}
+use Rattle.std.proofs.Common.{◌≡◌, ℕ, List, get_or, Option, Some, None, MatchOption, Vec, Global, false, arith, refl, sym, subst, ◌∙◌, inl, inr}
 use Rattle.std.specs.Option.{is_some}
 use Rattle.std.specs.Int.{bit_at}
 use Rattle.std.proofs.lemmas.Bool.{cases_lt}
@@ -47,6 +47,12 @@ module _ (t : Tables) (f : Frame) (v : Value) (wanted : Known) where
 
   pub none_left : (region mid : List Cell) → KeepsGiving t f region v wanted mid → GivesNone t f mid v wanted → GivesNone t f region v wanted
   none_left region mid a none = λ s is gives. none s (site_in f region mid s is (a.stays s is gives)) gives
+
+  pub found_more : (region mid : List Cell) (found : Option (Vec Cell Global)) → KeepsGiving t f region v wanted mid
+      → MatchOption found (GivesNone t f mid v wanted) (λ n. KeepsGiving t f mid v wanted n.items)
+      → MatchOption found (GivesNone t f region v wanted) (λ n. KeepsGiving t f region v wanted n.items)
+  found_more region mid None a none = none_left region mid a none
+  found_more region mid (Some n) a b = keeps_more region mid n.items a b
 
   -- ---- halves
 

@@ -3,6 +3,7 @@
 
 mod names;
 mod narrowing;
+mod sides;
 
 pub use names::narrowed_by_names;
 pub use narrowing::narrowed_by;

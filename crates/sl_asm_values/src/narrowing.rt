@@ -13,9 +13,10 @@ ghost use Rattle.sl_asm_values.specs.Narrowing.{GivesNone, KeepsGiving};
 ghost use Rattle.sl_decode_plan.specs.declared.values.Value.{Value as ValueOf};
 ghost use Rattle.sl_spec.specs.declared.tables.Tables.{Tables as TablesOf};
 
+use crate::sides::sides;
 use sl_asm_bits::Known;
 use sl_asm_fit::Cell;
-use sl_asm_known::{Bit, Frame, Verdict, half, judge};
+use sl_asm_known::{Bit, Frame, Verdict, half, judge, known};
 use sl_decode_plan::Value;
 use sl_spec::Tables;
 use std::alloc::{AllocError, Global};
@@ -124,7 +125,7 @@ impl Demand<'_, '_> {
 /// The region narrowed as long as, of both halves by the bit whose turn it is, one alone may give
 /// the expression a value with the wanted bits; `None` where neither does. Each round fixes a bit
 /// that was open and reckons the expression twice. The only error is want of memory.
-pub fn narrowed_by(
+fn by_bits(
     alloc: Global,
     t: &Tables,
     frame: &Frame,
@@ -158,4 +159,65 @@ pub fn narrowed_by(
         }
     }
     Ok(Some(left.region))
+}
+
+/// The same by the sides of operators, as far as the value says something of them, and the others bit
+/// by bit.
+fn by_sides(
+    alloc: Global,
+    t: &Tables,
+    frame: &Frame,
+    region: &[Cell],
+    v: &Value,
+    wanted: &Known,
+) -> Result<Option<Vec<Cell>>, AllocError>
+    requires { length region.now ≤ 255 }
+    ensures { IfOk result (λ found. MatchOption found
+        (GivesNone t.now frame.now region.now v.now wanted.now)
+        (λ narrow. KeepsGiving t.now frame.now region.now v.now wanted.now narrow.items)) }
+{
+    let Value::Binary(op, left, right) = v else {
+        return by_bits(alloc, t, frame, region, v, wanted);
+    };
+    let Some(first) = known(t, frame, region, left) else {
+        return Ok(None);
+    };
+    let Some(second) = known(t, frame, region, right) else {
+        return Ok(None);
+    };
+    let Some((one, other)) = sides(*op, wanted, &first, &second) else {
+        return by_bits(alloc, t, frame, region, v, wanted);
+    };
+    let narrow = by_sides(alloc, t, frame, region, left, &one)?;
+    let Some(cells) = narrow else {
+        return Ok(None);
+    };
+    let found = by_sides(alloc, t, frame, &cells, right, &other)?;
+    Ok(found)
+}
+
+/// The region narrowed by the bits that are wanted of an expression's value; `None` where no list of
+/// it gives the expression such a value. What the value says of the sides of a sum, and of the
+/// operators that go bit by bit, is taken from them. For other expressions, and for what is left, a bit
+/// that is open is tried after the other, as long as one of both halves alone may give such a value.
+/// The only error is want of memory.
+pub fn narrowed_by(
+    alloc: Global,
+    t: &Tables,
+    frame: &Frame,
+    region: &[Cell],
+    v: &Value,
+    wanted: &Known,
+) -> Result<Option<Vec<Cell>>, AllocError>
+    requires { length region.now ≤ 255 }
+    ensures { IfOk result (λ found. MatchOption found
+        (GivesNone t.now frame.now region.now v.now wanted.now)
+        (λ narrow. KeepsGiving t.now frame.now region.now v.now wanted.now narrow.items)) }
+{
+    let narrow = by_sides(alloc, t, frame, region, v, wanted)?;
+    let Some(cells) = narrow else {
+        return Ok(None);
+    };
+    let found = by_bits(alloc, t, frame, &cells, v, wanted)?;
+    Ok(found)
 }

@@ -1,5 +1,5 @@
-use Rattle.std.proofs.Common.{◌≡◌, ◌<◌, Bool, IsTrue, length, arith, subst}
-use Rattle.sl_asm_print.proofs.SplitLemmas.{back_to, cut_all, cut_other, cut_step}
+use Rattle.std.proofs.Common.{◌≡◌, Bool, IsTrue, length, arith, refl, subst}
+use Rattle.sl_asm_print.proofs.SplitLemmas.{back_to, cut_all, cut_none, cut_other, cut_step}
 use Rattle.sl_asm_print.specs.Splits.{pieces}
 use Rattle.sl_asm_print.proofs.splitting.+add_splits.Goals as goal
 use Rattle.sl_asm_print.proofs.splitting.+add_splits.Goals.{then-can_be+in_ok-push+in_ok-add_splits, else-can_be}
@@ -27,9 +27,17 @@ ends-preserved t c =
       }
     ]
 
+pub ends-init : goal.ends-init
+ends-init t c =
+    let text = c.args.text.now in
+    let ends = c.lengths_of-least in
+    record {
+      same = refl;
+      cut = cut_none c.in-Some.first.now c.in-Some.rest.now text (pieces c.args.front.now.items) ends.result.0 c.args.out.now.items
+          (λ shows keeps e. (ends.ensures.between shows keeps e).0);
+    }
+
 pub returns-clause-splits : goal.returns-clause-splits
 returns-clause-splits t c =
-    let text = c.args.text.now in
-    let whole : length text < c.ends.end = omega arith in
-    rw c.in-Some.ensures.cases.0 (cut_all c.in-Some.first.now c.in-Some.rest.now text (pieces c.args.front.now.items) c.ends.end c.args.out.now.items c.ends.out.items whole
-    c.ends.invariant.cut)
+    rw c.in-Some.ensures.cases.0 (cut_all c.in-Some.first.now c.in-Some.rest.now c.args.text.now (pieces c.args.front.now.items) c.ends.end c.args.out.now.items c.ends.out.items
+    (λ shows keeps e. let b = c.lengths_of-least.ensures.between shows keeps e in omega (arith, b.1)) c.ends.invariant.cut)

@@ -1,22 +1,14 @@
-use Rattle.std.proofs.Common.{List, subst}
-use Rattle.sl_asm_fit.specs.declared.Cell.{Cell}
-use Rattle.sl_asm_values.proofs.GivingLemmas.{left_more, none_left}
-use Rattle.sl_asm_values.specs.Halves.{IsOutcome}
-use Rattle.sl_asm_values.specs.Narrowing.{GivesNone}
+use Rattle.std.proofs.Common.{MatchOption, subst}
+use Rattle.sl_asm_values.proofs.GivingLemmas.{found_more}
+use Rattle.sl_asm_values.specs.Narrowing.{GivesNone, KeepsGiving}
 use Rattle.sl_asm_values.proofs.narrowing.narrowed_by.Goals as goal
 
-pub returns-in_default : goal.returns-in_default
-returns-in_default c =
-    subst (λ (cells : List Cell). GivesNone c.args.t.now c.args.frame.now cells c.args.v.now c.args.wanted.now) c.in_ok-whole.ensures c.in_default.ensures
-
-pub returns-in-Neither : goal.returns-in-Neither
-returns-in-Neither c =
-    let left = c.rounds.left.region.items in
-    none_left c.args.t.now c.args.frame.now c.args.v.now c.args.wanted.now c.args.region.now left c.rounds.invariant.keeps
-    (subst (IsOutcome c.args.t.now c.args.frame.now left c.args.v.now c.args.wanted.now) c.in-Neither.is (rw c.deref.ensures.value at c.in_ok-halved.ensures))
-
-pub rounds-preserved : goal.rounds-preserved
-rounds-preserved c =
-    let left = c.rounds.left.region.items in
-    left_more c.args.t.now c.args.frame.now c.args.v.now c.args.wanted.now c.args.region.now c.rounds.left c.in-One.one c.rounds.invariant
-    (subst (IsOutcome c.args.t.now c.args.frame.now left c.args.v.now c.args.wanted.now) c.in-One.is (rw c.deref.ensures.value at c.in_ok-halved.ensures))
+pub returns : goal.returns
+returns c =
+    let t = c.args.t.now in
+    let f = c.args.frame.now in
+    let region = c.args.region.now in
+    let v = c.args.v.now in
+    let wanted = c.args.wanted.now in
+    let keeps = subst (λ o. MatchOption o (GivesNone t f region v wanted) (λ n. KeepsGiving t f region v wanted n.items)) c.in-Some.is c.in_ok-narrow.ensures in
+    found_more t f v wanted region c.in-Some.cells.items c.in_ok-found.found keeps (rw c.deref.ensures.value at c.in_ok-found.ensures)

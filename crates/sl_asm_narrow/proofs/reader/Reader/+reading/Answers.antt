@@ -1,4 +1,4 @@
-use Rattle.std.proofs.Common.{◌≡◌, ◌≤◌, ◌<◌, ℕ, List, Option, Some, Vec, Global, length, arith, refl, ap, subst, sym, ◌∙◌}
+use Rattle.std.proofs.Common.{◌≡◌, ◌≤◌, ◌<◌, ℕ, List, Option, None, Some, Vec, Global, length, arith, refl, ap, subst, sym, ◌∙◌}
 use Rattle.std.specs.Prelude.{option_map, slice_get}
 use denote.Ref.{Bor}
 use Rattle.std.proofs.lemmas.Bool.{ltb-true}
@@ -9,9 +9,11 @@ use Rattle.sl_asm_fit.specs.declared.Cell.{Cell}
 use Rattle.sl_asm_narrow.proofs.NodeLemmas.{all_places, all_ways, by_constructor, more_places, more_ways, not_shown, nowhere, without_text}
 use Rattle.sl_asm_narrow.proofs.OperandLemmas.{reaches_all, reaches_more, reaches_none, reaches_nothing}
 use Rattle.sl_asm_narrow.specs.Nodes.{BoundsOperand, HoldAll}
+use Rattle.sl_asm_narrow.specs.Readers.{parts_at}
 use Rattle.sl_asm_narrow.specs.declared.operands.Operands.{Operands}
 use Rattle.sl_decode_plan.specs.declared.plans.Slot.{Slot}
 use Rattle.sl_asm_narrow.proofs.reader.Reader.+reading.Goals as goal
+use Rattle.sl_asm_narrow.proofs.reader.Reader.+reading.Goals.{table-then-may_begin+in_ok-one+in_ok-all, table-else-may_begin}
 
 -- ---- constructor
 
@@ -67,9 +69,9 @@ displayed-ways-preserved t c =
     let i = c.ways.index in
     let within : i < length ways = omega arith in
     let way_is = slice_get_read ways (length ways) i c.index.result.now refl within c.index.ensures in record {
-      first = more_ways c.args.self.now c.args.setting.now c.args.region.now c.args.plan.now c.args.parts.now c.args.goal.now ways i c.as_slice-texts.result.now
+      first = more_ways c.args.self.now c.args.setting.now c.args.region.now c.args.plan.now c.args.parts.now c.args.goal.now ways i c.as_slice.result.now
           c.ways.all c.in_ok-one.one c.in_ok-all.all
-          (λ way is. ap (λ (v : Vec (Bor (List ℕ)) Global). v.items) (same_Some way c.index.result.now (sym is ∙ way_is)) ∙ sym c.as_slice-texts.ensures.value)
+          (λ way is. ap (λ (v : Vec (Bor (List ℕ)) Global). v.items) (same_Some way c.index.result.now (sym is ∙ way_is)) ∙ sym c.as_slice.ensures.value)
           c.in_ok-all.ensures.first c.in_ok-all.ensures.second c.in_ok-one.ensures.bounds c.ways.invariant.first;
       long = c.in_ok-all.ensures.long c.ways.invariant.long c.in_ok-one.ensures.long;
     }
@@ -103,7 +105,7 @@ operand-returns-in_default-clause-bounds t c =
 
 pub operands-slots-init : goal.operands-slots-init
 operands-slots-init t c = record {
-  reaches = reaches_none c.args.self.now c.args.setting.now c.args.region.now c.args.plan.now c.args.parts.now c.args.texts.now c.args.goal.now c.in_ok-known.known c.in_ok-known.ensures.within;
+  reaches = reaches_none c.args.self.now c.args.setting.now c.args.region.now c.args.node.now c.in_ok-known.known c.in_ok-known.ensures.within;
   long = ap length c.in_ok-known.ensures.region;
 }
 
@@ -114,10 +116,9 @@ operands-returns-in_default-clause-bounds t c =
     let slot = c.index-slots-index.result in
     let within : i < length slots = omega arith in
     let slot_is = subst (λ (l : List Slot). slice_get l i ≡ Some slot) c.as_slice-slots.ensures.value (slice_get_read slots (length slots) i slot refl within c.index-slots-index.is) in
-    let at = c.args.goal.now.at in
-    reaches_nothing c.args.self.now c.args.setting.now c.args.region.now c.args.plan.now c.args.parts.now c.args.texts.now c.args.goal.now i slot slot_is
+    reaches_nothing c.args.self.now c.args.setting.now c.args.region.now c.args.node.now i slot slot_is
     c.slots.known c.text_of-text.result c.text_of-text.ensures
-    (subst (λ (o : Option Bounds). BoundsOperand c.args.self.now c.args.setting.now c.slots.known slot at c.text_of-text.result o) c.in_default.is c.in_ok-next.ensures.bounds)
+    (subst (λ (o : Option Bounds). BoundsOperand c.args.self.now c.args.setting.now c.slots.known slot c.args.node.now.goal.at c.text_of-text.result o) c.in_default.is c.in_ok-next.ensures.bounds)
     c.slots.invariant.reaches
 
 pub operands-slots-preserved : goal.operands-slots-preserved
@@ -127,21 +128,20 @@ operands-slots-preserved t c =
     let slot = c.index-slots-index.result in
     let within : i < length slots = omega arith in
     let slot_is = subst (λ (l : List Slot). slice_get l i ≡ Some slot) c.as_slice-slots.ensures.value (slice_get_read slots (length slots) i slot refl within c.index-slots-index.is) in
-    let at = c.args.goal.now.at in
     let long = subst (λ (o : Option Bounds). AreAsLong (length c.slots.known.region.items) o) c.in-Some.is c.in_ok-next.ensures.long in record {
-      reaches = reaches_more c.args.self.now c.args.setting.now c.args.region.now c.args.plan.now c.args.parts.now c.args.texts.now c.args.goal.now i slot slot_is
+      reaches = reaches_more c.args.self.now c.args.setting.now c.args.region.now c.args.node.now i slot slot_is
           c.slots.known c.add.new.self c.text_of-text.result c.text_of-text.ensures c.in-Some.bounds
-          (subst (λ (o : Option Bounds). BoundsOperand c.args.self.now c.args.setting.now c.slots.known slot at c.text_of-text.result o) c.in-Some.is c.in_ok-next.ensures.bounds)
+          (subst (λ (o : Option Bounds). BoundsOperand c.args.self.now c.args.setting.now c.slots.known slot c.args.node.now.goal.at c.text_of-text.result o) c.in-Some.is c.in_ok-next.ensures.bounds)
           c.in_ok-add.ensures.within c.slots.invariant.reaches;
       long = ap length c.in_ok-add.ensures.region ∙ long ∙ c.slots.invariant.long;
     }
 
 pub operands-returns-clause-bounds : goal.operands-returns-clause-bounds
 operands-returns-clause-bounds t c =
-    let slots = c.args.plan.now.slots.items in
+    let slots = c.args.node.now.plan.now.slots.items in
     let same = ap length c.as_slice-slots.ensures.value in
     let whole : length slots ≤ c.slots.index = omega (arith, same) in
-    reaches_all c.args.self.now c.args.setting.now c.args.region.now c.args.plan.now c.args.parts.now c.args.texts.now c.args.goal.now c.slots.index c.slots.known whole
+    reaches_all c.args.self.now c.args.setting.now c.args.region.now c.args.node.now c.slots.index c.slots.known whole
     c.slots.invariant.reaches
 
 -- ---- table
@@ -153,11 +153,31 @@ pub table-returns-then-depth-eq0-clause-bounds : goal.table-returns-then-depth-e
 table-returns-then-depth-eq0-clause-bounds t c = λ w inside before long text after known shown says. c.in_ok-same-2.ensures.within w.bytes long after inside
 
 pub table-places-preserved : goal.table-places-preserved
-table-places-preserved t c = record {
-  first = more_places c.args.self.now c.args.setting.now c.args.region.now c.in-Some.kept.now c.args.goal.now c.places.place c.places.all c.in_ok-one.one c.in_ok-all.all
-      c.in_ok-all.ensures.first c.in_ok-all.ensures.second c.in_ok-one.ensures.bounds c.places.invariant.first;
-  long = c.in_ok-all.ensures.long c.places.invariant.long c.in_ok-one.ensures.long;
-}
+table-places-preserved t c =
+    let r = c.args.self.now in
+    let setting = c.args.setting.now in
+    let region = c.args.region.now in
+    let kept = c.in-Some.kept.now in
+    let aim = c.args.goal.now in
+    let place = c.places.place in
+    let within : place < length kept.ctors.items = omega arith in
+    elim c.if-may_begin.branch [
+      | table-then-may_begin+in_ok-one+in_ok-all w ↦ record {
+        first = rw w.all-is (more_places r setting region kept aim place c.places.all w.in_ok-one.one w.in_ok-all.all
+            w.in_ok-all.ensures.first w.in_ok-all.ensures.second w.in_ok-one.ensures.bounds c.places.invariant.first);
+        long = rw w.all-is (w.in_ok-all.ensures.long c.places.invariant.long w.in_ok-one.ensures.long);
+      }
+      | table-else-may_begin w ↦
+          let number = c.index.result.now in
+          let number_is = slice_get_read kept.ctors.items (length kept.ctors.items) place number refl within c.index.ensures in
+          record {
+            first = rw w.all-is (more_places r setting region kept aim place c.places.all None c.places.all
+                (λ xs long after same h. h) (λ xs long after same h. absurd h)
+                (not_shown r c.requires.ready setting region kept place aim number number_is (parts_at r number) refl c.may_begin.result w.if-may_begin.false
+                (c.may_begin.ensures c.requires.ready)) c.places.invariant.first);
+            long = rw w.all-is c.places.invariant.long;
+          }
+    ]
 
 pub table-returns-clause-bounds : goal.table-returns-clause-bounds
 table-returns-clause-bounds t c =

@@ -36,6 +36,6 @@ invariant-displayed-ways l = record {
 
 abbrev pub invariant-operands-slots : goal.invariant-operands-slots
 invariant-operands-slots l = record {
-  reaches : ReachesAll l.self l.setting l.region l.plan l.parts l.texts l.goal l.index l.known;
+  reaches : ReachesAll l.self l.setting l.region l.node l.index l.known;
   long : length l.known.region.items ≡ length l.region;
 }

@@ -1,5 +1,5 @@
 use Rattle.sl_asm_values.specs.Halves.{IsLeft}
-use Rattle.sl_asm_values.proofs.narrowing.narrowed_by.Given as goal
+use Rattle.sl_asm_values.proofs.narrowing.by_bits.Given as goal
 
 abbrev pub invariant-rounds : goal.invariant-rounds
 invariant-rounds l = IsLeft l.fn.t l.fn.frame l.fn.region l.fn.v l.fn.wanted l.left
