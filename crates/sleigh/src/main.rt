@@ -1,13 +1,10 @@
 //! The program `sleigh`: the tool over the files of the machine, its standard output, and the emulator.
 #![tactic(auto)]
 
-mod calling;
-
-use crate::calling::call_tool;
 use sl_emu::KeepingEmu;
-use sl_outside::{DiskFiles, StdSink};
+use sl_outside::{DiskFiles, SinkError, StdSink};
 use sl_outside_buffered::BufferedSink;
-use sl_tool::Status;
+use sl_tool::{Status, run_tool};
 use std::io::{self, ErrorKind};
 use std::process::ExitCode;
 
@@ -33,5 +30,14 @@ fn called(rt: &HostRuntime, words: &[String]) -> Status {
         return Status::NoMemory;
     };
     let mut runner = KeepingEmu::new(alloc);
-    call_tool(alloc, words, &mut files, &mut out, &mut runner)
+    let status = run_tool(alloc, words, &mut files, &mut out, &mut runner);
+    // What still waits is written, too, unless the writing has failed already.
+    if status == Status::WriteFault {
+        return status;
+    }
+    match out.flush() {
+        Ok(()) => status,
+        Err(SinkError::Failed) => Status::WriteFault,
+        Err(SinkError::NoMemory) => Status::NoMemory,
+    }
 }
