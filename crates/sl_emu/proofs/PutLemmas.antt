@@ -1,15 +1,18 @@
 -- What follows a number that is put into a varnode.
-use Rattle.std.proofs.Common.{◌≡◌, ℕ, ◌+◌, ◌-◌, ◌%◌, ◌^◌, ◌<◌, ◌≤◌, List, length, sym, ap, subst, ◌∙◌, arith}
+use Rattle.std.proofs.Common.{◌≡◌, ℕ, ◌+◌, ◌-◌, ◌%◌, ◌^◌, ◌<◌, ◌≤◌, List, false, length, refl, sym, ap, subst, ◌∙◌, arith}
 use Rattle.std.specs.Prelude.{if◌then◌else◌, ◌&&◌, ◌==◌, nat_lt}
 use Rattle.std.proofs.Math.Nat.{mod-add-mod}
 use Rattle.sl_word.specs.Bytes.{KeepsOthers, PutsBytes, address_size, address_sizes, byte_at, endian_of}
 use Rattle.sl_word.specs.Layout.{byte_of}
 use Rattle.sl_word.specs.Memories.{Memory, loaded, stored}
+use Rattle.sl_word.specs.Operations.{IsDivision}
+use Rattle.sl_word.specs.declared.operation.Op2.{Op2}
+use Rattle.sl_word.specs.declared.operation.Op2.TheVariants.{IntAdd, IntSub, IntMult, IntDiv, IntRem, IntSdiv, IntSrem, IntLeft, IntRight, IntSright, IntAnd, IntOr, IntXor, IntEqual, IntNotEqual, IntLess, IntLessEqual, IntSless, IntSlessEqual, IntCarry, IntScarry, IntSborrow, BoolAnd, BoolOr, BoolXor, Subpiece}
 use Rattle.sl_word.specs.declared.state.State.{State}
 use Rattle.sl_word.specs.declared.word.SpaceId.{SpaceId}
 use Rattle.sl_word.proofs.Powers.{low-wrap}
 use Rattle.sl_word.proofs.Written.{address_size-range, memory-stored}
-use Rattle.sl_pcode.specs.Machine.{Run, Temporaries as Bytes, put_at}
+use Rattle.sl_pcode.specs.Machine.{Run, Temporaries as Bytes, has_no_value, put_at}
 use Rattle.sl_pcode.specs.WellFormed.{IsAtPlace, IsTargetAt}
 use Rattle.sl_pcode.specs.declared.varnode.Place2.{Place2}
 use Rattle.sl_pcode.specs.declared.varnode.Place2.TheVariants.{Const, Unique, In}
@@ -59,3 +62,32 @@ pub near : (sizes : List ℕ) (place : Place2) (offset bytes : ℕ) → IsTarget
 near sizes Const offset bytes four below = let same : 256 ^ bytes ≡ 2 ^ 32 = ap (λ n. 256 ^ n) four in omega (arith, same)
 near sizes Unique offset bytes four below = tt
 near sizes (In space) offset bytes four below = tt
+
+-- An operation that is no division has a value.
+pub has_value : (op : Op2) (b : ℕ) → (IsDivision op → ⊥) → has_no_value op b ≡ false
+has_value IntAdd b whole = refl
+has_value IntSub b whole = refl
+has_value IntMult b whole = refl
+has_value IntDiv b whole = absurd (whole tt)
+has_value IntRem b whole = absurd (whole tt)
+has_value IntSdiv b whole = absurd (whole tt)
+has_value IntSrem b whole = absurd (whole tt)
+has_value IntLeft b whole = refl
+has_value IntRight b whole = refl
+has_value IntSright b whole = refl
+has_value IntAnd b whole = refl
+has_value IntOr b whole = refl
+has_value IntXor b whole = refl
+has_value IntEqual b whole = refl
+has_value IntNotEqual b whole = refl
+has_value IntLess b whole = refl
+has_value IntLessEqual b whole = refl
+has_value IntSless b whole = refl
+has_value IntSlessEqual b whole = refl
+has_value IntCarry b whole = refl
+has_value IntScarry b whole = refl
+has_value IntSborrow b whole = refl
+has_value BoolAnd b whole = refl
+has_value BoolOr b whole = refl
+has_value BoolXor b whole = refl
+has_value Subpiece b whole = refl

@@ -5,10 +5,10 @@ use Rattle.std.specs.Prelude.{if◌then◌else◌, ◌&&◌, nat_lt, nat_le}
 use Rattle.std.specs.List.{HoldsAt, slice_get}
 use Rattle.std.proofs.lemmas.Bool.{cases_lt}
 use Rattle.std.proofs.lemmas.Bool.Decides.{nat_tests}
-use Rattle.std.proofs.lemmas.List.{get_or-set_other, get_or-set_same, length-set, places}
+use Rattle.std.proofs.lemmas.List.{get_or-set_other, get_or-set_same, length-set}
 use Rattle.std.proofs.lemmas.Option.{slice_get_cases, slice_get-get_or}
-use borrow.Rule.Slice.PartMut.{put_mid}
 use Rattle.sl_word.specs.Layout.{big_endian, little_endian, number_of}
+use Rattle.sl_word.specs.Runs.{with_run}
 use Rattle.sl_word.specs.declared.word.Endian.{Endian}
 use Rattle.sl_word.specs.declared.word.Endian.TheVariants.{Little, Big}
 use Rattle.sl_pcode.specs.Machine.{with_temporaries}
@@ -38,25 +38,11 @@ before offset o n x y less = grind (arith, nat_tests)
 behind : (offset o n x y : ℕ) → offset + n ≤ o → (if nat_le offset o && nat_lt o (offset + n) then x else y) ≡ y
 behind offset o n x y more = grind (arith, nat_tests)
 
--- a list of bytes with others over a part of it
-pub overwritten : (offset n k : ℕ) (bytes ys : List ℕ) (byte : ℕ → ℕ) → k ≡ n → offset + n ≤ length bytes → length ys ≡ n → ((i : ℕ) → i < n → get_or ys i 0 ≡ byte i) → (o : ℕ)
-    → get_or (put_mid offset k bytes ys) o 0 ≡ with_temporaries offset n byte (λ i. get_or bytes i 0) o
-overwritten offset n k bytes ys byte same room whole is o =
-    elim (cases_lt o offset) [
-      | inl less ↦
-          (let e : get_or (put_mid offset k bytes ys) o 0 ≡ get_or bytes o 0 = grind (arith, places) in e)
-          ∙ sym (before offset o n (byte (o - offset)) (get_or bytes o 0) less)
-      | inr from ↦
-          elim (cases_lt o (offset + n)) [
-            | inl below ↦
-                (let e : get_or (put_mid offset k bytes ys) o 0 ≡ get_or ys (o - offset) 0 = grind (arith, places) in e)
-                ∙ is (o - offset) (omega arith)
-                ∙ sym (here offset o n (byte (o - offset)) (get_or bytes o 0) from below)
-            | inr more ↦
-                (let e : get_or (put_mid offset k bytes ys) o 0 ≡ get_or bytes o 0 = grind (arith, places) in e)
-                ∙ sym (behind offset o n (byte (o - offset)) (get_or bytes o 0) more)
-          ]
-    ]
+-- bytes that are put over others
+pub run_is : (offset n : ℕ) (byte bytes : ℕ → ℕ) (o : ℕ) → with_run offset 0 n byte bytes o ≡ with_temporaries offset n byte bytes o
+run_is offset n byte bytes o =
+    let index : 0 + (o - offset) ≡ o - offset = omega arith in
+    ap (λ i. if nat_le offset o && nat_lt o (offset + n) then byte i else bytes o) index
 
 -- ---- blocks of 2^20 bytes
 

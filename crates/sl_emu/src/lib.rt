@@ -4,6 +4,7 @@
 mod emu;
 mod laws;
 mod narrow;
+mod operands;
 mod perform;
 mod run;
 mod step;

@@ -2,44 +2,18 @@
 
 ghost use Rattle.std.specs.Prelude.{◌≡◌, ◌*◌, ◌+◌, ◌-◌, ◌/◌, ◌%◌, ◌^◌, ◌<◌, ◌≤◌, ◌↔◌};
 ghost use Rattle.std.specs.Prelude.{bit_and, bit_or, bit_xor, pos, neg_ℤ, ◌-ℤ◌, int_lt, int_le};
-ghost use Rattle.std.specs.Prelude.{IsTrue, IsErr, IfOk, IfSome};
+ghost use Rattle.std.specs.Prelude.{IsTrue, IfSome};
 ghost use Rattle.std.specs.Int.{from_bool, int_shr};
 ghost use Rattle.sl_word.specs.Numbers.{residue, signed_value};
 ghost use Rattle.sl_word.specs.Operations.{IsDivision, TakesSizes1, TakesSizes2, value1, value2};
 
-use sl_word::{DivideByZero, Op1, Op2, Size, Word, apply1, apply2};
+use sl_word::{Narrow, Op1, Op2, Size};
 
-// Words of more bytes than this go as words.
-const MOST_BYTES: u8 = 8;
-
-// A word of at most 8 bytes: `bits` is below 256^size.
-#[derive(Clone, Copy, Debug, PartialEq, Eq)]
-struct Narrow {
-    bits: u64,
-    size: Size,
-    ghost in_range: { bits < 256 ^ size.bytes },
-    ghost at_most_8: { size.bytes ≤ 8 },
-}
-
-impl Narrow {
-    // A word, where it has at most 8 bytes.
-    fn of(word: Word) -> Option<Narrow>
-        ensures { IfSome result (λ a. (a.bits ≡ word.bits) × (a.size ≡ word.size)) }
-    {
-        let size = word.size;
-        if MOST_BYTES < size.bytes {
-            return None;
-        }
-        let bits = word.bits as u64;
-        Some(Narrow { bits, size })
-    }
-
-    // The number is in the upper half of its size.
-    fn is_negative(self) -> bool
-        ensures { IsTrue result ↔ (256 ^ self.size.bytes ≤ 2 * self.bits) }
-    {
-        self.bits > greatest(self.size) / 2
-    }
+// The number is in the upper half of its size.
+fn is_negative(a: Narrow) -> bool
+    ensures { IsTrue result ↔ (256 ^ a.size.bytes ≤ 2 * a.bits) }
+{
+    a.bits > greatest(a.size) / 2
 }
 
 // The greatest number of a size.
@@ -59,49 +33,8 @@ fn low(value: u64, size: Size) -> u64
     value & greatest(size)
 }
 
-/// The result of an operation on one word, of the size `out`.
-pub(crate) fn result1(op: Op1, a: Word, out: Size) -> Word
-    requires { TakesSizes1 op a.size.bytes out.bytes }
-    ensures size { result.size ≡ out }
-    ensures value { result.bits ≡ value1 op a.size.bytes out.bytes a.bits }
-{
-    if let Some(narrow) = Narrow::of(a) {
-        if let Some(bits) = bits1(op, narrow, out) {
-            return wide(bits, out);
-        }
-    }
-    apply1(op, a, out)
-}
-
-/// The result of an operation on two words, of the size `out`.
-pub(crate) fn result2(op: Op2, a: Word, b: Word, out: Size) -> Result<Word, DivideByZero>
-    requires { TakesSizes2 op a.size.bytes b.size.bytes out.bytes b.bits }
-    ensures divide_by_zero { IsErr result ↔ (IsDivision op × (b.bits ≡ 0)) }
-    ensures size { IfOk result (λ word. word.size ≡ out) }
-    ensures value { IfOk result (λ word. word.bits ≡ value2 op a.size.bytes out.bytes a.bits b.bits) }
-{
-    if let (Some(x), Some(y)) = (Narrow::of(a), Narrow::of(b)) {
-        if let Some(bits) = bits2(op, x, y, out) {
-            return Ok(wide(bits, out));
-        }
-    }
-    apply2(op, a, b, out)
-}
-
-// The word of a number.
-#[inline(always)]
-fn wide(bits: u64, size: Size) -> Word
-    requires { bits < 256 ^ size.bytes }
-    ensures size { result.size ≡ size }
-    ensures value { result.bits ≡ bits }
-{
-    let bits = u128::from(bits);
-    Word { bits, size }
-}
-
-// The number that an operation makes of one. None where it isn't made here.
-#[inline(always)]
-fn bits1(op: Op1, a: Narrow, out: Size) -> Option<u64>
+/// The number that an operation makes of one. None where it isn't made here.
+pub(crate) fn bits1(op: Op1, a: Narrow, out: Size) -> Option<u64>
     requires { TakesSizes1 op a.size.bytes out.bytes }
     ensures value { IfSome result (λ bits. bits ≡ value1 op a.size.bytes out.bytes a.bits) }
     ensures below { IfSome result (λ bits. bits < 256 ^ out.bytes) }
@@ -116,9 +49,8 @@ fn bits1(op: Op1, a: Narrow, out: Size) -> Option<u64>
     }
 }
 
-// The number that an operation makes of two. None where it isn't made here, as no division is.
-#[inline(always)]
-fn bits2(op: Op2, a: Narrow, b: Narrow, out: Size) -> Option<u64>
+/// The number that an operation makes of two. None where it isn't made here, as no division is.
+pub(crate) fn bits2(op: Op2, a: Narrow, b: Narrow, out: Size) -> Option<u64>
     requires { TakesSizes2 op a.size.bytes b.size.bytes out.bytes b.bits }
     ensures value { IfSome result (λ bits. bits ≡ value2 op a.size.bytes out.bytes a.bits b.bits) }
     ensures below { IfSome result (λ bits. bits < 256 ^ out.bytes) }
@@ -255,7 +187,7 @@ fn signed_shifted_right(a: Narrow, amount: u64) -> u64
     ensures below { result < 256 ^ a.size.bytes }
 {
     let greatest = greatest(a.size);
-    if a.is_negative() {
+    if is_negative(a) {
         greatest - shifted_right(greatest - a.bits, amount)
     } else {
         shifted_right(a.bits, amount)
@@ -277,12 +209,12 @@ fn sign_extended(a: Narrow, out: Size) -> Option<u64>
     ensures value { IfSome result (λ bits. bits ≡ residue out.bytes (signed_value a.size.bytes a.bits)) }
     ensures below { IfSome result (λ bits. bits < 256 ^ out.bytes) }
 {
-    if MOST_BYTES < out.bytes {
+    if !out.is_narrow() {
         return None;
     }
     let greatest_own = greatest(a.size);
     let greatest_out = greatest(out);
-    if a.is_negative() {
+    if is_negative(a) {
         Some(greatest_out - (greatest_own - a.bits))
     } else {
         Some(a.bits)
@@ -308,8 +240,8 @@ fn is_signed_less(a: Narrow, b: Narrow) -> bool
     requires { b.size.bytes ≡ a.size.bytes }
     ensures { result ≡ int_lt (signed_value a.size.bytes a.bits) (signed_value a.size.bytes b.bits) }
 {
-    let negative = a.is_negative();
-    if negative == b.is_negative() {
+    let negative = is_negative(a);
+    if negative == is_negative(b) {
         a.bits < b.bits
     } else {
         negative

@@ -8,40 +8,38 @@ ghost use Rattle.sl_pcode.specs.declared.code.Kind.TheVariants as kind;
 ghost use Rattle.sl_emu.specs.Steps.{OpDoes};
 ghost use Rattle.sl_emu.specs.Temporaries.{order_of, temporary_bytes};
 
-use crate::step::{Then, binary, cbranch, load, step, store, unary};
+use crate::operands::{binary, cbranch, load, store, unary};
+use crate::step::{Then, step};
 use crate::temporaries::Temporaries;
 use sl_pcode::{Kind, Op, Varnode};
 use sl_word::{Op1, Op2, State};
 use std::alloc::AllocError;
 
 // The output and the input of an operation that has these alone.
-#[inline(always)]
-fn one_input(op: &Op) -> Option<(Varnode, Varnode)>
-    ensures { IfSome result (λ p. (op.now.out ≡ Some p.0) × (op.now.inputs.items ≡ p.1 ∷ [])) }
+fn one_input(op: &Op) -> Option<(&Varnode, &Varnode)>
+    ensures { IfSome result (λ p. (op.now.out ≡ Some p.0.now) × (op.now.inputs.items ≡ p.1.now ∷ [])) }
 {
     let [a] = op.inputs.as_slice() else {
         return None;
     };
-    let out = op.out?;
-    Some((out, *a))
+    let out = op.out.as_ref()?;
+    Some((out, a))
 }
 
 // The output and the two inputs of an operation that has these alone.
-#[inline(always)]
-fn two_inputs(op: &Op) -> Option<(Varnode, Varnode, Varnode)>
-    ensures { IfSome result (λ p. (op.now.out ≡ Some p.0) × (op.now.inputs.items ≡ p.1 ∷ p.2 ∷ [])) }
+fn two_inputs(op: &Op) -> Option<(&Varnode, &Varnode, &Varnode)>
+    ensures { IfSome result (λ p. (op.now.out ≡ Some p.0.now) × (op.now.inputs.items ≡ p.1.now ∷ p.2.now ∷ [])) }
 {
     let [a, b] = op.inputs.as_slice() else {
         return None;
     };
-    let out = op.out?;
-    Some((out, *a, *b))
+    let out = op.out.as_ref()?;
+    Some((out, a, b))
 }
 
 // The two inputs of an operation that has these alone, and no output.
-#[inline(always)]
-fn two_operands(op: &Op) -> Option<(Varnode, Varnode)>
-    ensures { IfSome result (λ p. (op.now.out ≡ None) × (op.now.inputs.items ≡ p.0 ∷ p.1 ∷ [])) }
+fn two_operands(op: &Op) -> Option<(&Varnode, &Varnode)>
+    ensures { IfSome result (λ p. (op.now.out ≡ None) × (op.now.inputs.items ≡ p.0.now ∷ p.1.now ∷ [])) }
 {
     if op.out.is_some() {
         return None;
@@ -49,13 +47,12 @@ fn two_operands(op: &Op) -> Option<(Varnode, Varnode)>
     let [a, b] = op.inputs.as_slice() else {
         return None;
     };
-    Some((*a, *b))
+    Some((a, b))
 }
 
 // The three inputs of an operation that has these alone, and no output.
-#[inline(always)]
-fn three_inputs(op: &Op) -> Option<(Varnode, Varnode, Varnode)>
-    ensures { IfSome result (λ p. (op.now.out ≡ None) × (op.now.inputs.items ≡ p.0 ∷ p.1 ∷ p.2 ∷ [])) }
+fn three_inputs(op: &Op) -> Option<(&Varnode, &Varnode, &Varnode)>
+    ensures { IfSome result (λ p. (op.now.out ≡ None) × (op.now.inputs.items ≡ p.0.now ∷ p.1.now ∷ p.2.now ∷ [])) }
 {
     if op.out.is_some() {
         return None;
@@ -63,7 +60,7 @@ fn three_inputs(op: &Op) -> Option<(Varnode, Varnode, Varnode)>
     let [a, b, c] = op.inputs.as_slice() else {
         return None;
     };
-    Some((*a, *b, *c))
+    Some((a, b, c))
 }
 
 // Does what an operation does, by its effect. Where memory runs out the state is as before.

@@ -11,10 +11,9 @@ ghost use Rattle.sl_pcode.specs.declared.effect.Effect.TheVariants as effect;
 ghost use Rattle.sl_emu.specs.Steps.{Does, IsNear, IsTargetThen};
 ghost use Rattle.sl_emu.specs.Temporaries.{order_of, temporary_bytes};
 
-use crate::narrow::{result1, result2};
 use crate::temporaries::Temporaries;
 use sl_pcode::{Effect, Place2, Varnode};
-use sl_word::{Op1, Op2, Size, SpaceId, State, UserId, Word};
+use sl_word::{Op1, Op2, SpaceId, State, UserId, Word, apply1, apply2};
 use std::alloc::AllocError;
 
 /// What follows an operation.
@@ -98,7 +97,7 @@ pub(crate) fn unary(
         ≡ next (byte_at state.new) (temporary_bytes t.new)) }
     ensures unchanged { OnErr result (byte_at state.new ≡ byte_at state.old) }
 {
-    let word = result1(op, read(state, t, a), out.size);
+    let word = apply1(op, read(state, t, a), out.size);
     write(state, t, out, word)
 }
 
@@ -124,7 +123,7 @@ pub(crate) fn binary(
     ensures unchanged { OnErr result (byte_at state.new ≡ byte_at state.old) }
 {
     let (a, b) = (read(state, t, a), read(state, t, b));
-    let Ok(word) = result2(op, a, b, out.size) else {
+    let Ok(word) = apply2(op, a, b, out.size) else {
         return Ok(Then::DividesByZero);
     };
     write(state, t, out, word)?;
@@ -188,7 +187,7 @@ pub(crate) fn store(
 }
 
 // What follows a jump to a target.
-fn target_then(target: Varnode) -> Then
+pub(crate) fn target_then(target: Varnode) -> Then
     requires { IsNear target.place target.offset }
     ensures { IsTargetThen target result }
 {

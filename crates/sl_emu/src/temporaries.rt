@@ -6,7 +6,7 @@ ghost use Rattle.sl_word.specs.Layout.{byte_of, number_of};
 ghost use Rattle.sl_pcode.specs.Machine.{with_temporaries};
 ghost use Rattle.sl_emu.specs.Blocks.{bytes_in};
 
-use sl_word::{Endian, Size, Word};
+use sl_word::{Endian, Narrow, Size, Word, eight_at, overwrite};
 use std::alloc::{AllocError, Global};
 
 // So many offsets have a buffer of their own.
@@ -69,6 +69,16 @@ impl Temporaries {
         word_at(&self.blocks, self.endian, offset, size)
     }
 
+    // The same, of at most 8 bytes.
+    pub(crate) fn read_narrow(&self, offset: u64, size: Size) -> Narrow
+        requires range { offset + size.bytes ≤ 2 ^ 32 }
+        requires narrow { size.bytes ≤ 8 }
+        ensures size { result.size ≡ size }
+        ensures value { result.bits ≡ number_of (order_of self.now) (λ i. temporary_bytes self.now (offset + i)) size.bytes }
+    {
+        narrow_at(&self.blocks, self.endian, offset, size)
+    }
+
     // Puts the bytes of a word from an offset on.
     pub(crate) fn write(&mut self, offset: u64, word: Word) -> Result<(), AllocError>
         requires { offset + word.size.bytes ≤ 2 ^ 32 }
@@ -76,8 +86,31 @@ impl Temporaries {
         ensures put { OnOk result (temporary_bytes self.new
             ≡ with_temporaries offset word.size.bytes (byte_of (order_of self.old) word.size.bytes word.bits) (temporary_bytes self.old)) }
     {
+        let whole = word.in_memory(self.endian);
+        self.put(offset, &whole[..usize::from(word.size.get())])
+    }
+
+    // The same, of at most 8 bytes.
+    pub(crate) fn write_narrow(&mut self, offset: u64, word: Narrow) -> Result<(), AllocError>
+        requires { offset + word.size.bytes ≤ 2 ^ 32 }
+        ensures order { order_of self.new ≡ order_of self.old }
+        ensures put { OnOk result (temporary_bytes self.new
+            ≡ with_temporaries offset word.size.bytes (byte_of (order_of self.old) word.size.bytes word.bits) (temporary_bytes self.old)) }
+    {
+        let whole = word.in_memory(self.endian);
+        self.put(offset, &whole[..usize::from(word.size.get())])
+    }
+
+    // Puts bytes from an offset on.
+    fn put(&mut self, offset: u64, bytes: &[u8]) -> Result<(), AllocError>
+        requires few { length bytes.now ≤ 16 }
+        requires near { offset + length bytes.now ≤ 2 ^ 32 }
+        ensures order { order_of self.new ≡ order_of self.old }
+        ensures put { OnOk result ((o : ℕ) → temporary_bytes self.new o
+            ≡ with_temporaries offset (length bytes.now) (slice_index bytes.now) (temporary_bytes self.old) o) }
+    {
         self.written = true;
-        put_word(self.alloc, &mut self.blocks, self.endian, offset, word)
+        put_run(self.alloc, &mut self.blocks, offset, bytes)
     }
 }
 
@@ -117,7 +150,7 @@ fn word_at(blocks: &[Vec<u8>], endian: Endian, offset: u64, size: Size) -> Word
 {
     let count = usize::from(size.get());
     match in_block(blocks, offset, count) {
-        Some(bytes) => word_of(endian, size, bytes),
+        Some(bytes) => Word::from_bytes(endian, size, bytes),
         None => {
             let whole = front_of(blocks, offset);
             Word::from_bytes(endian, size, &whole[..count])
@@ -125,58 +158,18 @@ fn word_at(blocks: &[Vec<u8>], endian: Endian, offset: u64, size: Size) -> Word
     }
 }
 
-// The word of a size that bytes make.
-fn word_of(endian: Endian, size: Size, bytes: &[u8]) -> Word
-    requires { length bytes.now ≡ size.bytes }
+// The same, of at most 8 bytes.
+fn narrow_at(blocks: &[Vec<u8>], endian: Endian, offset: u64, size: Size) -> Narrow
+    requires range { offset + size.bytes ≤ 2 ^ 32 }
+    requires narrow { size.bytes ≤ 8 }
     ensures size { result.size ≡ size }
-    ensures value { result.bits ≡ number_of endian (slice_index bytes.now) size.bytes }
+    ensures value { result.bits ≡ number_of endian (λ i. bytes_in blocks.now (offset + i)) size.bytes }
 {
-    match short_number(endian, bytes) {
-        Some(bits) => {
-            let bits = u128::from(bits);
-            Word { bits, size }
-        }
-        None => Word::from_bytes(endian, size, bytes),
+    if let Some(bytes) = in_block(blocks, offset, 8) {
+        return Narrow::from_first(endian, size, eight_at(bytes, 0));
     }
-}
-
-// The number that bytes make, where there are 1, 2 or 4, as most numbers have.
-#[inline(always)]
-fn short_number(endian: Endian, bytes: &[u8]) -> Option<u32>
-    ensures value { IfSome result (λ n. n ≡ number_of endian (slice_index bytes.now) (length bytes.now)) }
-    ensures below { IfSome result (λ n. n < 256 ^ length bytes.now) }
-{
-    match bytes {
-        [a] => Some(u32::from(*a)),
-        [a, b] => Some(pair(endian, *a, *b)),
-        [a, b, c, d] => Some(quad(endian, *a, *b, *c, *d)),
-        _ => None,
-    }
-}
-
-// The number that two bytes make.
-#[inline(always)]
-fn pair(endian: Endian, a: u8, b: u8) -> u32
-    ensures value { result ≡ number_of endian (slice_index (a ∷ b ∷ [])) 2 }
-    ensures below { result < 65536 }
-{
-    let (a, b) = (u32::from(a), u32::from(b));
-    match endian {
-        Endian::Little => a + 256 * b,
-        Endian::Big => 256 * a + b,
-    }
-}
-
-// The number that four bytes make.
-#[inline(always)]
-fn quad(endian: Endian, a: u8, b: u8, c: u8, d: u8) -> u32
-    ensures value { result ≡ number_of endian (slice_index (a ∷ b ∷ c ∷ d ∷ [])) 4 }
-    ensures below { result < 4294967296 }
-{
-    match endian {
-        Endian::Little => pair(endian, a, b) + 65536 * pair(endian, c, d),
-        Endian::Big => 65536 * pair(endian, a, b) + pair(endian, c, d),
-    }
+    let bits = word_at(blocks, endian, offset, size).bits as u64;
+    Narrow { bits, size }
 }
 
 // The bytes from an offset on, where all of them are there in one block.
@@ -203,41 +196,6 @@ fn front_of(blocks: &[Vec<u8>], offset: u64) -> [u8; 16]
         whole[place] = byte_at(blocks, offset + place as u64);
     }
     whole
-}
-
-// Puts the bytes of a word from an offset on.
-fn put_word(
-    alloc: Global,
-    blocks: &mut Vec<Vec<u8>>,
-    endian: Endian,
-    offset: u64,
-    word: Word,
-) -> Result<(), AllocError>
-    requires { offset + word.size.bytes ≤ 2 ^ 32 }
-    ensures { OnOk result ((o : ℕ) → bytes_in blocks.new.items o
-        ≡ with_temporaries offset word.size.bytes (byte_of endian word.size.bytes word.bits) (bytes_in blocks.old.items) o) }
-{
-    let whole = bytes_of(endian, word);
-    put_run(
-        alloc,
-        blocks,
-        offset,
-        &whole[..usize::from(word.size.get())],
-    )
-}
-
-// The bytes of a word in memory order, and any behind them.
-fn bytes_of(endian: Endian, word: Word) -> [u8; 16]
-    ensures { (i : ℕ) → i < word.size.bytes → slice_index result i ≡ byte_of endian word.size.bytes word.bits i }
-{
-    match endian {
-        Endian::Little => word.bits.to_le_bytes(),
-        Endian::Big => {
-            let mut whole = [0; 16];
-            word.put_into(endian, &mut whole[..usize::from(word.size.get())]);
-            whole
-        }
-    }
 }
 
 // Puts bytes from an offset on.
@@ -298,22 +256,18 @@ fn put_bytes(block: &mut Vec<u8>, place: usize, bytes: &[u8]) -> Result<(), Allo
         ≡ with_temporaries place (length bytes.now) (slice_index bytes.now) (slice_index block.old.items) o) }
 {
     reach(block, place + bytes.len())?;
-    overwrite(block.as_mut_slice(), place, bytes);
+    put_over(block.as_mut_slice(), place, bytes);
     Ok(())
 }
 
 // Puts bytes over others.
-fn overwrite(block: &mut [u8], place: usize, bytes: &[u8])
+fn put_over(block: &mut [u8], place: usize, bytes: &[u8])
     requires { place + length bytes.now ≤ length block.old }
     ensures length { length block.new ≡ length block.old }
     ensures put { (o : ℕ) → slice_index block.new o
         ≡ with_temporaries place (length bytes.now) (slice_index bytes.now) (slice_index block.old) o }
 {
-    if let [byte] = bytes {
-        block[place] = *byte;
-        return;
-    }
-    block[place..place + bytes.len()].copy_from_slice(bytes);
+    overwrite(block, place, bytes, 0, bytes.len());
 }
 
 // Makes a block at least `end` bytes long, with zeros.
@@ -323,7 +277,7 @@ fn reach(block: &mut Vec<u8>, end: usize) -> Result<(), AllocError>
     ensures same { (o : ℕ) → slice_index block.new.items o ≡ slice_index block.old.items o }
 {
     if block.len() < end {
-        block.resize((2 * end).min(BLOCK as usize), 0)?;
+        block.resize((2 * end + 16).min(BLOCK as usize), 0)?;
     }
     Ok(())
 }

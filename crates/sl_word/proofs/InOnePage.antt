@@ -1,19 +1,21 @@
 -- Numbers whose bytes lie in one page, and the bytes by which std lays out numbers.
-use Rattle.std.proofs.Common.{◌≡◌, ℕ, zero, suc, ◌+◌, ◌-◌, ◌*◌, ◌/◌, ◌%◌, ◌^◌, ◌<◌, ◌≤◌, List, Some, None, get_or, refl, sym, ◌∙◌, ap, subst, inl, inr, add-one, arith}
+use Rattle.std.proofs.Common.{◌≡◌, ℕ, zero, suc, ◌+◌, ◌-◌, ◌*◌, ◌/◌, ◌%◌, ◌^◌, ◌<◌, ◌≤◌, List, Some, None, get_or, refl, sym, ◌∙◌, ap, subst, add-one, arith}
 use Rattle.std.specs.Option.{option_map_or}
-use Rattle.std.specs.BTreeMap.{get}
-use Rattle.std.specs.Ordering.{nat_cmp}
-use Rattle.std.specs.Int.{byte_at, byte_worth, bytes_high_first, bytes_low_first, from_be_bytes, from_le_bytes, sum_through, w128}
-use Rattle.std.proofs.Math.Nat.{div-one, mod-add-mod, mod-eq_of_lt, mod-lt, pow-suc}
+use Rattle.std.specs.Int.{byte_at, byte_worth, bytes_high_first, bytes_low_first, from_be_bytes, from_le_bytes, sum_through, w64, w128}
+use Rattle.std.proofs.Math.Nat.{add-mul-mod_self_left, div-div-eq-div-mul, div-one, mod-add-mod, mod-eq_of_lt, mod-lt, mul-div_cancel, pow-suc, pow-succ'}
+use Rattle.std.proofs.Math.Pow.{pow-add}
+use Rattle.std.proofs.lemmas.Nat.{div-mul-add, mul-add-lt}
+use Rattle.std.specs.Int.Bits.{bit_and}
 use Rattle.sl_word.specs.declared.page.Page.{Page}
 use Rattle.sl_word.specs.declared.space.Space.{Space}
 use Rattle.sl_word.specs.declared.word.Endian.{Endian}
 use Rattle.sl_word.specs.declared.word.Endian.TheVariants.{Little, Big}
 use Rattle.sl_word.specs.Layout.{Puts, big_endian, byte_of, little_endian, number_of}
-use Rattle.sl_word.specs.Pages.{byte_in, with_run}
+use Rattle.sl_word.specs.Pages.{byte_in, page_of}
+use Rattle.sl_word.specs.Runs.{with_run}
 use Rattle.sl_word.proofs.LayoutLaws.{number_of-same}
 use Rattle.sl_word.proofs.Memory.{Puts-none, Puts-run, byte_above, byte_below_it}
-use Rattle.sl_word.proofs.TwosComplement.{sum-cut}
+use Rattle.sl_word.proofs.Powers.{bytes-bits, bytes_pos, drop-bytes, low-mask}
 
 -- what a byte is worth
 worth_is : (i b : ℕ) → byte_worth i b ≡ b * 256 ^ i
@@ -124,14 +126,80 @@ high_byte i zero n h = absurd (omega arith)
 high_byte zero (suc k) n h = let place : k ≡ suc k - 1 - 0 = omega arith in ap (λ p. byte_at p n) place
 high_byte (suc i) (suc k) n h = let place : k - 1 - i ≡ suc k - 1 - suc i = omega arith in high_byte i k n (omega arith) ∙ ap (λ p. byte_at p n) place
 
--- the byte at a place of a number laid out by std
-pub little_bytes : (n size i : ℕ) → i < size → size ≤ 16 → get_or (bytes_low_first 0 16 n) i 0 ≡ byte_of Little size n i
-little_bytes n size i below short = let place : i + 0 ≡ i = omega arith in low_byte i 0 16 n (omega arith) ∙ ap (λ p. byte_at p n) place ∙ byte_is i n
+-- the byte at a place of a number of a size laid out by std in k bytes, the least significant first
+pub little_bytes : (k n size i : ℕ) → i < size → size ≤ k → get_or (bytes_low_first 0 k n) i 0 ≡ byte_of Little size n i
+little_bytes k n size i below short = let place : i + 0 ≡ i = omega arith in low_byte i 0 k n (omega arith) ∙ ap (λ p. byte_at p n) place ∙ byte_is i n
 
-pub big_bytes : (n size i : ℕ) → i < size → size ≤ 16 → get_or (bytes_high_first 16 n) (16 - size + i) 0 ≡ byte_of Big size n i
-big_bytes n size i below short =
-    let place : 16 - 1 - (16 - size + i) ≡ size - 1 - i = omega arith in
-    high_byte (16 - size + i) 16 n (omega arith) ∙ ap (λ p. byte_at p n) place ∙ byte_is (size - 1 - i) n
+-- the same of a number that was moved up to the first byte, the most significant first
+pub big_bytes : (k n size i : ℕ) → i < size → size ≤ k → get_or (bytes_high_first k (n * 256 ^ (k - size))) i 0 ≡ byte_of Big size n i
+big_bytes k n size i below short =
+    let moved : ℕ = n * 256 ^ (k - size) in
+    let place : k - 1 - i ≡ (k - size) + (size - 1 - i) = omega arith in
+    high_byte i k (n * 256 ^ (k - size)) (omega arith)
+    ∙ byte_is (k - 1 - i) (n * 256 ^ (k - size))
+    ∙ ap (λ e. n * 256 ^ (k - size) / 256 ^ e % 256) place
+    ∙ ap (λ m. n * 256 ^ (k - size) / m % 256) (pow-add 256 (k - size) (size - 1 - i))
+    ∙ ap (λ m. m % 256) (sym (div-div-eq-div-mul (n * 256 ^ (k - size)) (256 ^ (k - size)) (256 ^ (size - 1 - i))))
+    ∙ ap (λ m. m / 256 ^ (size - 1 - i) % 256) (mul-div_cancel n (bytes_pos (k - size)))
+
+-- how a number is moved up to the first byte
+pub moved_up : (k n size s : ℕ) → size ≤ k → n < 256 ^ size → s ≡ 8 * size → n * 2 ^ (8 * k - s) % 2 ^ (8 * k) ≡ n * 256 ^ (k - size)
+moved_up k n size s short below e =
+    let places : 8 * k - s ≡ 8 * (k - size) = omega arith in
+    let size_k : size + (k - size) ≡ k = omega arith in
+    let room : n * 256 ^ (k - size) < 256 ^ k = subst (λ (m : ℕ). n * 256 ^ (k - size) < m) (sym (pow-add 256 size (k - size)) ∙ ap (λ m. 256 ^ m) size_k) (omega (arith, mul-add-lt n (256 ^ (k - size)) 0 (256 ^ size) below (bytes_pos (k - size)))) in
+    ap (λ m. n * 2 ^ m % 2 ^ (8 * k)) places
+    ∙ ap (λ m. n * m % 2 ^ (8 * k)) (sym (bytes-bits (k - size)))
+    ∙ ap (λ m. n * 256 ^ (k - size) % m) (sym (bytes-bits k))
+    ∙ mod-eq_of_lt room
+
+-- the number of the first n of more bytes
+pub cut_least : (f : ℕ → ℕ) (n k : ℕ) → ((i : ℕ) → i < n + k → f i < 256) → little_endian f (n + k) % 256 ^ n ≡ little_endian f n
+cut_least f n zero bytes =
+    let none_more : n + 0 ≡ n = omega arith in
+    ap (λ m. little_endian f m % 256 ^ n) none_more ∙ mod-eq_of_lt (least_below f n (λ i h. bytes i (omega arith)))
+cut_least f n (suc k) bytes =
+    let more : n + suc k ≡ suc (n + k) = omega arith in
+    let turned : f (n + k) * (256 ^ n * 256 ^ k) ≡ 256 ^ n * (f (n + k) * 256 ^ k) = grind arith in
+    ap (λ m. little_endian f m % 256 ^ n) more
+    ∙ ap (λ p. (little_endian f (n + k) + f (n + k) * p) % 256 ^ n) (pow-add 256 n k)
+    ∙ ap (λ p. (little_endian f (n + k) + p) % 256 ^ n) turned
+    ∙ add-mul-mod_self_left (little_endian f (n + k)) (256 ^ n) (f (n + k) * 256 ^ k)
+    ∙ cut_least f n k (λ i h. bytes i (omega arith))
+
+pub cut_most : (f : ℕ → ℕ) (n k : ℕ) → ((i : ℕ) → i < n + k → f i < 256) → big_endian f (n + k) / 256 ^ k ≡ big_endian f n
+cut_most f n zero bytes =
+    let none_more : n + 0 ≡ n = omega arith in
+    ap (λ m. big_endian f m / 256 ^ 0) none_more ∙ div-one (big_endian f n)
+cut_most f n (suc k) bytes =
+    let more : n + suc k ≡ suc (n + k) = omega arith in
+    ap (λ m. big_endian f m / 256 ^ suc k) more
+    ∙ ap (λ p. (big_endian f (n + k) * 256 + f (n + k)) / p) (pow-succ' 256 k)
+    ∙ sym (div-div-eq-div-mul (big_endian f (n + k) * 256 + f (n + k)) 256 (256 ^ k))
+    ∙ ap (λ m. m / 256 ^ k) (div-mul-add (big_endian f (n + k)) 256 (f (n + k)) (bytes (n + k) (omega arith)))
+    ∙ cut_most f n k (λ i h. bytes i (omega arith))
+
+-- the number of the first n of eight bytes, as std reads the eight
+pub first_least : (whole : List ℕ) (n m : ℕ) → n ≤ 8 → m + 1 ≡ 256 ^ n → ((i : ℕ) → get_or whole i 0 < 256) → bit_and (from_le_bytes w64 whole) m ≡ little_endian (λ i. get_or whole i 0) n
+first_least whole n m short mask bytes =
+    let f : ℕ → ℕ = λ i. get_or whole i 0 in
+    let room : 8 ≡ n + (8 - n) = omega arith in
+    low-mask (from_le_bytes w64 whole) m n mask
+    ∙ ap (λ v. v % 256 ^ n) (least_whole f 7 ∙ ap (little_endian f) room)
+    ∙ cut_least f n (8 - n) (λ i h. bytes i)
+
+pub first_most : (whole : List ℕ) (n r : ℕ) → n ≤ 8 → r ≡ 8 * (8 - n) → ((i : ℕ) → get_or whole i 0 < 256) → from_be_bytes w64 whole / 2 ^ r ≡ big_endian (λ i. get_or whole i 0) n
+first_most whole n r short rest bytes =
+    let f : ℕ → ℕ = λ i. get_or whole i 0 in
+    let room : 8 ≡ n + (8 - n) = omega arith in
+    let eight : from_be_bytes w64 whole ≡ big_endian f 8 =
+    most_sum f (λ i. byte_worth (7 - i) (f i)) 0 7 (λ i h. worth_is (7 - i) (f i))
+    ∙ (let one : big_endian f 8 * 256 ^ 0 ≡ big_endian f 8 = omega arith in one)
+    in
+    ap (λ m. from_be_bytes w64 whole / 2 ^ m) rest
+    ∙ drop-bytes (from_be_bytes w64 whole) (8 - n)
+    ∙ ap (λ v. v / 256 ^ (8 - n)) (eight ∙ ap (big_endian f) room)
+    ∙ cut_most f n (8 - n) (λ i h. bytes i)
 
 -- the number of a part of a list of bytes
 pub number_of-part : (endian : Endian) (whole part : List ℕ) (place n bits : ℕ) → bits ≡ number_of endian (λ i. get_or part i 0) n → ((i : ℕ) → i < n → get_or part i 0 ≡ get_or whole (place + i) 0)
@@ -166,28 +234,27 @@ number_in_page endian bytes m base offset n at room =
 same_page : (offset i : ℕ) → offset % 4096 + i < 4096 → ((offset + i) / 4096 ≡ offset / 4096) × ((offset + i) % 4096 ≡ offset % 4096 + i)
 same_page offset i inside = (omega arith, omega arith)
 
-pub byte_there : (space : Space) (offset i : ℕ) (page : Page) → get nat_cmp space.pages (offset / 4096) ≡ Some page → offset % 4096 + i < 4096 → byte_in space (offset + i) ≡ get_or page.bytes.items (offset % 4096 + i) 0
+pub byte_there : (space : Space) (offset i : ℕ) (page : Page) → page_of space.pages (offset / 4096) ≡ Some page → offset % 4096 + i < 4096 → byte_in space (offset + i) ≡ get_or page.bytes.items (offset % 4096 + i) 0
 byte_there space offset i page is inside =
     let same = same_page offset i inside in
-    ap (λ n. option_map_or (λ one. get_or one.bytes.items ((offset + i) % 4096) 0) (get nat_cmp space.pages n) 0) same.0
+    ap (λ n. option_map_or (λ one. get_or one.bytes.items ((offset + i) % 4096) 0) (page_of space.pages n) 0) same.0
     ∙ ap (λ o. option_map_or (λ one. get_or one.bytes.items ((offset + i) % 4096) 0) o 0) is
     ∙ ap (λ p. get_or page.bytes.items p 0) same.1
 
-pub byte_absent : (space : Space) (offset i : ℕ) → get nat_cmp space.pages (offset / 4096) ≡ None → offset % 4096 + i < 4096 → byte_in space (offset + i) ≡ 0
+pub byte_absent : (space : Space) (offset i : ℕ) → page_of space.pages (offset / 4096) ≡ None → offset % 4096 + i < 4096 → byte_in space (offset + i) ≡ 0
 byte_absent space offset i is inside =
     let same = same_page offset i inside in
-    ap (λ n. option_map_or (λ one. get_or one.bytes.items ((offset + i) % 4096) 0) (get nat_cmp space.pages n) 0) same.0
+    ap (λ n. option_map_or (λ one. get_or one.bytes.items ((offset + i) % 4096) 0) (page_of space.pages n) 0) same.0
     ∙ ap (λ o. option_map_or (λ one. get_or one.bytes.items ((offset + i) % 4096) 0) o 0) is
 
--- the first and the last of some bytes tell whether they go round the end
-pub lies_straight : (m base n first last : ℕ) → 1 ≤ n → n ≤ m → first ≡ (base + 0) % m → last ≡ (base + (n - 1)) % m → first ≤ last → (first ≡ base % m) × (first + n ≡ last + 1) × (last < m)
-lies_straight m base n first last some short at end order =
-    let zero_more : base + 0 ≡ base = omega arith in
-    let begin : first ≡ base % m = at ∙ ap (λ b. b % m) zero_more in
-    let inside : base % m < m = mod-lt base (omega arith) in
-    let after = mod-add-mod base m (n - 1) in
-    let below : (base + (n - 1)) % m < m = mod-lt (base + (n - 1)) (omega arith) in
-    elim (sum-cut (base % m) (n - 1) m inside (omega arith)) [
-      | inl straight ↦ (begin, omega (arith, begin, after, straight), omega (arith, below))
-      | inr cut ↦ absurd (omega (arith, begin, after, cut))
-    ]
+-- Some bytes lie in one page, before the end of the space, if they do in the last page, which may be a short one.
+pub lies_in_one_page : (base size last offset count : ℕ) → 1 ≤ size → last + 1 ≡ 256 ^ size → offset ≡ base % 256 ^ size → offset % 4096 + count ≤ last % 4096 + 1
+    → (offset % 4096 + count ≤ 4096) × (offset + count ≤ 256 ^ size)
+lies_in_one_page base zero last offset count some end at inside = absurd (omega arith)
+lies_in_one_page base (suc zero) last offset count some end at inside =
+    let below : base % 256 ^ 1 < 256 ^ 1 = mod-lt base (bytes_pos 1) in
+    (omega arith, omega (arith, below, end, at, inside))
+lies_in_one_page base (suc (suc k)) last offset count some end at inside =
+    let whole : 256 ^ suc (suc k) ≡ 4096 * (16 * 256 ^ k) = omega (arith, pow-suc 256 (suc k), pow-suc 256 k) in
+    let below : base % 256 ^ suc (suc k) < 256 ^ suc (suc k) = mod-lt base (bytes_pos (suc (suc k))) in
+    (omega arith, omega (arith, whole, below, end, at, inside))

@@ -3,6 +3,7 @@ pub mod InOnePage
 pub mod InRange
 pub mod LayoutLaws
 pub mod Memory
+pub mod PageLemmas
 pub mod Powers
 pub mod SpaceList
 pub mod TwosComplement

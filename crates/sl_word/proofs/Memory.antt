@@ -1,5 +1,5 @@
 -- Bytes in pages, and numbers laid out in bytes.
-use Rattle.std.proofs.Common.{◌≡◌, ◌≢◌, ◌⊎◌, ◌≤◌, ℕ, suc, ◌+◌, ◌-◌, ◌*◌, ◌%◌, ◌^◌, ◌<◌, get_or, refl, sym, ◌∙◌, ap, inl, inr, eqb, cond, add-one, arith}
+use Rattle.std.proofs.Common.{◌≡◌, ◌≢◌, ◌⊎◌, ◌≤◌, ℕ, suc, ◌+◌, ◌-◌, ◌*◌, ◌%◌, ◌^◌, ◌<◌, get_or, refl, sym, ◌∙◌, ap, inl, inr, add-one, arith}
 use Rattle.std.specs.Prelude.{if◌then◌else◌, ◌&&◌, nat_le, nat_lt, replicate}
 use Rattle.std.proofs.lemmas.List.{get_or-replicate, get_or_past, length-replicate}
 use Rattle.std.proofs.lemmas.Bool.{cases_lt}
@@ -7,7 +7,7 @@ use Rattle.std.proofs.lemmas.Nat.{mul-add-lt}
 use Rattle.std.proofs.lemmas.Bool.Decides.{nat_tests}
 use Rattle.std.proofs.Math.Nat.{mod-lt, mod-add-mod, mod-eq_of_lt, pow-suc}
 use Rattle.sl_word.specs.Layout.{Puts, little_endian, big_endian}
-use Rattle.sl_word.specs.Pages.{with_run}
+use Rattle.sl_word.specs.Runs.{with_run}
 use Rattle.sl_word.proofs.Powers.{bytes-bits, bytes_mono, bytes_pos}
 use Rattle.sl_word.proofs.TwosComplement.{sum-cut}
 
@@ -30,39 +30,56 @@ apart base i j m hi hj same =
       | inr p ↦ elim (sum-cut (base % m) j m r hj) [ inl q ↦ omega (arith, at_i, at_j) | inr q ↦ omega (arith, at_i, at_j) ]
     ]
 
--- what one write leaves at its offset, and at another
-write_here : (a v : ℕ) (mid new : ℕ → ℕ) → ((o : ℕ) → new o ≡ cond (eqb a o) v (mid o)) → new a ≡ v
-write_here a v mid new e = grind (arith, nat_tests, e a)
-
-write_other : (a v o : ℕ) (mid new : ℕ → ℕ) → ((o : ℕ) → new o ≡ cond (eqb a o) v (mid o)) → o ≢ a → new o ≡ mid o
-write_other a v o mid new e apart = grind (arith, nat_tests, e o)
-
-pub Puts-none : (m base : ℕ) (byte old : ℕ → ℕ) → Puts m base 0 byte old old
-Puts-none m base byte old = record { put = λ i h. absurd (omega arith); kept = λ offset h. refl }
-
--- one more byte is put
-pub Puts-more : (m base i a v : ℕ) (byte old mid new : ℕ → ℕ) → i < m → a ≡ (base + i) % m → v ≡ byte i → Puts m base i byte old mid → ((o : ℕ) → new o ≡ cond (eqb a o) v (mid o)) → Puts m base (i + 1) byte old new
-Puts-more m base i a v byte old mid new h at is before e =
-    record {
-      put = λ k below. elim (cases_lt k i) [
-        | inl less ↦
-            write_other a v ((base + k) % m) mid new e (λ same. absurd (omega (arith, apart base k i m (omega arith) h (same ∙ at))))
-            ∙ before.put k less
-        | inr last ↦
-            let k_is : k ≡ i = omega arith in
-            ap (λ j. new ((base + j) % m)) k_is ∙ ap new (sym at) ∙ write_here a v mid new e ∙ is ∙ ap byte (sym k_is)
-      ];
-      kept = λ offset away.
-          write_other a v offset mid new e (λ same. away i (omega arith) (same ∙ at))
-          ∙ before.kept offset (λ k less. away k (omega arith));
-    }
-
 pub in_run : (place from count k x y : ℕ) → place ≤ k → k < place + count → (if nat_le place k && nat_lt k (place + count) then x else y) ≡ x
 in_run place from count k x y at_least below = grind (arith, nat_tests)
 
 pub out_of_run : (place from count k x y : ℕ) → (k < place) ⊎ (place + count ≤ k) → (if nat_le place k && nat_lt k (place + count) then x else y) ≡ y
 out_of_run place from count k x y (inl before) = grind (arith, nat_tests)
 out_of_run place from count k x y (inr behind) = grind (arith, nat_tests)
+
+-- what a run of one byte leaves at its offset, and at another
+write_here : (a i : ℕ) (byte mid new : ℕ → ℕ) → ((o : ℕ) → new o ≡ with_run a i 1 byte mid o) → new a ≡ byte i
+write_here a i byte mid new e =
+    let index : i + (a - a) ≡ i = omega arith in
+    e a ∙ in_run a i 1 a _ _ (omega arith) (omega arith) ∙ ap byte index
+
+write_other : (a i o : ℕ) (byte mid new : ℕ → ℕ) → ((o : ℕ) → new o ≡ with_run a i 1 byte mid o) → o ≢ a → new o ≡ mid o
+write_other a i o byte mid new e apart =
+    let outside : (o < a) ⊎ (a + 1 ≤ o) =
+    elim (cases_lt o a) [
+      | inl less ↦ inl less
+      | inr at_least ↦ elim (cases_lt a o) [ inl more ↦ inr (omega arith) | inr at_most ↦ absurd (apart (omega arith)) ]
+    ]
+    in
+    e o ∙ out_of_run a i 1 o _ _ outside
+
+pub Puts-none : (m base : ℕ) (byte old : ℕ → ℕ) → Puts m base 0 byte old old
+Puts-none m base byte old = record { put = λ i h. absurd (omega arith); kept = λ offset h. refl }
+
+-- one more byte is put
+pub Puts-more : (m base i a : ℕ) (byte old mid new : ℕ → ℕ) → i < m → a ≡ (base + i) % m → Puts m base i byte old mid → ((o : ℕ) → new o ≡ with_run a i 1 byte mid o) → Puts m base (i + 1) byte old new
+Puts-more m base i a byte old mid new h at before e =
+    record {
+      put = λ k below. elim (cases_lt k i) [
+        | inl less ↦
+            write_other a i ((base + k) % m) byte mid new e (λ same. absurd (omega (arith, apart base k i m (omega arith) h (same ∙ at))))
+            ∙ before.put k less
+        | inr last ↦
+            let k_is : k ≡ i = omega arith in
+            ap (λ j. new ((base + j) % m)) k_is ∙ ap new (sym at) ∙ write_here a i byte mid new e ∙ ap byte (sym k_is)
+      ];
+      kept = λ offset away.
+          write_other a i offset byte mid new e (λ same. away i (omega arith) (same ∙ at))
+          ∙ before.kept offset (λ k less. away k (omega arith));
+    }
+
+-- Bytes are put after nothing has changed.
+pub Puts-after : (m base n : ℕ) (byte old mid new : ℕ → ℕ) → ((o : ℕ) → mid o ≡ old o) → Puts m base n byte mid new → Puts m base n byte old new
+Puts-after m base n byte old mid new same puts = record { put = puts.put; kept = λ o away. puts.kept o away ∙ same o }
+
+-- The same bytes are put.
+pub Puts-same : (m base n : ℕ) (f g old new : ℕ → ℕ) → ((i : ℕ) → i < n → f i ≡ g i) → Puts m base n f old new → Puts m base n g old new
+Puts-same m base n f g old new same puts = record { put = λ i below. puts.put i below ∙ same i below; kept = puts.kept }
 
 -- a run of bytes more is put, before the end
 pub Puts-run : (m base i n : ℕ) (byte old mid new : ℕ → ℕ) → base + i + n ≤ m → Puts m base i byte old mid → ((o : ℕ) → new o ≡ with_run (base + i) i n byte mid o) → Puts m base (i + n) byte old new

@@ -6,4 +6,5 @@ pub mod Memories
 pub mod Numbers
 pub mod Operations
 pub mod Pages
+pub mod Runs
 pub mod Sizes

@@ -1,23 +1,43 @@
 -- view: the bytes of a space that is kept by pages.
-use Rattle.std.specs.Prelude.{◌≡◌, if◌then◌else◌, ◌&&◌, ◌-◌, nat_le, nat_lt, ℕ, ◌+◌, ◌/◌, ◌%◌, ◌^◌, ◌<◌, ◌≤◌, slice_index, IsSome}
+use Rattle.std.specs.Prelude.{◌≡◌, ◌≢◌, ℕ, ◌+◌, ◌/◌, ◌%◌, ◌^◌, ◌<◌, ◌≤◌, List, Option, Some, None, slice_index, slice_index_or, IsSome}
 use Rattle.std.specs.Option.{option_map_or}
 use Rattle.std.specs.BTreeMap.{get}
 use Rattle.std.specs.Ordering.{nat_cmp}
+use Rattle.sl_word.specs.Runs.{with_run}
+use Rattle.sl_word.specs.declared.page.Page.{Page}
+use Rattle.sl_word.specs.declared.pages.Pages.{Pages}
 use Rattle.sl_word.specs.declared.space.Space.{Space}
 
--- The byte at an offset of one space. What no page holds is 0.
-abbrev pub byte_in : Space → ℕ → ℕ
-byte_in space offset =
-    option_map_or (λ page. slice_index page.bytes.items (offset % 4096)) (get nat_cmp space.pages (offset / 4096)) 0
+-- A page, or where there is none another one.
+abbrev pub page_or : Option Page → Option Page → Option Page
+page_or (Some page) other = Some page
+page_or None other = other
 
--- Bytes with `count` others from a place on, the first of which is that at `from`.
-abbrev pub with_run : ℕ → ℕ → ℕ → (ℕ → ℕ) → (ℕ → ℕ) → ℕ → ℕ
-with_run place from count byte bytes k =
-    if nat_le place k && nat_lt k (place + count) then byte (from + (k - place)) else bytes k
+-- The page of a list at a number, if there is one.
+abbrev pub page_in : List (Option Page) → ℕ → Option Page
+page_in pages number = slice_index_or pages number None
+
+-- The page of a number, if there is one.
+abbrev pub page_of : Pages → ℕ → Option Page
+page_of pages number = page_or (page_in pages.listed.items number) (get nat_cmp pages.others number)
+
+-- The byte at a place of a page. What no page holds is 0.
+abbrev pub byte_in_page : Option Page → ℕ → ℕ
+byte_in_page page place = option_map_or (λ one. slice_index one.bytes.items place) page 0
+
+-- The byte at an offset of one space.
+abbrev pub byte_in : Space → ℕ → ℕ
+byte_in space offset = byte_in_page (page_of space.pages (offset / 4096)) (offset % 4096)
+
+-- Of pages by their numbers, that of one number has `count` others from a place on, and the others are as they were.
+pub record PutsInPage (number place from count : ℕ) (byte : ℕ → ℕ) (old new : ℕ → Option Page) : Type 0 where
+  pub there : IsSome (new number)
+  pub put : (k : ℕ) → byte_in_page (new number) k ≡ with_run place from count byte (byte_in_page (old number)) k
+  pub others : (k : ℕ) → k ≢ number → new k ≡ old k
 
 -- There is a page of this number.
 abbrev pub HasPage : Space → ℕ → Type 0
-HasPage space number = IsSome (get nat_cmp space.pages number)
+HasPage space number = IsSome (page_of space.pages number)
 
 -- The byte some places after a base, round the end of the space.
 abbrev pub byte_after : Space → ℕ → ℕ → ℕ

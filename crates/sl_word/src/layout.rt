@@ -19,22 +19,13 @@ impl Word {
         Word { bits, size }
     }
 
-    /// Puts the bytes of the word, as they lie in memory.
-    pub fn put_into(self, endian: Endian, bytes: &mut [u8])
-        requires { length bytes.old ≡ self.size.bytes }
-        ensures count { length bytes.new ≡ self.size.bytes }
-        ensures each { (i : ℕ) → i < self.size.bytes → slice_index bytes.new i ≡ byte_of endian self.size.bytes self.bits i }
+    /// The bytes of the word in memory order, and zeros after them.
+    pub fn in_memory(self, endian: Endian) -> [u8; 16]
+        ensures { (i : ℕ) → i < self.size.bytes → slice_index result i ≡ byte_of endian self.size.bytes self.bits i }
     {
-        let count = bytes.len();
         match endian {
-            Endian::Little => {
-                let whole = self.bits.to_le_bytes();
-                bytes.copy_from_slice(&whole[..count]);
-            }
-            Endian::Big => {
-                let whole = self.bits.to_be_bytes();
-                bytes.copy_from_slice(&whole[16 - count..]);
-            }
+            Endian::Little => self.bits.to_le_bytes(),
+            Endian::Big => (self.bits << (128 - self.size.bit_count())).to_be_bytes(),
         }
     }
 }

@@ -3,8 +3,11 @@
 ghost use Rattle.std.specs.Prelude.{◌≡◌, ℕ, ◌+◌, ◌^◌, ◌<◌, ◌≤◌, vec_len, IfOk, slice_index, length};
 ghost use Rattle.std.specs.Option.{option_map_or, option_copied};
 ghost use Rattle.sl_word.specs.Layout.{byte_of, number_of};
+ghost use Rattle.sl_word.specs.Runs.{with_run};
 
-use crate::{Endian, Size, Word};
+use crate::narrow::eight_at;
+use crate::runs::{copy, overwrite};
+use crate::{Endian, Narrow, Size, Word};
 use std::alloc::{AllocError, Global};
 
 pub(crate) const PAGE_LENGTH: u64 = 4096;
@@ -17,8 +20,6 @@ pub(crate) struct Page {
 }
 
 impl Page {
-    ghost use Rattle.sl_word.specs.Pages.{with_run};
-
     pub(crate) fn zeros(alloc: Global) -> Result<Page, AllocError>
         ensures { IfOk result (λ page. (place : ℕ) → slice_index page.bytes.items place ≡ 0) }
     {
@@ -33,18 +34,20 @@ impl Page {
         ensures { (k : ℕ) → slice_index self.new.bytes.items k
             ≡ with_run place from count (slice_index bytes.now) (slice_index self.old.bytes.items) k }
     {
-        let run = &bytes[from..from + count];
-        self.bytes[place..place + count].copy_from_slice(run);
+        copy(&mut self.bytes, place, bytes, from, count);
     }
 
     // Puts the bytes of a word at a place.
-    pub(crate) fn put_word(&mut self, place: usize, endian: Endian, word: Word)
+    pub(crate) fn put_narrow(&mut self, place: usize, endian: Endian, word: Narrow)
         requires { place + word.size.bytes ≤ 4096 }
         ensures { (k : ℕ) → slice_index self.new.bytes.items k
             ≡ with_run place 0 word.size.bytes (byte_of endian word.size.bytes word.bits) (slice_index self.old.bytes.items) k }
     {
-        let end = place + usize::from(word.size.bytes);
-        word.put_into(endian, &mut self.bytes[place..end]);
+        let count = usize::from(word.size.bytes);
+        match endian {
+            Endian::Little => overwrite(&mut self.bytes, place, &word.least_first(), 0, count),
+            Endian::Big => overwrite(&mut self.bytes, place, &word.most_first(), 0, count),
+        }
     }
 
     // Copies `count` bytes, from the one at a place on, to a place of a buffer.
@@ -67,6 +70,16 @@ impl Page {
     {
         let end = place + usize::from(size.bytes);
         Word::from_bytes(endian, size, &self.bytes[place..end]).bits
+    }
+
+    // The word of at most 8 bytes from a place on, where the page has 8 bytes from there on.
+    pub(crate) fn narrow(&self, place: usize, endian: Endian, size: Size) -> Narrow
+        requires narrow { size.bytes ≤ 8 }
+        requires inside { place + 8 ≤ 4096 }
+        ensures size { result.size ≡ size }
+        ensures value { result.bits ≡ number_of endian (λ i. slice_index self.now.bytes.items (place + i)) size.bytes }
+    {
+        Narrow::from_first(endian, size, eight_at(&self.bytes, place))
     }
 }
 

@@ -4,29 +4,29 @@ ghost use Rattle.std.specs.Prelude.{◌≡◌, ℕ, ◌+◌, ◌*◌, ◌/◌, �
 ghost use Rattle.std.specs.Prelude.{false, length, slice_index, IsTrue, IfSome, OnOk, OnErr, ◌⊎◌};
 ghost use Rattle.sl_word.specs.Layout.{Puts, byte_of, number_of, little_endian, big_endian};
 
-use crate::page::{PAGE_LENGTH, Page, byte_of_page};
-use crate::{AddressSize, Endian, Size, Word};
+use crate::page::{PAGE_LENGTH, byte_of_page};
+use crate::pages::Pages;
+use crate::{AddressSize, Endian, Narrow, Size, Word};
 use std::alloc::{AllocError, Global};
-use std::collections::BTreeMap;
 
-/// Pages by their numbers; what has no page is 0.
+/// Bytes by their offsets; what has no page is 0.
 #[derive(Drop)]
 pub(crate) struct Space {
-    alloc: Global,
     size: AddressSize,
-    pages: BTreeMap<u64, Page>,
+    pages: Pages,
 }
 
 impl Space {
-    ghost use Rattle.sl_word.specs.Pages.{byte_in, byte_after, HasPage, HasPages, HasPagesOf, IsInOnePage, with_run};
+    ghost use Rattle.sl_word.specs.Pages.{byte_in, byte_after, HasPage, HasPages, HasPagesOf, IsInOnePage};
+    ghost use Rattle.sl_word.specs.Runs.{with_run};
     ghost use Rattle.sl_word.specs.Differences.{IsFirstDifference, IsFirstPage};
 
     pub(crate) fn new(alloc: Global, size: AddressSize) -> Space
         ensures size { result.size ≡ size }
         ensures zero { (offset : ℕ) → byte_in result offset ≡ 0 }
     {
-        let pages = BTreeMap::new(alloc);
-        Space { alloc, size, pages }
+        let pages = Pages::new(alloc);
+        Space { size, pages }
     }
 
     pub(crate) fn byte(&self, offset: u64) -> u8
@@ -34,7 +34,7 @@ impl Space {
     {
         let number = offset / PAGE_LENGTH;
         let place = (offset % PAGE_LENGTH) as usize;
-        match self.pages.get(&number) {
+        match self.pages.page(number) {
             Some(page) => page.bytes[place],
             None => 0,
         }
@@ -66,54 +66,37 @@ impl Space {
         ensures there { OnOk result (HasPage self.new number) }
         ensures stay { (other : ℕ) → HasPage self.old other → HasPage self.new other }
     {
-        if self.pages.contains_key(&number) {
-            return Ok(());
-        }
-        let page = Page::zeros(self.alloc)?;
-        self.pages.insert(number, page)?;
-        Ok(())
+        self.pages.add(number)
     }
 
-    fn set_byte(&mut self, offset: u64, value: u8)
-        requires { HasPage self.old (offset / 4096) }
-        ensures size { self.new.size ≡ self.old.size }
-        ensures bytes { (other : ℕ) → byte_in self.new other ≡ (if offset == other then value else byte_in self.old other) }
-        ensures stay { (other : ℕ) → HasPage self.old other → HasPage self.new other }
-    {
-        let number = offset / PAGE_LENGTH;
-        let place = (offset % PAGE_LENGTH) as usize;
-        if let Some(page) = self.pages.get_mut(&number) {
-            page.bytes[place] = value;
-        }
-    }
-
-    // Puts `count` bytes, from the one at `from` on, at an offset of one page.
-    fn set_run(&mut self, offset: u64, bytes: &[u8], from: usize, count: usize)
-        requires page { HasPage self.old (offset / 4096) }
+    // Puts `count` bytes, from the one at `from` on, at an offset of one page, if it is there. Whether it
+    // is.
+    fn set_run(&mut self, offset: u64, bytes: &[u8], from: usize, count: usize) -> bool
         requires inside { offset % 4096 + count ≤ 4096 }
         requires there { from + count ≤ length bytes.now }
         ensures size { self.new.size ≡ self.old.size }
-        ensures bytes { (other : ℕ) → byte_in self.new other
+        ensures found { HasPage self.old (offset / 4096) → IsTrue result }
+        ensures bytes { IsTrue result → (other : ℕ) → byte_in self.new other
             ≡ with_run offset from count (slice_index bytes.now) (byte_in self.old) other }
+        ensures unchanged { result ≡ false → (other : ℕ) → byte_in self.new other ≡ byte_in self.old other }
         ensures stay { (other : ℕ) → HasPage self.old other → HasPage self.new other }
     {
         let number = offset / PAGE_LENGTH;
         let place = (offset % PAGE_LENGTH) as usize;
-        if let Some(page) = self.pages.get_mut(&number) {
-            page.put(place, bytes, from, count);
-        }
+        self.pages.put(number, place, bytes, from, count)
     }
 
-    // The offset of `size` bytes from a base on, where they lie in one page, before the end of the space.
-    fn in_one_page(&self, base: u64, size: Size) -> Option<u64>
-        ensures { IfSome result (IsInOnePage self.now base size.bytes) }
+    // The offset of `count` bytes from a base on, where they lie in one page, before the end of the space.
+    fn in_one_page(&self, base: u64, count: u64) -> Option<u64>
+        requires { count ≤ 16 }
+        ensures { IfSome result (IsInOnePage self.now base count) }
     {
-        let first = self.address(base, 0);
-        let last = self.address(base, u64::from(size.bytes) - 1);
-        if last < first || first / PAGE_LENGTH != last / PAGE_LENGTH {
+        let last = self.last();
+        let offset = base & last;
+        if offset % PAGE_LENGTH + count > last % PAGE_LENGTH + 1 {
             return None;
         }
-        Some(first)
+        Some(offset)
     }
 
     fn add_pages(&mut self, base: u64, count: u64) -> Result<(), AllocError>
@@ -128,14 +111,17 @@ impl Space {
         Ok(())
     }
 
-    fn set_word(&mut self, base: u64, endian: Endian, word: Word)
-        requires { HasPages self.old base word.size.bytes }
+    // Puts the first `count` bytes one by one, round the end of the space.
+    fn set_each(&mut self, base: u64, bytes: &[u8], count: usize)
+        requires few { count ≤ 16 }
+        requires there { count ≤ length bytes.now }
+        requires pages { HasPages self.old base count }
         ensures size { self.new.size ≡ self.old.size }
-        ensures put { Puts (256 ^ self.old.size.bytes) base word.size.bytes (byte_of endian word.size.bytes word.bits) (byte_in self.old) (byte_in self.new) }
+        ensures put { Puts (256 ^ self.old.size.bytes) base count (slice_index bytes.now) (byte_in self.old) (byte_in self.new) }
     {
-        for place in 0..word.size.bytes {
-            let offset = self.address(base, u64::from(place));
-            self.set_byte(offset, word.byte(endian, place));
+        for place in 0..count {
+            let offset = self.address(base, place as u64);
+            self.set_run(offset, bytes, place, 1);
         }
     }
 
@@ -179,8 +165,8 @@ impl Space {
         ensures { IsFirstDifference (byte_in opening.now) (byte_in self.now) from ((from / 4096 + 1) * 4096) result }
     {
         let number = from / PAGE_LENGTH;
-        let before = opening.pages.get(&number);
-        let now = self.pages.get(&number);
+        let before = opening.pages.page(number);
+        let now = self.pages.page(number);
         for place in from % PAGE_LENGTH..PAGE_LENGTH {
             if byte_of_page(before, place) != byte_of_page(now, place) {
                 return Some(number * PAGE_LENGTH + place);
@@ -193,8 +179,7 @@ impl Space {
     fn page_from(&self, number: u64) -> Option<u64>
         ensures { IsFirstPage (HasPage self.now) number result }
     {
-        let (found, _) = self.pages.range(number..).next()?;
-        Some(*found)
+        self.pages.first_from(number)
     }
 
     // The same of a page of either space.
@@ -222,62 +207,88 @@ impl Space {
         }
     }
 
-    // Puts the word's bytes in memory order. A refusal changes no byte.
+    // Puts the bytes of a word in memory order. A refusal changes no byte.
     pub(crate) fn write(&mut self, base: u64, endian: Endian, word: Word) -> Result<(), AllocError>
         ensures size { self.new.size ≡ self.old.size }
         ensures put { OnOk result (Puts (256 ^ self.old.size.bytes) base word.size.bytes (byte_of endian word.size.bytes word.bits) (byte_in self.old) (byte_in self.new)) }
         ensures unchanged { OnErr result ((offset : ℕ) → byte_in self.new offset ≡ byte_in self.old offset) }
     {
-        match self.in_one_page(base, word.size) {
-            Some(offset) => self.write_in_page(offset, endian, word),
-            None => self.write_by_bytes(base, endian, word),
-        }
+        let whole = word.in_memory(endian);
+        self.put(base, &whole, usize::from(word.size.bytes))
     }
 
-    // The same, where the bytes lie in one page.
-    fn write_in_page(&mut self, offset: u64, endian: Endian, word: Word) -> Result<(), AllocError>
-        requires { offset % 4096 + word.size.bytes ≤ 4096 }
-        ensures size { self.new.size ≡ self.old.size }
-        ensures bytes { OnOk result ((other : ℕ) → byte_in self.new other
-            ≡ with_run offset 0 word.size.bytes (byte_of endian word.size.bytes word.bits) (byte_in self.old) other) }
-        ensures unchanged { OnErr result ((other : ℕ) → byte_in self.new other ≡ byte_in self.old other) }
-    {
-        if self.set_word_in_page(offset, endian, word) {
-            return Ok(());
-        }
-        self.add_page(offset / PAGE_LENGTH)?;
-        self.set_word_in_page(offset, endian, word);
-        Ok(())
-    }
-
-    // The same, if the page is there. Whether it is.
-    fn set_word_in_page(&mut self, offset: u64, endian: Endian, word: Word) -> bool
-        requires { offset % 4096 + word.size.bytes ≤ 4096 }
-        ensures size { self.new.size ≡ self.old.size }
-        ensures found { HasPage self.old (offset / 4096) → IsTrue result }
-        ensures bytes { IsTrue result → (other : ℕ) → byte_in self.new other
-            ≡ with_run offset 0 word.size.bytes (byte_of endian word.size.bytes word.bits) (byte_in self.old) other }
-        ensures unchanged { result ≡ false → (other : ℕ) → byte_in self.new other ≡ byte_in self.old other }
-    {
-        let number = offset / PAGE_LENGTH;
-        let place = (offset % PAGE_LENGTH) as usize;
-        match self.pages.get_mut(&number) {
-            Some(page) => {
-                page.put_word(place, endian, word);
-                true
-            }
-            None => false,
-        }
-    }
-
-    // The same, byte by byte.
-    fn write_by_bytes(&mut self, base: u64, endian: Endian, word: Word) -> Result<(), AllocError>
+    // The same, of at most 8 bytes.
+    pub(crate) fn write_narrow(
+        &mut self,
+        base: u64,
+        endian: Endian,
+        word: Narrow,
+    ) -> Result<(), AllocError>
         ensures size { self.new.size ≡ self.old.size }
         ensures put { OnOk result (Puts (256 ^ self.old.size.bytes) base word.size.bytes (byte_of endian word.size.bytes word.bits) (byte_in self.old) (byte_in self.new)) }
         ensures unchanged { OnErr result ((offset : ℕ) → byte_in self.new offset ≡ byte_in self.old offset) }
     {
-        self.add_pages(base, u64::from(word.size.bytes))?;
-        self.set_word(base, endian, word);
+        if self.write_listed(base, endian, word) {
+            return Ok(());
+        }
+        self.write(base, endian, word.word())
+    }
+
+    // The same, where 8 bytes from the base on lie in one page that is listed. Whether they do.
+    fn write_listed(&mut self, base: u64, endian: Endian, word: Narrow) -> bool
+        ensures size { self.new.size ≡ self.old.size }
+        ensures put { IsTrue result → Puts (256 ^ self.old.size.bytes) base word.size.bytes (byte_of endian word.size.bytes word.bits) (byte_in self.old) (byte_in self.new) }
+        ensures unchanged { result ≡ false → (offset : ℕ) → byte_in self.new offset ≡ byte_in self.old offset }
+    {
+        let Some(offset) = self.in_one_page(base, 8) else {
+            return false;
+        };
+        let number = offset / PAGE_LENGTH;
+        let place = (offset % PAGE_LENGTH) as usize;
+        self.pages.put_narrow(number, place, endian, word)
+    }
+
+    // Puts the first `count` bytes round the end of the space. A refusal changes no byte.
+    fn put(&mut self, base: u64, bytes: &[u8], count: usize) -> Result<(), AllocError>
+        requires few { count ≤ 16 }
+        requires there { count ≤ length bytes.now }
+        ensures size { self.new.size ≡ self.old.size }
+        ensures put { OnOk result (Puts (256 ^ self.old.size.bytes) base count (slice_index bytes.now) (byte_in self.old) (byte_in self.new)) }
+        ensures unchanged { OnErr result ((offset : ℕ) → byte_in self.new offset ≡ byte_in self.old offset) }
+    {
+        match self.in_one_page(base, count as u64) {
+            Some(offset) => self.put_in_page(offset, bytes, count),
+            None => self.put_each(base, bytes, count),
+        }
+    }
+
+    // The same, where the bytes lie in one page.
+    fn put_in_page(&mut self, offset: u64, bytes: &[u8], count: usize) -> Result<(), AllocError>
+        requires inside { offset % 4096 + count ≤ 4096 }
+        requires there { count ≤ length bytes.now }
+        ensures size { self.new.size ≡ self.old.size }
+        ensures bytes { OnOk result ((other : ℕ) → byte_in self.new other
+            ≡ with_run offset 0 count (slice_index bytes.now) (byte_in self.old) other) }
+        ensures unchanged { OnErr result ((other : ℕ) → byte_in self.new other ≡ byte_in self.old other) }
+    {
+        if self.set_run(offset, bytes, 0, count) {
+            return Ok(());
+        }
+        self.add_page(offset / PAGE_LENGTH)?;
+        self.set_run(offset, bytes, 0, count);
+        Ok(())
+    }
+
+    // The same, byte by byte.
+    fn put_each(&mut self, base: u64, bytes: &[u8], count: usize) -> Result<(), AllocError>
+        requires few { count ≤ 16 }
+        requires there { count ≤ length bytes.now }
+        ensures size { self.new.size ≡ self.old.size }
+        ensures put { OnOk result (Puts (256 ^ self.old.size.bytes) base count (slice_index bytes.now) (byte_in self.old) (byte_in self.new)) }
+        ensures unchanged { OnErr result ((offset : ℕ) → byte_in self.new offset ≡ byte_in self.old offset) }
+    {
+        self.add_pages(base, count as u64)?;
+        self.set_each(base, bytes, count);
         Ok(())
     }
 
@@ -319,7 +330,7 @@ impl Space {
     {
         let number = offset / PAGE_LENGTH;
         let place = (offset % PAGE_LENGTH) as usize;
-        match self.pages.get(&number) {
+        match self.pages.page(number) {
             Some(page) => page.copy_to(place, out, to, count),
             None => out[to..to + count].fill(0),
         }
@@ -339,12 +350,27 @@ impl Space {
         }
     }
 
+    // The word of at most 8 bytes from the base on.
+    pub(crate) fn narrow(&self, base: u64, endian: Endian, size: Size) -> Narrow
+        requires { size.bytes ≤ 8 }
+        ensures size { result.size ≡ size }
+        ensures value { result.bits ≡ number_of endian (byte_after self.now base) size.bytes }
+    {
+        if let Some(offset) = self.in_one_page(base, 8) {
+            if let Some(page) = self.pages.listed(offset / PAGE_LENGTH) {
+                return page.narrow((offset % PAGE_LENGTH) as usize, endian, size);
+            }
+        }
+        let bits = self.number(base, endian, size) as u64;
+        Narrow { bits, size }
+    }
+
     // The number that the bytes from the base on make.
     pub(crate) fn number(&self, base: u64, endian: Endian, size: Size) -> u128
         ensures value { result ≡ number_of endian (byte_after self.now base) size.bytes }
         ensures below { result < 256 ^ size.bytes }
     {
-        match self.in_one_page(base, size) {
+        match self.in_one_page(base, u64::from(size.bytes)) {
             Some(offset) => self.number_in_page(offset, endian, size),
             None => self.number_by_bytes(base, endian, size),
         }
@@ -358,7 +384,7 @@ impl Space {
     {
         let number = offset / PAGE_LENGTH;
         let place = (offset % PAGE_LENGTH) as usize;
-        match self.pages.get(&number) {
+        match self.pages.page(number) {
             Some(page) => page.number(place, endian, size),
             None => 0,
         }

@@ -4,7 +4,7 @@ ghost use Rattle.std.specs.Prelude.{◌≡◌, ◌≢◌, ℕ, ◌+◌, ◌%◌,
 ghost use Rattle.sl_word.specs.Layout.{byte_of};
 
 use crate::space::Space;
-use crate::{AddressSize, Endian, Size, SpaceId, Word};
+use crate::{AddressSize, Endian, Narrow, Size, SpaceId, Word};
 use std::alloc::{AllocError, Global};
 
 /// The bytes of each space of a machine, all 0 at first, and the order of bytes in memory.
@@ -60,8 +60,21 @@ impl State {
         ensures size { result.size ≡ size }
         ensures value { result.bits ≡ number_at self.now space.0 offset size.bytes }
     {
+        if size.is_narrow() {
+            return self.read_narrow(space, offset, size).word();
+        }
         let bits = self.spaces[space.0 as usize].number(offset, self.endian, size);
         Word { bits, size }
+    }
+
+    /// The same, of at most 8 bytes.
+    pub fn read_narrow(&self, space: SpaceId, offset: u64, size: Size) -> Narrow
+        requires space { space.0 < length (address_sizes self.now) }
+        requires narrow { size.bytes ≤ 8 }
+        ensures size { result.size ≡ size }
+        ensures value { result.bits ≡ number_at self.now space.0 offset size.bytes }
+    {
+        self.spaces[space.0 as usize].narrow(offset, self.endian, size)
     }
 
     /// Fills a buffer with the bytes from an offset on, round the end of the space.
@@ -84,6 +97,23 @@ impl State {
         ensures unchanged { OnErr result (IsSame self.old self.new) }
     {
         self.spaces[space.0 as usize].write(offset, self.endian, word)
+    }
+
+    /// The same, of at most 8 bytes.
+    pub fn write_narrow(
+        &mut self,
+        space: SpaceId,
+        offset: u64,
+        word: Narrow,
+    ) -> Result<(), AllocError>
+        requires { space.0 < length (address_sizes self.old) }
+        ensures kept { KeepsOthers self.old self.new space.0 }
+        ensures put { OnOk result (PutsBytes self.old self.new space.0 offset word.size.bytes
+            (byte_of (endian_of self.old) word.size.bytes word.bits)) }
+        ensures reads_back { OnOk result (number_at self.new space.0 offset word.size.bytes ≡ word.bits) }
+        ensures unchanged { OnErr result (IsSame self.old self.new) }
+    {
+        self.spaces[space.0 as usize].write_narrow(offset, self.endian, word)
     }
 
     /// Puts bytes from an offset on, up to the end of the space at most.

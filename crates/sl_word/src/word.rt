@@ -1,6 +1,6 @@
 //! Sizes, words and the numbers that name spaces and user operations.
 
-ghost use Rattle.std.specs.Prelude.{◌≡◌, ◌*◌, ◌+◌, ◌-◌, ◌/◌, ◌%◌, ◌^◌, ◌<◌, ◌≤◌, ◌↔◌, IsSome, IfSome};
+ghost use Rattle.std.specs.Prelude.{◌≡◌, ◌*◌, ◌+◌, ◌-◌, ◌/◌, ◌%◌, ◌^◌, ◌<◌, ◌≤◌, ◌↔◌, IsTrue, IsSome, IfSome};
 
 /// A number of bytes, from 1 to 16.
 #[derive(Clone, Copy, Debug, PartialEq, Eq)]
@@ -27,6 +27,13 @@ impl Size {
         ensures { result ≡ self.bytes }
     {
         self.bytes
+    }
+
+    /// Whether words of this size are numbers of 64 bits.
+    pub fn is_narrow(self) -> bool
+        ensures { IsTrue result ↔ (self.bytes ≤ 8) }
+    {
+        self.bytes <= 8
     }
 
     pub(crate) fn bit_count(self) -> u32
@@ -95,8 +102,6 @@ pub struct Word {
 }
 
 impl Word {
-    ghost use Rattle.sl_word.specs.Layout.{byte_of};
-
     /// The word of this number, where the size has room for it.
     pub fn new(bits: u128, size: Size) -> Option<Word>
         ensures valid { IsSome result ↔ (bits < 256 ^ size.bytes) }
@@ -106,25 +111,6 @@ impl Word {
             return None;
         }
         Some(Word { bits, size })
-    }
-
-    // The byte that lies at a place where the word lies in memory.
-    pub(crate) fn byte(self, endian: Endian, place: u8) -> u8
-        requires { place < self.size.bytes }
-        ensures { result ≡ byte_of endian self.size.bytes self.bits place }
-    {
-        match endian {
-            Endian::Little => self.byte_above(place),
-            Endian::Big => self.byte_above(self.size.bytes - 1 - place),
-        }
-    }
-
-    // The byte that so many less significant ones stand below.
-    fn byte_above(self, count: u8) -> u8
-        requires { count < 16 }
-        ensures { result ≡ self.bits / 256 ^ count % 256 }
-    {
-        (self.bits >> (8 * u32::from(count)) & 0xff) as u8
     }
 }
 

@@ -7,21 +7,21 @@ use Rattle.sl_emu.proofs.perform.perform_load.Goals as goal
 
 pub load-requires-clause-formed : goal.load-requires-clause-formed
 load-requires-clause-formed c =
-    is_formed (address_sizes c.args.state.now) c.args.op.now (Load c.in-Some.out c.in-Some.space c.in-Some.pointer) c.requires.formed
-    (is_load c.args.op.now c.in-Some.out c.in-Some.space c.in-Some.pointer c.requires.kind c.in-Some.ensures.0 c.in-Some.ensures.1)
+    is_formed (address_sizes c.args.state.now) c.args.op.now (Load c.in-Some.out.now c.in-Some.space.now c.in-Some.pointer.now) c.requires.formed
+    (is_load c.args.op.now c.in-Some.out.now c.in-Some.space.now c.in-Some.pointer.now c.requires.kind c.in-Some.ensures.0 c.in-Some.ensures.1)
 
 pub load-requires-clause-out : goal.load-requires-clause-out
 load-requires-clause-out c =
-    (has_operands_in_range (address_sizes c.args.state.now) c.args.op.now (Load c.in-Some.out c.in-Some.space c.in-Some.pointer) c.requires.formed
-    (is_load c.args.op.now c.in-Some.out c.in-Some.space c.in-Some.pointer c.requires.kind c.in-Some.ensures.0 c.in-Some.ensures.1)).0
+    (has_operands_in_range (address_sizes c.args.state.now) c.args.op.now (Load c.in-Some.out.now c.in-Some.space.now c.in-Some.pointer.now) c.requires.formed
+    (is_load c.args.op.now c.in-Some.out.now c.in-Some.space.now c.in-Some.pointer.now c.requires.kind c.in-Some.ensures.0 c.in-Some.ensures.1)).0
 
 pub load-requires-clause-range : goal.load-requires-clause-range
 load-requires-clause-range c =
-    (has_operands_in_range (address_sizes c.args.state.now) c.args.op.now (Load c.in-Some.out c.in-Some.space c.in-Some.pointer) c.requires.formed
-    (is_load c.args.op.now c.in-Some.out c.in-Some.space c.in-Some.pointer c.requires.kind c.in-Some.ensures.0 c.in-Some.ensures.1)).1
+    (has_operands_in_range (address_sizes c.args.state.now) c.args.op.now (Load c.in-Some.out.now c.in-Some.space.now c.in-Some.pointer.now) c.requires.formed
+    (is_load c.args.op.now c.in-Some.out.now c.in-Some.space.now c.in-Some.pointer.now c.requires.kind c.in-Some.ensures.0 c.in-Some.ensures.1)).1
 
 pub returns-clause-does : goal.returns-clause-does
 returns-clause-does c =
-    op_does_of (endian_of c.args.state.now) (address_sizes c.args.state.now) c.args.op.now (Load c.in-Some.out c.in-Some.space c.in-Some.pointer) (byte_at c.args.state.now) (temporary_bytes c.args.t.now)
+    op_does_of (endian_of c.args.state.now) (address_sizes c.args.state.now) c.args.op.now (Load c.in-Some.out.now c.in-Some.space.now c.in-Some.pointer.now) (byte_at c.args.state.now) (temporary_bytes c.args.t.now)
     (byte_at c.load.new.state) (temporary_bytes c.load.new.t) c.in_ok-then.then
-    (is_load c.args.op.now c.in-Some.out c.in-Some.space c.in-Some.pointer c.requires.kind c.in-Some.ensures.0 c.in-Some.ensures.1) c.in_ok-then.ensures.does
+    (is_load c.args.op.now c.in-Some.out.now c.in-Some.space.now c.in-Some.pointer.now c.requires.kind c.in-Some.ensures.0 c.in-Some.ensures.1) c.in_ok-then.ensures.does

@@ -16,5 +16,6 @@ runs-preserved c =
       there = λ i h. c.set_run.ensures.stay _ (c.runs.invariant.there i h);
       put = Puts-run (256 ^ c.args.self.now.size.bytes) c.args.base c.runs.done c.min-count.result (λ k. get_or c.args.bytes.now k 0)
           (byte_in c.args.self.now) (byte_in c.runs.self) (byte_in c.set_run.new.self)
-          (omega (arith, c.requires.room)) c.runs.invariant.put c.set_run.ensures.bytes;
+          (omega (arith, c.requires.room)) c.runs.invariant.put
+          (c.set_run.ensures.bytes (c.set_run.ensures.found (c.runs.invariant.there c.runs.done c.runs-test.true)));
     }

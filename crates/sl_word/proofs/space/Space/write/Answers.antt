@@ -1,14 +1,16 @@
-use Rattle.std.proofs.Common.{◌^◌}
+use Rattle.std.proofs.Common.{ℕ, ◌^◌, get_or, subst}
 use Rattle.std.proofs.lemmas.Result.{on_ok_weaker}
-use Rattle.sl_word.specs.Layout.{byte_of}
+use Rattle.sl_word.specs.Layout.{Puts, byte_of}
 use Rattle.sl_word.specs.Pages.{byte_in}
-use Rattle.sl_word.proofs.InOnePage.{Puts-in_page}
+use Rattle.sl_word.proofs.Memory.{Puts-same}
 use Rattle.sl_word.proofs.space.Space.write.Goals as goal
 
-pub returns-in-Some-clause-put : goal.returns-in-Some-clause-put
-returns-in-Some-clause-put c =
-    let lies = c.in-Some.ensures in
-    on_ok_weaker c.write_in_page.result
-    (λ run. Puts-in_page (256 ^ c.args.self.now.size.bytes) c.args.base c.in-Some.offset c.args.word.size.bytes (byte_of c.args.endian c.args.word.size.bytes c.args.word.bits)
-    (byte_in c.args.self.now) (byte_in c.write_in_page.new.self) lies.at lies.room run)
-    c.write_in_page.ensures.bytes
+pub returns-clause-put : goal.returns-clause-put
+returns-clause-put c =
+    let most = 256 ^ c.args.self.now.size.bytes in
+    let size = c.args.word.size.bytes in
+    on_ok_weaker c.put.result
+    (λ puts. Puts-same most c.args.base size (λ k. get_or c.in_memory-whole.result k 0) (byte_of c.args.endian size c.args.word.bits) (byte_in c.args.self.now) (byte_in c.put.new.self)
+    c.in_memory-whole.ensures
+    (subst (λ (n : ℕ). Puts (256 ^ c.args.self.now.size.bytes) c.args.base n (λ k. get_or c.in_memory-whole.result k 0) (byte_in c.args.self.now) (byte_in c.put.new.self)) c.from.ensures puts))
+    c.put.ensures.put
