@@ -2,7 +2,7 @@
 use Rattle.std.proofs.Common.{ℕ, List, [], ◌++◌, drop, refl}
 use Rattle.std.specs.Prelude.{◌||◌, codes}
 use Rattle.std.specs.Str.{bytes_eq}
-use Rattle.sl_explain_heads.specs.Heads.{Kind, constructor_words, display_at, head_by, head_line, kind_of, macro_words, pattern_by, pattern_line, pattern_words, table_of, table_words}
+use Rattle.sl_explain_heads.specs.Heads.{Kind, constructor_words, display_at, head_by, kind_of, macro_words, pattern_by, pattern_words, table_of, table_words}
 use Rattle.sl_explain_heads.specs.Heads.Kind.{constructor, macro, other}
 use Rattle.sl_explain_heads.specs.Laws.{HeadsAreLines}
 use Rattle.sl_explain_heads.specs.Words.{blocks_round, joined, text_at}

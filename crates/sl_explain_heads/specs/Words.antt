@@ -1,5 +1,5 @@
 -- meaning: tokens as words, and the modes and blocks in which they stand.
-use Rattle.std.specs.Prelude.{ℕ, ◌+◌, ◌-◌, List, [], ◌∷◌, ◌++◌, codes, length, nat_lt, take}
+use Rattle.std.specs.Prelude.{ℕ, ◌+◌, ◌-◌, ◌||◌, List, [], ◌∷◌, ◌++◌, codes, length, nat_lt, take}
 use Rattle.std.specs.Prelude.{Bool, true, false, Option, Some, None, slice_get, if◌then◌else◌}
 use Rattle.std.specs.Str.{bytes_eq}
 use Rattle.sl_explain_lines.specs.Excerpts.{shown_up_to}
@@ -85,3 +85,19 @@ text_at ts index = bytes_of (slice_get ts index)
 -- the bytes of the token that stands so many before the one of this index
 abbrev pub text_before : List Token → (index back : ℕ) → List ℕ
 text_before ts index back = if nat_lt index back then [] else text_at ts (index - back)
+
+-- ---- items
+
+-- the last token of an item, or of the head of a block
+abbrev pub ends_item : (text : List ℕ) → Bool
+ends_item text =
+    bytes_eq text (codes ";") || (bytes_eq text (codes "}") || (bytes_eq text (codes "{") || bytes_eq text (codes "unimpl")))
+
+-- an item, a block or the end of one begins at the token of this index, which is in this mode
+abbrev pub begins_item : Mode → List Token → (index : ℕ) → Bool
+begins_item mode.Top ts index = ends_item (text_before ts index 1)
+begins_item mode.Head ts index = false
+begins_item mode.Plain ts index = false
+begins_item mode.Body ts index = false
+begins_item mode.Display ts index = false
+begins_item mode.Pattern ts index = false

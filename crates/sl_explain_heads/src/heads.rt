@@ -21,7 +21,7 @@ use std::alloc::{AllocError, Global};
 // ---- the parts of a constructor and of a block
 
 /// Whether the bytes are those of the word.
-fn is(text: &[u8], word: &[u8]) -> bool
+pub fn is(text: &[u8], word: &[u8]) -> bool
     ensures { result ≡ bytes_eq text.now word.now }
 {
     text == word
@@ -74,7 +74,7 @@ fn pattern_part<'a, 'b>(tokens: &'b [Tok<'a>]) -> &'b [Tok<'a>]
 }
 
 /// The table that is named before the colon with which the tokens go on, or no name.
-fn table_at<'a>(tokens: &[Tok<'a>]) -> &'a [u8]
+pub fn table_at<'a>(tokens: &[Tok<'a>]) -> &'a [u8]
     ensures { result.now ≡ table_at (views tokens.now) }
 {
     match text_at(tokens, 0) {
@@ -125,14 +125,14 @@ fn block_pattern_at<'a, 'b>(tokens: &'b [Tok<'a>], index: usize) -> &'b [Tok<'a>
 // ---- words
 
 /// A name, or where it is empty another one.
-fn name_or<'a>(name: &'a [u8], other: &'a [u8]) -> &'a [u8]
+pub fn name_or<'a>(name: &'a [u8], other: &'a [u8]) -> &'a [u8]
     ensures { result.now ≡ name_or name.now other.now }
 {
     if name.is_empty() { other } else { name }
 }
 
 /// The table of the innermost of these blocks that names one, or no name.
-fn table_in<'a>(tokens: &[Tok<'a>], blocks: &[usize]) -> &'a [u8]
+pub fn table_in<'a>(tokens: &[Tok<'a>], blocks: &[usize]) -> &'a [u8]
     ensures { result.now ≡ table_in (views tokens.now) [] blocks.now }
 {
     let mut table: &'a [u8] = b"";

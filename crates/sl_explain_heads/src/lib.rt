@@ -7,5 +7,9 @@ mod heads;
 pub mod laws;
 mod words;
 
-pub use heads::{constructor_words, from, push_head, push_pattern, table_of};
-pub use words::{Mode, blocks_round, mode_at, next_mode, push_token, text_at, text_before};
+pub use heads::{
+    constructor_words, from, name_or, push_head, push_pattern, table_at, table_in, table_of,
+};
+pub use words::{
+    Mode, begins_item, blocks_round, mode_at, next_mode, push_token, step_in, text_at, text_before,
+};

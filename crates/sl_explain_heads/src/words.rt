@@ -2,11 +2,12 @@
 
 ghost use Rattle.std.specs.Prelude.{◌≡◌, ◌++◌, ◌≤◌, IfOk, OnOk, None, length, option_map, slice_get};
 ghost use Rattle.sl_explain_heads.specs.Modes.{mode_view};
-ghost use Rattle.sl_explain_heads.specs.Words.{blocks_by, blocks_in, blocks_round, bytes_of, gap, is_blank};
+ghost use Rattle.sl_explain_heads.specs.Words.{begins_item, blocks_by, blocks_in, blocks_round, bytes_of, ends_item, gap, is_blank};
 ghost use Rattle.sl_explain_heads.specs.Words.{joined, mode_at, text_at, text_before, token_words};
 ghost use Rattle.sl_lex.specs.Modes.{next_mode};
 ghost use Rattle.sl_lex.specs.Views.{view, views};
 
+use crate::heads::is;
 use sl_explain_lines::push_up_to;
 use sl_lex::{Tok, TokKind};
 use std::alloc::{AllocError, Global};
@@ -122,7 +123,12 @@ fn step_blocks(open: &mut Vec<usize>, index: usize, text: &[u8]) -> Result<(), A
 }
 
 /// Opens or closes a block at a token that stands in this mode.
-fn step_in(mode: Mode, open: &mut Vec<usize>, index: usize, text: &[u8]) -> Result<(), AllocError>
+pub fn step_in(
+    mode: Mode,
+    open: &mut Vec<usize>,
+    index: usize,
+    text: &[u8],
+) -> Result<(), AllocError>
     ensures { OnOk result (open.new.items
         ≡ blocks_in (mode_view mode) open.old.items index text.now) }
 {
@@ -150,6 +156,24 @@ pub fn blocks_round(
         mode = next_mode(mode, text);
     }
     Ok(open)
+}
+
+/// Whether a token with these bytes is the last one of an item, or of the head of a block.
+fn ends_item(text: &[u8]) -> bool
+    ensures { result ≡ ends_item text.now }
+{
+    is(text, b";") || is(text, b"}") || is(text, b"{") || is(text, b"unimpl")
+}
+
+/// Whether an item, a block or the end of one begins at the token of this index, which is in this
+/// mode.
+pub fn begins_item(mode: Mode, tokens: &[Tok<'_>], index: usize) -> bool
+    ensures { result ≡ begins_item (mode_view mode) (views tokens.now) index }
+{
+    match mode {
+        Mode::Top => ends_item(text_before(tokens, index, 1)),
+        _ => false,
+    }
 }
 
 /// The bytes of the token of this index, or none.

@@ -31,7 +31,7 @@ kind_shown : (k : Kind) → AllShown (kind_words k)
 kind_shown kind.Space = refl
 kind_shown _ = refl
 
-is_kind_shown : (k : Kind) → AllShown (is_kind k)
+pub is_kind_shown : (k : Kind) → AllShown (is_kind k)
 is_kind_shown k = all_both (codes " is ") (kind_words k) refl (kind_shown k)
 
 note_shown : (k : Kind) → AllShown (relation_note k)

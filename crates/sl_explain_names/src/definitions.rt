@@ -485,7 +485,7 @@ fn size_at(tokens: &[Tok<'_>], mention: Option<Mention>) -> u64
 }
 
 /// The size in bytes of the register of this name.
-fn size_of(i: &Item<'_, '_>, name: &[u8]) -> u64
+pub fn size_of(i: &Item<'_, '_>, name: &[u8]) -> u64
     ensures { result ≡ spec.size_of (item i.now) name.now }
 {
     let definition = definition(i.tokens, i.names.as_slice(), i.start, name);
@@ -543,7 +543,7 @@ pub fn context_finding(i: &Item<'_, '_>, place: Place) -> Option<Finding>
 
 // ---- 13
 
-fn is_attached_role(role: Role) -> bool
+pub fn is_attached_role(role: Role) -> bool
     ensures { result ≡ spec.is_attached_role role }
 {
     matches!(role, Role::Attached | Role::AttachedToRegisters)
@@ -786,7 +786,7 @@ fn count_members(i: &Item<'_, '_>) -> usize
     i.places.iter().filter(|p| is_member(i, **p)).count()
 }
 
-fn width_at(tokens: &[Tok<'_>], mention: Option<Mention>) -> u64
+pub fn width_at(tokens: &[Tok<'_>], mention: Option<Mention>) -> u64
     ensures { result ≡ spec.width_at (views tokens.now) mention }
 {
     match mention {

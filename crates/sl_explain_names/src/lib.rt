@@ -18,11 +18,17 @@ mod tokens;
 mod words;
 
 pub use culprits::{Culprit, find_culprit, item_at};
-pub use definitions::times_in;
+pub use definitions::{is_attached_role, size_of, times_in, width_at};
 pub use findings::Finding;
-pub use item::{Item, is_context_field, is_pattern, is_table, is_token_field};
+pub use item::{
+    Item, begins_at, is_bit_range, is_context_field, is_free, is_pattern, is_register, is_section,
+    is_table, is_token_field,
+};
 pub use laws::culprits_are_lines;
-pub use names::{Kind, Mention, Role, definition, kind_by};
-pub use places::{Part, Place};
-pub use tokens::{has_after, is, number_after, text_after};
-pub use words::{push_advice, push_fault, sentence_of};
+pub use names::{Kind, Mention, Role, definition, kind_by, mentions, steps_to};
+pub use places::{Form, Part, Place, places_of};
+pub use sections::{is_assigned_bits, is_called, is_table_operand, is_value_name};
+pub use tokens::{
+    has_after, has_before, has_here, is, is_integer_at, is_word_at, number_after, text_after,
+};
+pub use words::{push_advice, push_fault, push_kind, sentence_of};

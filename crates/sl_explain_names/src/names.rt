@@ -67,7 +67,7 @@ pub struct Mention {
 // ---- the tokens that say what a name is
 
 /// How many of the tokens are before one with these bytes.
-fn steps_to(text: &[u8], tokens: &[Tok<'_>]) -> usize
+pub fn steps_to(text: &[u8], tokens: &[Tok<'_>]) -> usize
     ensures { result ≡ steps_to text.now (views tokens.now) }
 {
     'tokens: for at in 0..tokens.len() {

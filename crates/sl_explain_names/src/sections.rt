@@ -55,7 +55,7 @@ fn is_placed_label(i: &Item<'_, '_>, place: Place) -> bool
 }
 
 /// Whether a place is the name of a call, or of a value of which bytes are dropped.
-fn is_called(i: &Item<'_, '_>, place: Place) -> bool
+pub fn is_called(i: &Item<'_, '_>, place: Place) -> bool
     ensures { result ≡ spec.is_called (item i.now) place }
 {
     is_name(i, place) && has_after(i.tokens, place.index, 1, b"(")
@@ -103,7 +103,7 @@ fn is_read_space(i: &Item<'_, '_>, place: Place) -> bool
 }
 
 /// Whether a place is a name that is to stand for something.
-fn is_value_name(i: &Item<'_, '_>, place: Place) -> bool
+pub fn is_value_name(i: &Item<'_, '_>, place: Place) -> bool
     ensures { result ≡ spec.is_value_name (item i.now) place }
 {
     is_name(i, place)
@@ -308,7 +308,7 @@ fn is_number(i: &Item<'_, '_>, name: &[u8]) -> bool
 }
 
 /// Whether a place is a name whose bits a statement assigns.
-fn is_assigned_bits(i: &Item<'_, '_>, place: Place) -> bool
+pub fn is_assigned_bits(i: &Item<'_, '_>, place: Place) -> bool
     ensures { result ≡ spec.is_assigned_bits (item i.now) place }
 {
     is_name(i, place) && i.begins_statement(place) && has_after(i.tokens, place.index, 1, b"[")
@@ -417,7 +417,7 @@ fn number_or_kind(i: &Item<'_, '_>, name: &[u8]) -> Finding
 }
 
 /// Whether the name is that of an operand that is a table.
-fn is_table_operand(i: &Item<'_, '_>, name: &[u8]) -> bool
+pub fn is_table_operand(i: &Item<'_, '_>, name: &[u8]) -> bool
     ensures { result ≡ spec.is_table_operand (item i.now) name.now }
 {
     i.is_bare(name) && is_table(i.kind_of(name))

@@ -51,7 +51,7 @@ fn kind_words(kind: Kind) -> &'static [u8]
     }
 }
 
-fn push_kind(out: &mut Vec<u8>, kind: Kind) -> Result<(), AllocError>
+pub fn push_kind(out: &mut Vec<u8>, kind: Kind) -> Result<(), AllocError>
     ensures { OnOk result (out.new.items ≡ out.old.items ++ spec.is_kind kind) }
 {
     out.extend_from_slice(b" is ")?;
