@@ -12,9 +12,13 @@ use Rattle.sl_bind_compile.specs.declared.error.Flaw.TheVariants as flaw
 use Rattle.sl_cube.specs.declared.Point.{Point}
 use Rattle.sl_cube_sets.specs.declared.report.Apart.{Apart}
 use Rattle.sl_cube_sets.specs.declared.report.Apart.TheVariants.{Same, Two}
-use Rattle.sl_explain.specs.Facts.{alone_faults, alone_words, ambiguity_facts, apart_advice, apart_fault, bad_byte, both_items, byte_asked, byte_facts, call_advice, culprit_facts, end_of, end_spot, fault, flaw_facts, form_asked, form_fault, is_double_relation, is_empty_call, is_export_of_number, is_of_pattern, is_quoted, is_word, item_facts, item_lines, keyword_note, line_of_token, nesting_asked, nesting_fault, point_fault, point_faults, points_facts, rule_facts, settled_asked, settling_facts, spot_at, syntax_advice, syntax_asked, syntax_fault, syntax_words, token_facts, token_of, token_spot, wanted_lines, word_facts, word_lines, words_at}
+use Rattle.sl_explain.specs.Facts.{alone_faults, alone_words, ambiguity_facts, apart_advice, apart_fault, bad_byte, both_items, byte_asked, byte_facts, call_advice, culprit_facts, end_of, end_spot, export_facts, export_lines, exported_facts, fault, flaw_facts, form_asked, form_fault, is_double_relation, is_empty_call, is_export_of_number, is_of_pattern, is_quoted, is_word, item_facts, item_lines, keyword_note, line_of_token, nesting_asked, nesting_fault, point_fault, point_faults, points_facts, rule_facts, settled_asked, settling_facts, spot_at, syntax_advice, syntax_asked, syntax_fault, syntax_words, token_facts, token_of, token_spot, wanted_exports, wanted_lines, word_facts, word_lines, words_at}
 use Rattle.sl_explain.specs.Laws.{FactsAreLines}
 use Rattle.sl_explain.specs.Sentences.{advice, asked, cause_words, feature_advice, flaw_advice, flaw_asked, line_of, lines_of, rule_line, rule_lines, rule_rows}
+use Rattle.sl_explain_exports.proofs.LineLemmas.{culprits as exported_culprits}
+use Rattle.sl_explain_exports.specs.FaultWords as exports
+use Rattle.sl_explain_exports.specs.Findings.{export_culprit}
+use Rattle.sl_explain_exports.specs.declared.findings.Culprit as exported
 use Rattle.sl_explain_heads.proofs.LineLemmas.{heads}
 use Rattle.sl_explain_heads.specs.Heads.{head_line, pattern_line}
 use Rattle.sl_explain_heads.specs.Words.{text_before, token_words}
@@ -228,9 +232,31 @@ of_culprits t ts number index c =
     lines_both (word_lines t ts index c) (fault_line ts index c ++ wanted_lines ts number c) (word_is t ts index c)
     (lines_both (fault_line ts index c) (wanted_lines ts number c) (culprits ts index number c).0 (wanted_is ts number c))
 
+export_is : (t : Text) (ts : List Token) (c : exported.Culprit) → AreLines (export_lines t ts c)
+unfolding export_lines
+export_is t ts c =
+    lines_both (token_spot t (slice_get ts c.index)) (head_line ts c.start) (token_is t (slice_get ts c.index)) (heads ts c.start).0
+
+wanted_exports_are : (t : Text) (ts : List Token) (number : ℕ) (c : exported.Culprit) → AreLines (wanted_exports ts number c)
+unfolding wanted_exports
+wanted_exports_are t ts number c =
+    lines_both (rule_line number (exports.sentence_of c)) (exports.advice_line ts c) (rule_line_is number (exports.sentence_of c))
+    (exported_culprits t ts c).1
+
+of_exports : (t : Text) (ts : List Token) (number : ℕ) (c : exported.Culprit) → AreLines (export_facts t ts number c)
+unfolding export_facts
+of_exports t ts number c =
+    lines_both (export_lines t ts c) (exports.fault_line t ts c ++ wanted_exports ts number c) (export_is t ts c)
+    (lines_both (exports.fault_line t ts c) (wanted_exports ts number c) (exported_culprits t ts c).0 (wanted_exports_are t ts number c))
+
+of_exported : (t : Text) (ts : List Token) (number index : ℕ) (c : Option exported.Culprit) → AreLines (exported_facts t ts number index c)
+unfolding exported_facts
+of_exported t ts number index None = of_flaws ts (flaw.Rule number) (Some index)
+of_exported t ts number index (Some c) = of_exports t ts number c
+
 of_words : (t : Text) (ts : List Token) (number index : ℕ) (c : Option Culprit) → AreLines (word_facts t ts number index c)
 unfolding word_facts
-of_words t ts number index None = of_flaws ts (flaw.Rule number) (Some index)
+of_words t ts number index None = of_exported t ts number index (export_culprit ts index number)
 of_words t ts number index (Some c) = of_culprits t ts number index c
 
 of_rules : (t : Text) (ts : List Token) (number : ℕ) (index : Option ℕ) → AreLines (rule_facts t ts number index)

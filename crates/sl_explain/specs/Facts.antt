@@ -15,6 +15,9 @@ use Rattle.sl_explain_heads.specs.Heads.{head_line, pattern_line}
 use Rattle.sl_explain.specs.Sentences.{advice, asked, cause_words, feature_advice, flaw_advice, flaw_asked, rule_line}
 use Rattle.sl_explain_heads.specs.Words.{mode_at, text_before, token_words}
 use Rattle.sl_explain_lines.specs.Excerpts.{shown_up_to}
+use Rattle.sl_explain_exports.specs.FaultWords as exports
+use Rattle.sl_explain_exports.specs.Findings.{export_culprit}
+use Rattle.sl_explain_exports.specs.declared.findings.Culprit as exported
 use Rattle.sl_explain_lines.specs.FactLines.{fact_line, line_words, spot_lines}
 use Rattle.sl_explain_names.specs.Culprits.{culprit}
 use Rattle.sl_explain_names.specs.FaultWords.{advice_line, fault_line, sentence_of}
@@ -223,11 +226,28 @@ wanted_lines ts number c = rule_line number (sentence_of ts number c) ++ advice_
 unfoldable pub culprit_facts : expanded.Text → List Token → (number index : ℕ) → Culprit → List ℕ
 culprit_facts t ts number index c = word_lines t ts index c ++ (fault_line ts index c ++ wanted_lines ts number c)
 
+-- where a word is that breaks a rule on exports, and in which constructor
+unfoldable pub export_lines : expanded.Text → List Token → exported.Culprit → List ℕ
+export_lines t ts c = token_spot t (slice_get ts c.index) ++ head_line ts c.start
+
+-- the sentence that it breaks, and what to write instead
+unfoldable pub wanted_exports : List Token → (number : ℕ) → exported.Culprit → List ℕ
+wanted_exports ts number c = rule_line number (exports.sentence_of c) ++ exports.advice_line ts c
+
+-- What is said of it.
+unfoldable pub export_facts : expanded.Text → List Token → (number : ℕ) → exported.Culprit → List ℕ
+export_facts t ts number c = export_lines t ts c ++ (exports.fault_line t ts c ++ wanted_exports ts number c)
+
+-- Where none is told, the item is told without a word.
+unfoldable pub exported_facts : expanded.Text → List Token → (number index : ℕ) → Option exported.Culprit → List ℕ
+exported_facts t ts number index None = flaw_facts ts (flaw.Rule number) (Some index)
+exported_facts t ts number index (Some c) = export_facts t ts number c
+
 unfoldable pub word_facts : expanded.Text → List Token → (number index : ℕ) → Option Culprit → List ℕ
-word_facts t ts number index None = flaw_facts ts (flaw.Rule number) (Some index)
+word_facts t ts number index None = exported_facts t ts number index (export_culprit ts index number)
 word_facts t ts number index (Some c) = culprit_facts t ts number index c
 
--- A broken rule is told with the word of the item that breaks it, where one can be told.
+-- A broken rule is told with the word of the item that breaks it, or that of a table's exports, where one can be told.
 unfoldable pub rule_facts : expanded.Text → List Token → (number : ℕ) → Option ℕ → List ℕ
 rule_facts t ts number None = flaw_facts ts (flaw.Rule number) None
 rule_facts t ts number (Some index) = word_facts t ts number index (culprit ts index number)

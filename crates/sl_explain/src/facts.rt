@@ -4,7 +4,9 @@ ghost use Rattle.std.specs.Prelude.{[], ◌≡◌, ◌++◌, OnOk, option_map, s
 ghost use Rattle.sl_lex.specs.Faults.Fault.{NoLexeme, OpenQuote, TooWide};
 ghost use Rattle.sl_explain.specs.Facts.{bad_byte, byte_asked, byte_facts};
 ghost use Rattle.sl_explain.specs.Facts.{cause_facts, end_of, end_spot, fault, flaw_facts};
-ghost use Rattle.sl_explain.specs.Facts.{culprit_facts, item_facts, rule_facts, wanted_lines, word_facts, word_lines};
+ghost use Rattle.sl_explain.specs.Facts.{culprit_facts, export_facts, export_lines};
+ghost use Rattle.sl_explain.specs.Facts.{exported_facts, item_facts, rule_facts, wanted_exports};
+ghost use Rattle.sl_explain.specs.Facts.{wanted_lines, word_facts, word_lines};
 ghost use Rattle.sl_explain.specs.Facts.{is_of_pattern, item_lines, spot_at, token_spot};
 ghost use Rattle.sl_explain.specs.Errors.{lex_facts};
 ghost use Rattle.sl_lex.specs.Views.{view, views};
@@ -16,6 +18,7 @@ use crate::sentences::{
 };
 use crate::syntax::token_at;
 use sl_bind_compile::Flaw;
+use sl_explain_exports::find_export_culprit;
 use sl_explain_heads::{push_head, push_pattern};
 use sl_explain_lines::{push_fact, push_spot, push_up_to};
 use sl_explain_names::{
@@ -302,6 +305,76 @@ fn push_culprit_facts(
     push_wanted_lines(alloc, out, tokens, number, culprit)
 }
 
+/// Appends where a word is that breaks a rule on exports, and in which constructor.
+#[tactic(auto, unfolding(crate::specs::Facts::export_lines))]
+fn push_export_lines(
+    alloc: Global,
+    out: &mut Vec<u8>,
+    text: &Expanded,
+    tokens: &[Tok<'_>],
+    culprit: sl_explain_exports::Culprit,
+) -> Result<(), AllocError>
+    ensures { OnOk result (out.new.items
+        ≡ out.old.items ++ export_lines (seen text.now) (views tokens.now) culprit) }
+{
+    push_token_spot(out, text, token_at(tokens, culprit.index))?;
+    push_head(alloc, out, tokens, culprit.start)
+}
+
+/// Appends the sentence that it breaks, and what to write instead.
+#[tactic(auto, unfolding(crate::specs::Facts::wanted_exports))]
+fn push_wanted_exports(
+    out: &mut Vec<u8>,
+    tokens: &[Tok<'_>],
+    number: u8,
+    culprit: sl_explain_exports::Culprit,
+) -> Result<(), AllocError>
+    ensures { OnOk result (out.new.items
+        ≡ out.old.items ++ wanted_exports (views tokens.now) number culprit) }
+{
+    push_sentence(out, number, sl_explain_exports::sentence_of(culprit))?;
+    sl_explain_exports::push_advice(out, tokens, culprit)
+}
+
+/// Appends what is said of a word that breaks the rule of this number on exports.
+#[tactic(auto, unfolding(crate::specs::Facts::export_facts))]
+fn push_export_facts(
+    alloc: Global,
+    out: &mut Vec<u8>,
+    text: &Expanded,
+    tokens: &[Tok<'_>],
+    number: u8,
+    culprit: sl_explain_exports::Culprit,
+) -> Result<(), AllocError>
+    ensures { OnOk result (out.new.items ≡ out.old.items
+        ++ export_facts (seen text.now) (views tokens.now) number culprit) }
+{
+    push_export_lines(alloc, out, text, tokens, culprit)?;
+    sl_explain_exports::push_fault(alloc, out, text, tokens, culprit)?;
+    push_wanted_exports(out, tokens, number, culprit)
+}
+
+/// Appends what is said of a rule that the item with this first token breaks, with this word on
+/// exports, if there is one.
+#[tactic(auto, unfolding(crate::specs::Facts::exported_facts))]
+fn push_exported_facts(
+    alloc: Global,
+    out: &mut Vec<u8>,
+    text: &Expanded,
+    tokens: &[Tok<'_>],
+    number: u8,
+    index: usize,
+    culprit: Option<sl_explain_exports::Culprit>,
+) -> Result<(), AllocError>
+    ensures { OnOk result (out.new.items ≡ out.old.items
+        ++ exported_facts (seen text.now) (views tokens.now) number index culprit) }
+{
+    match culprit {
+        Some(culprit) => push_export_facts(alloc, out, text, tokens, number, culprit),
+        None => push_flaw_facts(alloc, out, tokens, Flaw::Rule(number), Some(index)),
+    }
+}
+
 /// Appends what is said of a rule that the item with this first token breaks, with the word that
 /// breaks it, where there is one.
 #[tactic(auto, unfolding(crate::specs::Facts::word_facts))]
@@ -319,7 +392,10 @@ fn push_word_facts(
 {
     match culprit {
         Some(culprit) => push_culprit_facts(alloc, out, text, tokens, number, index, culprit),
-        None => push_flaw_facts(alloc, out, tokens, Flaw::Rule(number), Some(index)),
+        None => {
+            let culprit = find_export_culprit(alloc, tokens, index, number)?;
+            push_exported_facts(alloc, out, text, tokens, number, index, culprit)
+        }
     }
 }
 
