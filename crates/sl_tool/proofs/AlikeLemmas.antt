@@ -1,5 +1,5 @@
 -- A packed specification is answered as the specification itself.
-use Rattle.std.proofs.Common.{◌≡◌, ℕ, ◌≤◌, List, length, Option, Some, Result, Ok, Err, refl, sym, ap, subst, ◌∙◌, ◌<◌, Bool, inl, inr, arith}
+use Rattle.std.proofs.Common.{◌≡◌, ℕ, ◌≤◌, List, length, Option, Some, Result, Ok, Err, refl, sym, ap, subst, ◌∙◌, ◌<◌, Bool, false, inl, inr, arith}
 use Rattle.std.proofs.lemmas.Option.{slice_get_cases}
 use Rattle.sl_ast.specs.Trees.{Item}
 use Rattle.sl_outside.specs.Folder.{Folder, size_limit}
@@ -46,7 +46,7 @@ alike_then {E = E} {B = B} S T U a b c d one h k f x (goes {b = y} j t) = goes k
 -- ---- where items are doesn't matter once the tables are there
 
 module _ (o q : Origin) (items : List Item) (b : spec.Tables) where
-  counts_same : (x : Result Shown Refusal) → Shows counts_of (compiled (tree o items) b) x → Shows counts_of (compiled (tree q items) b) x
+  counts_same : (x : Result Shown Refusal) → Shows (counts_of false) (compiled (tree o items) b) x → Shows (counts_of false) (compiled (tree q items) b) x
   counts_same (Ok s) h = h
   counts_same (Err x) h = h
 
@@ -207,7 +207,7 @@ module _ (folder : Folder) (main name bytes : List ℕ) (c : Compiled) (sound : 
 
   forth : (r : Request) (x : Result Shown Refusal) → Answers (Some folder) (over (TextFile main) r) x → Answers (Some folder) (over (PackedFile name) r) x
   forth (CheckSpec spec explains) x h =
-      alike_then (Specifies (Some folder)) (Shows counts_of) (Shows counts_of) _ _ c opened_spec (specifies_one folder) sound opens
+      alike_then (Specifies (Some folder)) (Shows (counts_of false)) (Shows (counts_of false)) _ _ c opened_spec (specifies_one folder) sound opens
       (counts_same c.tree.origin stored c.tree.items c.tables) x h
   forth (ShowImage t what) x h =
       alike_then (Specifies (Some folder)) _ _ _ _ c opened_spec (specifies_one folder) sound opens
@@ -228,7 +228,7 @@ module _ (folder : Folder) (main name bytes : List ℕ) (c : Compiled) (sound : 
 
   back : (r : Request) (x : Result Shown Refusal) → Answers (Some folder) (over (PackedFile name) r) x → Answers (Some folder) (over (TextFile main) r) x
   back (CheckSpec spec explains) x h =
-      alike_then (Specifies (Some folder)) (Shows counts_of) (Shows counts_of) _ _ opened_spec c (specifies_one folder) opens sound
+      alike_then (Specifies (Some folder)) (Shows (counts_of false)) (Shows (counts_of false)) _ _ opened_spec c (specifies_one folder) opens sound
       (counts_same stored c.tree.origin c.tree.items c.tables) x h
   back (ShowImage t what) x h =
       alike_then (Specifies (Some folder)) _ _ _ _ opened_spec c (specifies_one folder) opens sound

@@ -34,7 +34,7 @@ refuses_none S T a b one h none e (stops k) = not_both e b (one a _ _ k h)
 refuses_none {E = E} {B = B} S T a b one h none e (goes {b = c} k t) = none e (subst (λ (x : B). T x (Err e)) (ok_is E c b (one a _ _ k h)) t)
 
 no_refusal : (told : Option Folder) (r : Request) → IsTold told r → Accepts told r → (x : Refusal) → Answers told r (Err x) → ⊥
-no_refusal told (CheckSpec spec explains) is (c, h) x = refuses_none (Specifies told) (Shows counts_of) spec c (specifies_told told is) h (λ e k. k) x
+no_refusal told (CheckSpec spec explains) is (c, h) x = refuses_none (Specifies told) (Shows (counts_of explains)) spec c (specifies_told told is) h (λ e k. k) x
 no_refusal told (ShowImage t what) is (l, goes {b = c} h i) x =
     refuses_none (Specifies told) (Then (Loads told t) (Shows (shows_of what))) t.spec c (specifies_told told is) h
     (refuses_none (Loads told t) (Shows (shows_of what)) c l (loads_told told t is) i (λ e k. k)) x

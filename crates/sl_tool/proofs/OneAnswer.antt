@@ -32,7 +32,7 @@ tells_one Is one s u h g = (h.ending ∙ sym g.ending, one s.text u.text h.text 
 follows_one : (told : Option Folder) (r : Request) → IsTold told r → HasOneText r → (c : Compiled) (x y : Result Shown Refusal)
     → Follows told r c x → Follows told r c y → AreAlike x y
 follows_one told (CheckSpec spec explains) is plain c x y h g =
-    shows_one counts_of c (tells_one _ (λ text other e f. e ∙ sym f)) x y h g
+    shows_one (counts_of explains) c (tells_one _ (λ text other e f. e ∙ sym f)) x y h g
 follows_one told (ShowImage t Listing) is plain c x y h g =
     then_alike _ _ AreAlike (loads_told told t is) (λ e. refl) (λ l.
     shows_one (shows_of Listing) l (tells_one _ (listing_is_one l.compiled.tables (all_constructors l.compiled.tree.items) l.image))) c x y h g

@@ -1,5 +1,5 @@
 -- It can't be that a request has no answer.
-use Rattle.std.proofs.Common.{ℕ, Bool, List, length, Option, Some, Result, Ok, refl, sym, subst}
+use Rattle.std.proofs.Common.{ℕ, Bool, List, Option, Some, Result, Ok, refl, sym, subst}
 use Rattle.sl_bind.specs.Binding.{constructors_of}
 use Rattle.sl_bind_compile.specs.Outcomes.{all_constructors}
 use Rattle.sl_list_instructions.proofs.AcceptedLemmas.{IsAccepted, accepted}
@@ -16,10 +16,9 @@ use Rattle.sl_store_format.specs.Packed.{IsPacked}
 use Rattle.sl_tool_request.specs.Requests.{TextFile}
 use Rattle.sl_tool_stages.specs.Packing.{packed_form_of}
 use Rattle.sl_tool.specs.Laws.{MayPack}
-use Rattle.sl_tool.specs.Answers.{Answers, Shows, counts_of, figures_of, gaps_of, generated, packs_of, shows_of}
+use Rattle.sl_tool.specs.Answers.{Answers, Shows, checked_text, counts_of, figures_of, gaps_of, generated, packs_of, shows_of}
 use Rattle.sl_tool.specs.Endings.{Shown, ending_of, shown}
 use Rattle.sl_tool.specs.Generated.{generated_image}
-use Rattle.sl_tool.specs.Counts.{count_line}
 use Rattle.sl_tool.specs.GapText.{IsGapText}
 use Rattle.sl_tool.specs.Request.{AssembleText, CheckSpec, Generate, PackSpec, PatchListing, ReportGaps, Request, Show, ShowImage, Listing, Operations, Run, spec_of}
 use Rattle.sl_tool.specs.declared.status.Ending.TheVariants.{Done}
@@ -37,10 +36,9 @@ use Rattle.sl_tool_stages.proofs.Thens.{then_some}
 
 -- ---- of a sound specification
 
-counts_some : (c : Compiled) → HasSomeResult (Shows counts_of) c
-counts_some c =
-    let line = count_line (length c.tables.tables) (length c.tables.constructors) in
-    surely (let p : (r : Result Shown Refusal) × Shows counts_of c r = (Ok (shown Done line 0), record { ending = refl; text = refl; ran = refl }) in p)
+counts_some : (explains : Bool) (c : Compiled) → HasSomeResult (Shows (counts_of explains)) c
+counts_some explains c =
+    surely (let p : (r : Result Shown Refusal) × Shows (counts_of explains) c r = (Ok (shown Done (checked_text explains c) 0), record { ending = refl; text = refl; ran = refl }) in p)
 
 gaps_some : (c : Compiled) → HasSomeResult (Shows gaps_of) c
 gaps_some c =
@@ -112,7 +110,7 @@ module _ (l : Loaded) (is : IsSpecified l.compiled) (known : IsAccepted l.compil
 -- ---- of a request
 
 pub answer_some : (told : Option Folder) (r : Request) → MayPack told r → Surely ((x : Result Shown Refusal) × Answers told r x)
-answer_some told (CheckSpec spec explains) has = then_some _ _ spec (specifies_some told spec) (λ c h. counts_some c)
+answer_some told (CheckSpec spec explains) has = then_some _ _ spec (specifies_some told spec) (λ c h. counts_some explains c)
 answer_some told (ShowImage t what) has =
     then_some _ _ t.spec (specifies_some told t.spec) (λ c h.
     then_some _ _ c (loads_some told t c) (λ l i.

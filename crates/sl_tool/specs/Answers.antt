@@ -22,6 +22,7 @@ use Rattle.sl_tool.specs.declared.status.Status.{Status}
 use Rattle.sl_tool.specs.declared.status.Status.TheVariants.{Refused}
 use Rattle.sl_tool_request.specs.Requests.{PackedFile, SpecFile, TextFile}
 use Rattle.sl_store_write.specs.Packs.{IsFileOf}
+use Rattle.sl_tool_stages.specs.Noted.{noted_lines}
 use Rattle.sl_tool_stages.specs.Packing.{packed_form_of}
 use Rattle.sl_tool_stages.specs.Problems.{explained_text, refusal_text}
 use Rattle.sl_tool_stages.specs.Stage.{Stage, Then}
@@ -36,10 +37,17 @@ use Rattle.sl_base_surely.specs.Surely.{Surely}
 abbrev pub Due : Type 1
 Due = Shown → Type 0
 
--- what is due of a sound specification: how many tables and constructors there are
-abbrev pub counts_of : Compiled → Due
-counts_of c = ShowsText
-    (λ text. text ≡ count_line (length c.tables.tables) (length c.tables.constructors))
+-- the notes on a sound specification, where it is explained
+abbrev pub noted : (explains : Bool) → Compiled → List ℕ
+noted explains c = if explains then noted_lines c.tree.origin else []
+
+-- how many tables and constructors there are, and the notes
+abbrev pub checked_text : (explains : Bool) → Compiled → List ℕ
+checked_text explains c = count_line (length c.tables.tables) (length c.tables.constructors) ++ noted explains c
+
+-- what is due of a sound specification that is checked
+abbrev pub counts_of : (explains : Bool) → Compiled → Due
+counts_of explains c = ShowsText (λ text. text ≡ checked_text explains c)
 
 -- what is due of an image
 abbrev pub shows_of : Show → Loaded → Due
@@ -70,7 +78,7 @@ Shows due a (Err x) = ⊥
 -- What becomes of a sound specification, a line for each kind of request: what is shown, or a
 -- refusal.
 abbrev pub Follows : Option Folder → Request → Stage Refusal Compiled Shown
-Follows told (CheckSpec spec explains) = Shows counts_of
+Follows told (CheckSpec spec explains) = Shows (counts_of explains)
 Follows told (ShowImage t what) = Then (Loads told t) (Shows (shows_of what))
 Follows told (ReportGaps spec) = Shows gaps_of
 Follows told (Generate size) = Shows (figures_of size)

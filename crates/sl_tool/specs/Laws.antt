@@ -1,5 +1,5 @@
 -- meaning: laws above the definitions.
-use Rattle.std.specs.Prelude.{◌≡◌, ℕ, ◌≤◌, ◌⊎◌, List, length, Option, Some, IsSome, Result, Ok, Err, ⊤}
+use Rattle.std.specs.Prelude.{◌≡◌, ℕ, ◌≤◌, ◌⊎◌, false, List, length, Option, Some, IsSome, Result, Ok, Err, ⊤}
 use Rattle.std.specs.Io.KnownBytes.{Appends}
 use Rattle.sl_asm_lines.specs.Patched.{IsUnedited, ListsAlike}
 use Rattle.sl_bind_compile.specs.Outcomes.{all_constructors}
@@ -132,9 +132,10 @@ AcceptedAreAnswered = (told : Option Folder) (r : Request) → IsAccepted told r
 
 -- ---- packed specifications
 
--- the request over this file of a specification; `gen` and `pack` are over none that could be packed
+-- the request over this file of a specification; `gen` and `pack` are over none that could be packed. A packed file has no text,
+-- on which there could be notes: so `check` is taken without the option.
 abbrev pub over : SpecFile → Request → Request
-over file (CheckSpec spec explains) = CheckSpec file explains
+over file (CheckSpec spec explains) = CheckSpec file false
 over file (ShowImage t what) = ShowImage (record t { spec = file }) what
 over file (ReportGaps spec) = ReportGaps file
 over file (Generate size) = Generate size

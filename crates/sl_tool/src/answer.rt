@@ -164,7 +164,7 @@ fn answered_by<F: Files, K: Sink, R: Runner>(
 {
     let compiled = Compiled::read(alloc, tree)?;
     match request {
-        Request::Check(_, _) => check(alloc, &compiled, out),
+        Request::Check(_, explains) => check(alloc, &compiled, *explains, out),
         Request::Show(target, what) => { show(alloc, target, *what, compiled, files, out, runner) }
         Request::Gaps(_) => report(alloc, &compiled, out),
         Request::Pack(_) => pack(alloc, &compiled, out),

@@ -15,4 +15,5 @@ pub mod Packing
 pub mod Packable
 pub mod Halts
 pub mod Loaded
+pub mod Noted
 pub mod Laws

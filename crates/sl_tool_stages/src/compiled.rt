@@ -20,6 +20,7 @@ use crate::refusal::{Refusal, Subject};
 use crate::tree::Tree;
 use sl_bind_compile::{Ambiguity, CompileError, Compiled as Specification, Flaw, compile};
 use sl_explain::{push_ambiguity_facts, push_flaw_facts, push_item_facts, push_settling_facts};
+use sl_explain_notes::push_notes;
 use sl_store_text::pack_text;
 use sl_store_write::pack_parts;
 use std::alloc::{AllocError, Global};
@@ -173,7 +174,9 @@ fn refused(alloc: Global, origin: &Origin<'_, '_>, error: CompileError<'_>) -> H
 }
 
 impl<'s, 'r> Compiled<'s, 'r> {
-    ghost use Rattle.std.specs.Prelude.{IfOk};
+    ghost use Rattle.std.specs.Prelude.{◌++◌, IfOk, OnOk};
+    ghost use Rattle.sl_tool_stages.specs.Noted.{noted_lines};
+    ghost use Rattle.sl_tool_stages.specs.OriginView.{origin_view};
     ghost use Rattle.sl_bind_compile.specs.Compiled.{IsCompiled};
     ghost use Rattle.sl_tool_stages.specs.Outcomes.{Gives};
     ghost use Rattle.sl_tool_stages.specs.Stages.{Compiles};
@@ -199,6 +202,20 @@ impl<'s, 'r> Compiled<'s, 'r> {
                 specification,
             }),
             Err(error) => Err(refused(alloc, &origin, error)),
+        }
+    }
+
+    /// Appends the notes on the text of the specification; on a packed one there are none.
+    pub fn push_notes(&self, alloc: Global, out: &mut Vec<u8>) -> Result<(), AllocError>
+        ensures { OnOk result (out.new.items
+            ≡ out.old.items ++ noted_lines (origin_view self.now.origin)) }
+    {
+        match &self.origin {
+            Origin::InText(of) => {
+                let text = &of.source.expanded;
+                push_notes(alloc, out, text, of.tokens.as_slice())
+            }
+            Origin::Stored(_) => Ok(()),
         }
     }
 

@@ -49,25 +49,27 @@ returns-in_err-compiled-clause-sink g c =
 
 pub returns-in-Check-clause-writes : goal.returns-in-Check-clause-writes
 returns-in-Check-clause-writes g c =
+    let explains = c.in-Check.explains in
     let told = g.F.Files.told c.args.files.now in
     let r = request c.args.request.now in
     let n = g.R.Runner.count c.args.runner.now in
     let v = compiled_view c.in_ok-compiled.compiled in
-    writes_map (Shows counts_of v) (Then Compiles (Follows told r) (tree_view c.args.tree)) _ _ (Grew n n) c.check.result
+    writes_map (Shows (counts_of explains) v) (Then Compiles (Follows told r) (tree_view c.args.tree)) _ _ (Grew n n) c.check.result
     (λ x t. goes c.in_ok-compiled.ensures.gives (subst (λ (q : Request). Follows told (request q) v x) (sym c.in-Check.is) t))
-    (show_writes counts_of v _ _ (Grew n n) c.check.result (streams_alike (counts_of v) _ _ n c.check.result (g.R.Runner.small c.args.runner.now) c.check.ensures.streams))
+    (show_writes (counts_of explains) v _ _ (Grew n n) c.check.result (streams_alike (counts_of explains v) _ _ n c.check.result (g.R.Runner.small c.args.runner.now) c.check.ensures.streams))
 
 pub returns-in-Check-clause-files : goal.returns-in-Check-clause-files
 returns-in-Check-clause-files g c =
+    let explains = c.in-Check.explains in
     let v = compiled_view c.in_ok-compiled.compiled in
     let f = c.args.files.now in
     follows g.F.Files.told g.F.Files.faults g.F.Files.asked (request c.args.request.now) _ _ (tree_view c.args.tree) v _ _ c.in_ok-compiled.ensures.gives
     (subst (λ (q : Request). UsesFiles g.F.Files.told g.F.Files.faults g.F.Files.asked f f (asked_after (request q))
     (IsEarly c.check.result) (FailsToRead c.check.result)) (sym c.in-Check.is)
-    (idle g.F.Files.told g.F.Files.faults g.F.Files.asked f _ _ (never_reads (counts_of v) _ _ _ c.check.result c.check.ensures.streams)))
+    (idle g.F.Files.told g.F.Files.faults g.F.Files.asked f _ _ (never_reads (counts_of explains v) _ _ _ c.check.result c.check.ensures.streams)))
 
 pub returns-in-Check-clause-unwritten : goal.returns-in-Check-clause-unwritten
-returns-in-Check-clause-unwritten g c = show_unwritten (counts_of (compiled_view c.in_ok-compiled.compiled)) _ _ _ c.check.result c.check.ensures.streams
+returns-in-Check-clause-unwritten g c = show_unwritten (counts_of c.in-Check.explains (compiled_view c.in_ok-compiled.compiled)) _ _ _ c.check.result c.check.ensures.streams
 
 -- ---- what it leaves unmatched is reported
 
