@@ -1,10 +1,13 @@
 //! The program `sleigh`: the tool over the files of the machine, its standard output, and the emulator.
 #![tactic(auto)]
 
+mod calling;
+
+use crate::calling::call_tool;
 use sl_emu::KeepingEmu;
-use sl_outside::{DiskFiles, SinkError, StdSink};
+use sl_outside::{DiskFiles, StdSink};
 use sl_outside_buffered::BufferedSink;
-use sl_tool::{Status, run_tool};
+use sl_tool::Status;
 use std::io::{self, ErrorKind};
 use std::process::ExitCode;
 
@@ -30,14 +33,5 @@ fn called(rt: &HostRuntime, words: &[String]) -> Status {
         return Status::NoMemory;
     };
     let mut runner = KeepingEmu::new(alloc);
-    let status = run_tool(alloc, words, &mut files, &mut out, &mut runner);
-    // What still waits is written, too, unless the writing has failed already.
-    if status == Status::WriteFault {
-        return status;
-    }
-    match out.flush() {
-        Ok(()) => status,
-        Err(SinkError::Failed) => Status::WriteFault,
-        Err(SinkError::NoMemory) => Status::NoMemory,
-    }
+    call_tool(alloc, words, &mut files, &mut out, &mut runner)
 }
