@@ -204,7 +204,7 @@ impl Reader<'_, '_, '_> {
         let (Some(next), Some(context)) = (setting.next, node.goal.context) else {
             return Ok(Some(region));
         };
-        if !lengths.are_known() {
+        if !lengths.are_known() || node.plan.late.rows().is_empty() {
             return Ok(Some(region));
         }
         let frame = Frame {

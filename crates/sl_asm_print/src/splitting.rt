@@ -73,7 +73,7 @@ fn add_splits<'x>(
     let (least, most) = lengths_of(first, rest, text);
     'ends: for end in least..most + 1 {
         let (piece, more) = text.split_at(end);
-        if can_be(first, piece) {
+        if may_be_cut(first, rest, piece, more) {
             front.push(piece)?;
             add_splits(alloc, rest, more, front, out)?;
             front.truncate(depth);
@@ -91,6 +91,25 @@ fn can_be(part: &Part, piece: &[u8]) -> bool
         Part::Text(text) => text.as_slice() == piece,
         _ => true,
     }
+}
+
+/// Whether the text may be shown by the parts: it begins with the first of them, if that is a text.
+pub fn begins_with(parts: &[Part], text: &[u8]) -> bool
+    ensures { (shows : PartOf → List ℕ) → KeepsTexts shows → text.now ≡ flat_map shows parts.now
+        → IsTrue result }
+{
+    match parts.first() {
+        Some(Part::Text(first)) => text.starts_with(first),
+        _ => true,
+    }
+}
+
+/// Whether the first part can have the piece, and the rest the text after it.
+fn may_be_cut(first: &Part, rest: &[Part], piece: &[u8], more: &[u8]) -> bool
+    ensures { (shows : PartOf → List ℕ) → KeepsTexts shows → shows first.now ≡ piece.now
+        → more.now ≡ flat_map shows rest.now → IsTrue result }
+{
+    can_be(first, piece) && begins_with(rest, more)
 }
 
 /// All ways to cut the text into the parts. The only error is want of memory.
