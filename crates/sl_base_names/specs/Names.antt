@@ -1,4 +1,4 @@
--- view: lists of names, each of which is its bytes.
+-- meaning: lists of names, each of which is its bytes.
 use Rattle.std.specs.Prelude.{ℕ, Bool, List, Option}
 use Rattle.std.specs.List.{list_any, position}
 use Rattle.std.specs.Str.{bytes_eq}

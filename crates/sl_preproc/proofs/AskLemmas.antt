@@ -1,8 +1,8 @@
 -- Names asked for, one list after another.
-use Rattle.std.proofs.Common.{◌≡◌, ℕ, ◌+◌, ◌≤◌, List, [], ◌++◌, take, drop, length, Option, Some, None, arith, refl, sym, ap, subst, ◌∙◌, append_assoc, append-nil}
+use Rattle.std.proofs.Common.{◌≡◌, ℕ, ◌+◌, List, [], ◌++◌, take, drop, length, Option, Some, None, arith, refl, sym, ap, subst, ◌∙◌, append_assoc, append-nil}
 use Rattle.std.proofs.lemmas.List.{take-append-drop}
 use Rattle.std.proofs.Math.Seq.{take-append_seam, take-append-add}
-use Rattle.sl_outside.specs.Causes.{Rose}
+use Rattle.sl_outside.proofs.Counts.{rose_more}
 use Rattle.sl_outside.specs.Folder.{Folder}
 use Rattle.sl_outside.specs.Uses.{Names, Asks, AsksFront, UsesFiles}
 
@@ -28,9 +28,6 @@ take_within n xs ys =
 
 front_more : (a b : Names) (xs ys : List (List ℕ)) → AsksFront a b xs → AsksFront a b (xs ++ ys)
 front_more a b xs ys w = (length (take w.0 xs), subst (λ (l : List (List ℕ)). Asks a b l) (sym (take_within w.0 xs ys)) w.1)
-
-rose_more : (a b c : ℕ) → a ≤ b → Rose b c → Rose a c
-rose_more a b c h k = omega (arith, h, k)
 
 -- ---- calls one after another
 

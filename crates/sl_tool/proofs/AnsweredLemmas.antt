@@ -3,6 +3,7 @@ use Rattle.std.proofs.Common.{ℕ, ◌+◌, ◌^◌, ◌<◌, ◌≤◌, List, [
 use Rattle.std.proofs.KnownBytes.{Appends-nil}
 use Rattle.std.proofs.Math.Seq.{take-append-add}
 use Rattle.std.proofs.lemmas.List.{take-append-le, take_min}
+use Rattle.sl_outside.proofs.Counts.{rose_more}
 use Rattle.sl_outside.specs.Causes.{Rose}
 use Rattle.sl_outside.specs.Folder.{Folder}
 use Rattle.sl_outside.specs.Uses.{Names, Asks, AsksFront, UsesFiles, UsesSink}
@@ -150,9 +151,6 @@ front_after a b c names more all w = (
   length names + w.0,
   subst (λ (l : List (List ℕ)). Asks a c l) (sym (take-append-add names more w.0)) (Asks-trans a b c names (take w.0 more) all w.1),
 )
-
-rose_more : (a b c : ℕ) → a ≤ b → Rose b c → Rose a c
-rose_more a b c h k = omega (arith, h, k)
 
 abbrev pub FrontDue : (List (List ℕ) → Type 0) → Names → Names → Type 0
 FrontDue due a b = (names : List (List ℕ)) × due names × AsksFront a b names

@@ -1,6 +1,5 @@
 -- Lines counted byte by byte, and what `gen` tells.
-use Rattle.std.proofs.Common.{◌≡◌, ℕ, zero, suc, ◌+◌, ◌<◌, ◌≤◌, ◌==◌, if◌then◌else◌, Bool, true, false, List, [], ◌∷◌, Some, Ok, length, get_or, drop, refl, sym, ap, subst, ◌∙◌, arith}
-use Rattle.std.proofs.lemmas.List.{drop_more}
+use Rattle.std.proofs.Common.{◌≡◌, ℕ, zero, suc, ◌+◌, ◌<◌, ◌≤◌, ◌==◌, if◌then◌else◌, Bool, true, false, List, [], ◌∷◌, Some, Ok, length, refl, sym, ap, subst, ◌∙◌, arith}
 use Rattle.std.proofs.Math.ListN.{drop_of_length-le}
 use Rattle.std.specs.Prelude.{slice_get}
 use Rattle.sl_ast.specs.Trees.{Item}
@@ -34,18 +33,6 @@ one_more byte count false false = omega arith
 first_of : (byte count : ℕ) (is_marked is_line : Bool) → (byte == 10) ≡ is_line → (lines_behind byte count is_marked).0 ≤ count + 1
 first_of byte count is_marked true e = rw e (one_more byte count is_marked true)
 first_of byte count is_marked false e = rw e (one_more byte count is_marked false)
-
--- behind one byte more
-pub byte_counted : (text : List ℕ) (place count : ℕ) (is_marked : Bool) (byte : ℕ) (next : ℕ × Bool) → place < length text → byte ≡ get_or text place byte
-    → next ≡ lines_behind byte count is_marked → CountsSo text place count is_marked → CountsSo text (place + 1) next.0 next.1
-byte_counted text place count is_marked byte next below at is so_far =
-    let rest : drop place text ≡ byte ∷ drop (place + 1) text =
-    drop_more text place byte below ∙ ap (λ (b : ℕ). b ∷ drop (place + 1) text) (sym at) in
-    let within : next.0 ≤ count + 1 = subst (λ (n : ℕ × Bool). n.0 ≤ count + 1) (sym is) (first_of byte count is_marked (byte == 10) refl) in
-    record {
-      few = omega (arith, within, so_far.few);
-      rest = ap (λ (n : ℕ × Bool). shown_from n.0 n.1 (drop (place + 1) text)) is ∙ ap (shown_from count is_marked) (sym rest) ∙ so_far.rest;
-    }
 
 -- at the end
 pub all_counted : (text : List ℕ) (place count : ℕ) (is_marked : Bool) → length text ≤ place → CountsSo text place count is_marked → count ≡ shown_lines text

@@ -1,9 +1,9 @@
 -- The parts that words are read as are those that they have.
-use Rattle.std.proofs.Common.{◌≡◌, ◌∙◌, ◌+◌, ◌<◌, ◌≤◌, ℕ, suc, Bool, true, false, cond, ◌&&◌, not, List, [], ◌∷◌, ◌++◌, map, length, take, drop, Option, Some, None, option_map, ◌||◌, refl, sym, ap, ap₂, subst, arith, codes, get_or, ◌⊎◌, inl, inr}
+use Rattle.std.proofs.Common.{◌≡◌, ◌∙◌, ◌+◌, ℕ, suc, Bool, true, false, cond, ◌&&◌, List, [], ◌∷◌, ◌++◌, map, length, take, drop, Option, Some, None, option_map, ◌||◌, refl, sym, ap, ap₂, subst, arith, codes}
 use Rattle.std.specs.Prelude.{◌==◌}
-use Rattle.std.specs.List.{after_first, before_first, list_all, list_any, position_or_len}
+use Rattle.std.specs.List.{after_first, before_first, list_any, position_or_len}
 use Rattle.std.specs.Str.{bytes_eq}
-use Rattle.std.proofs.Math.Seq.{drop-append-add, take-append_seam, take-length}
+use Rattle.std.proofs.Math.Seq.{drop-append-add, take-append_seam}
 use Rattle.std.proofs.lemmas.Bool.{eqb-true}
 use Rattle.std.proofs.lemmas.Slice.Eq.{bytes_eq-Decides}
 use Rattle.sl_tool_request.specs.Parts.{AreParts, HasOption, PartsAreThoseOfWords, a_flag, a_word, apart, are_names, at_end, behind_dashes, is_name, joined}
@@ -99,10 +99,6 @@ says_so (c ∷ d ∷ rest) = two_say c d rest (c == 45) (d == 45) refl refl
 
 -- ---- words that are read have the parts
 
-inv_first : (p : Part) (o : Option (List Part)) (ps : List Part) → first_part p o ≡ Some ps → (qs : List Part) × (o ≡ Some qs) × (p ∷ qs ≡ ps)
-inv_first p None ps e = absurd (cc)
-inv_first p (Some qs) ps e = let same : p ∷ qs ≡ ps = cc in (qs, refl, same)
-
 module _ (options : List OptionRule) where
   moved : (ws vs : List Text) (ps qs : List Part) → ws ≡ vs → ps ≡ qs → AreParts options ws ps → AreParts options vs qs
   moved ws vs ps qs e f h = subst (λ us. AreParts options us qs) e (subst (AreParts options ws) f h)
@@ -184,27 +180,6 @@ found_name (o ∷ os) name b good has = here (bytes_eq o.name name) refl has (pa
         → (are_names os ≡ true → HasOption os name b → IsName name) → IsName name
     here true is has good later = subst IsName ((bytes_eq-Decides o.name name).0 is) good.0
     here false is has good later = later good.1 has
-
-flag_form : (name : Text) → IsName name → form_of (codes "--" ++ name) ≡ named name None
-flag_form [] good = absurd (cc)
-flag_form (c ∷ rest) good =
-    let none : list_any is_equals (c ∷ rest) ≡ false = not_true (list_any is_equals (c ∷ rest)) good in
-    ap₂ (λ n b. named n (cond b (Some (after_first is_equals (c ∷ rest))) None)) (before_none (c ∷ rest) none) none
-  where
-    not_true : (b : Bool) → not b ≡ true → b ≡ false
-    not_true true e = sym e
-    not_true false e = refl
-
-joined_form : (name v : Text) → IsName name → form_of (codes "--" ++ (name ++ 61 ∷ v)) ≡ named name (Some v)
-joined_form [] v good = absurd (cc)
-joined_form (c ∷ rest) v good =
-    let none : list_any is_equals (c ∷ rest) ≡ false = not_true (list_any is_equals (c ∷ rest)) good in
-    ap₂ (λ n b. named n (cond b (Some (after_first is_equals ((c ∷ rest) ++ 61 ∷ v))) None)) (before_at (c ∷ rest) v none) (any_at (c ∷ rest) v)
-    ∙ ap (λ a. named (c ∷ rest) (Some a)) (after_at (c ∷ rest) v none)
-  where
-    not_true : (b : Bool) → not b ≡ true → b ≡ false
-    not_true true e = sym e
-    not_true false e = refl
 
 by_kind : (k : Option OptionRule) (n : Text) (v : Option Text) (next : Option Text → Option (List Part)) (b : Bool) → option_map (λ (o : OptionRule). o.takes_value) k ≡ Some b
     → option_part k n v next ≡ cond b (setting_part n v next) (flag_part n v next)

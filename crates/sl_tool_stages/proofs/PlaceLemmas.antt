@@ -1,11 +1,9 @@
 -- Places that refusals name.
-use Rattle.std.proofs.Common.{◌≡◌, ℕ, suc, zero, ◌+◌, ◌-◌, ◌<◌, ◌≤◌, List, [], ◌∷◌, ◌++◌, length, Option, Some, None, refl, ap, subst, ◌∙◌, arith, inl, inr, get_or, length-append, map}
+use Rattle.std.proofs.Common.{◌≡◌, ℕ, suc, zero, ◌+◌, ◌-◌, ◌<◌, ◌≤◌, List, [], ◌∷◌, ◌++◌, length, Option, Some, None, refl, ap, subst, ◌∙◌, arith, inl, inr, length-append}
 use Rattle.std.specs.Prelude.{slice_get, min}
 use Rattle.std.specs.Coded.{le_prop}
 use Rattle.std.specs.List.{AllByRecursion}
-use Rattle.std.specs.Option.{option_map}
 use Rattle.std.proofs.Math.Logic.{∥∥₁_elim}
-use Rattle.std.proofs.lemmas.Option.{slice_get-map, slice_get_read}
 use Rattle.sl_lex.specs.Errors.{Tells}
 use Rattle.sl_lex.specs.Faults.{Fault, IsBadByte, IsFault}
 use Rattle.sl_lex.specs.Faults.Fault.{NoLexeme, OpenQuote, TooWide}
@@ -80,10 +78,6 @@ pub past_all : (end : ℕ) (tokens : List Token) (index : ℕ) → length tokens
 past_all end [] index past = refl
 past_all end (token ∷ tokens) zero past = absurd (omega arith)
 past_all end (token ∷ tokens) (suc index) past = past_all end tokens index (omega arith)
-
--- what is read in a list that is seen in this way
-seen_at : {X Y : Type 0} (see : X → Y) (xs : List X) (i : ℕ) (x : X) → i < length xs → x ≡ get_or xs i x → slice_get (map see xs) i ≡ Some (see x)
-seen_at see xs i x within is = slice_get-map see xs i ∙ ap (option_map see) (slice_get_read xs (length xs) i x refl within is)
 
 -- ---- problems and their places
 

@@ -60,10 +60,6 @@ two_clean a b d e is_d is_e = ap₂ (λ d e. is_clean (or_else a (or_else b (or_
     here [] (k ∷ ks) = refl
     here (k ∷ ks) b = refl
 
-gates : {X : Type 0} (a b : Kinds) (x : Bool) (o : Option X) → gate (is_clean a) (gate (is_clean b && x) o) ≡ gate (is_clean (or_else a b) && x) o
-gates [] b x o = refl
-gates (k ∷ ks) b x o = refl
-
 module _ (name : Text) (os : List OptionRule) where
   abbrev s : Shape
   s = built_shape name os
@@ -236,13 +232,6 @@ whole_fault words = built_fault built_app nothing_held words
 
 abbrev stop_at : List Text → Option (Text × List Text)
 stop_at words = (walk [] names nothing_held words).stopped
-
--- a fault of the first word is one of the whole
-first_fails : (word : Text) (rest : List Text) → is_clean (turn_fault top names start word) ≡ false → is_clean (whole_fault (word ∷ rest)) ≡ false
-unfolding walk_fault
-first_fails word rest e =
-    first_not (or_else (turn_fault top names start word) (walk_fault top names (walked [] names start word) rest)) _
-    (first_not (turn_fault top names start word) (walk_fault top names (walked [] names start word) rest) e)
 
 -- ---- a first word that names no command
 

@@ -1,5 +1,5 @@
 -- What stands written after what was gathered is handed on.
-use Rattle.std.proofs.Common.{◌≡◌, ℕ, ◌≤◌, ◌⊎◌, inl, inr, List, [], Option, Some, None, length, take, arith, sym, subst, ◌∙◌}
+use Rattle.std.proofs.Common.{◌≡◌, ℕ, ◌⊎◌, inl, inr, List, [], Option, Some, None, length, take, arith, sym, subst, ◌∙◌}
 use Rattle.std.proofs.lemmas.List.{take_all}
 use Rattle.std.specs.Io.KnownBytes.{Appends, Keeps}
 use Rattle.sl_outside.specs.Folder.{Folder}
@@ -7,7 +7,7 @@ use Rattle.sl_tool.specs.Ends.{Ends, WritesFirst, WritesWhole}
 use Rattle.sl_tool.specs.Request.{Request}
 use Rattle.sl_tool.specs.declared.status.Status.{Status}
 use Rattle.sl_tool.specs.declared.status.Status.TheVariants.{Done, Refused, Usage, ReadFault, WriteFault, NoMemory, Stopped}
-use Rattle.sl_outside.specs.Causes.{Rose}
+use Rattle.sl_outside.proofs.Counts.{rose_more}
 use Rattle.sl_outside.specs.Uses.{Names, UsesSink}
 use Rattle.sl_tool.specs.Ends.{RunsFor}
 use Rattle.sleigh.specs.Handed.{HasWhole, IsHanded}
@@ -106,9 +106,6 @@ module _ (s q : Status) (Done : Type 0) (whole : HasWhole s) (handed : IsHanded 
       early_not (inr e) = whole_not s NoMemory whole (λ n. n) e
 
 -- ---- the sink
-
-rose_more : (a b c : ℕ) → a ≤ b → Rose b c → Rose a c
-rose_more a b c below rose = omega (arith, below, rose)
 
 -- a use after another one, of which only the later one may fail
 pub uses_on : {K : Type 0} (faults calls : K → ℕ) (old mid new : K) (some fails : Type 0) → UsesSink faults calls old mid some → UsesSink faults calls mid new fails

@@ -1,4 +1,4 @@
--- meaning: what stands in the sink behind the one that gathers.
+-- step: what stands in the sink behind the one that gathers.
 use Rattle.std.specs.Prelude.{◌≡◌, ◌⊎◌, ⊤}
 use Rattle.sl_tool.specs.declared.status.Status.{Status}
 use Rattle.sl_tool.specs.declared.status.Status.TheVariants.{Done, Refused, Usage, Stopped}

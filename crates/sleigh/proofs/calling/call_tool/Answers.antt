@@ -1,6 +1,4 @@
 use Rattle.std.proofs.Common.{map, string_bytes}
-use Rattle.sl_outside_buffered.specs.Buffered.{all_taken, waiting}
-use Rattle.sl_tool.specs.Growth.{Grew}
 use Rattle.sl_tool.specs.Request.{request_of}
 use Rattle.sleigh.proofs.HandedLemmas.{handed_all, handed_ends, handed_files, handed_reads, uses_on, whole_of}
 use Rattle.sleigh.proofs.calling.call_tool.Goals as goal
