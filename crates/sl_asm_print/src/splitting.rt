@@ -1,6 +1,7 @@
 //! Ways to cut a text into parts.
 
-ghost use Rattle.std.specs.Prelude.{◌≡◌, ◌≤◌, ◌∷◌, [], List, ℕ, IfOk, IsTrue, OnOk, length, map};
+ghost use Rattle.std.specs.Prelude.{◌≡◌, ◌≤◌, ◌∷◌, ◌++◌, [], List, ℕ, IfOk, IsTrue, OnOk, length};
+ghost use Rattle.std.specs.Prelude.{map};
 ghost use Rattle.std.specs.List.{flat_map};
 ghost use Rattle.sl_asm_print.specs.Splits.{AddsSplits, HasSplit, IsBetween, KeepsTexts, pieces};
 ghost use Rattle.sl_show.specs.declared.templates.Part.{Part as PartOf};
@@ -93,13 +94,28 @@ fn can_be(part: &Part, piece: &[u8]) -> bool
     }
 }
 
+/// Whether the text is the front, with more behind it or not.
+fn has_front(text: &[u8], front: &[u8]) -> bool
+    ensures { (rest : List ℕ) → text.now ≡ front.now ++ rest → IsTrue result }
+{
+    if text.len() < front.len() {
+        return false;
+    }
+    'bytes: for index in 0..front.len() {
+        if text[index] != front[index] {
+            return false;
+        }
+    }
+    true
+}
+
 /// Whether the text may be shown by the parts: it begins with the first of them, if that is a text.
 pub fn begins_with(parts: &[Part], text: &[u8]) -> bool
     ensures { (shows : PartOf → List ℕ) → KeepsTexts shows → text.now ≡ flat_map shows parts.now
         → IsTrue result }
 {
     match parts.first() {
-        Some(Part::Text(first)) => text.starts_with(first),
+        Some(Part::Text(first)) => has_front(text, first),
         _ => true,
     }
 }
