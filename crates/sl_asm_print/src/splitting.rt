@@ -137,7 +137,7 @@ pub fn splits<'x>(
     ensures { IfOk result (λ out. (shows : PartOf → List ℕ) → KeepsTexts shows
         → flat_map shows parts.now ≡ text.now → HasSplit (map shows parts.now) out.items) }
 {
-    let mut front = Vec::new(alloc);
+    let mut front = Vec::with_capacity(alloc, parts.len())?;
     let mut out = Vec::new(alloc);
     add_splits(alloc, parts, text, &mut front, &mut out)?;
     Ok(out)
