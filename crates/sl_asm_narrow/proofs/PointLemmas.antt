@@ -111,4 +111,4 @@ module _ (xs : List ℕ) (are : AreBytes xs) (at : ℕ) (near : at ≤ 255) wher
       → number_in (token_of t.tokens f) (point_bytes (point_at (with_zeros xs) at (context % 2 ^ 64))) (context % 2 ^ 64) ≡ number_at t f (with_zeros xs) at context
   same_in_point t f (Some token) known context is few fits = same_number t f token context (context % 2 ^ 64) is few
   same_in_point t f None (Some k) context is small fits = let same : context % 2 ^ 64 ≡ context = omega (arith, fits, small) in rw is same
-  same_in_point t f None None context is no fits = absurd no
+  same_in_point t f None None context is unknown fits = absurd unknown
