@@ -67,7 +67,7 @@ impl Test for Wanted<'_, '_, '_, '_, '_> {
         };
         let window = window_at(bytes, 0);
         let mut walk = Walk::new(alloc);
-        let mut text = Vec::with_capacity(alloc, self.text.len())?;
+        let mut text = Vec::new(alloc);
         let mut commits = Vec::new(alloc);
         let told = specified.tell(
             &window,
