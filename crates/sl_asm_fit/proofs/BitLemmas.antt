@@ -1,10 +1,10 @@
 -- Bytes of a number, and what is known of them.
-use Rattle.std.proofs.Common.{◌≡◌, ℕ, ◌+◌, ◌-◌, ◌*◌, ◌/◌, ◌%◌, ◌^◌, ◌<◌, min, bit_and, arith, sym, ap, ◌∙◌, inl, inr}
-use Rattle.std.specs.Int.{bit_at}
+use Rattle.std.proofs.Common.{◌≡◌, ℕ, ◌+◌, ◌-◌, ◌*◌, ◌/◌, ◌%◌, ◌^◌, ◌<◌, ◌≤◌, min, bit_and, arith, sym, ap, ◌∙◌, inl, inr}
+use Rattle.std.specs.Int.{bit_at, trailing_zeros, w128}
 use Rattle.std.proofs.Math.Nat.{div-div-eq-div-mul}
 use Rattle.std.proofs.lemmas.Bool.{cases_lt}
 use Rattle.std.proofs.lemmas.Nat.{pow-add}
-use Rattle.std.proofs.lemmas.Nat.Bits.{bit_at_above, bit_at_and, bit_at-lt, bit_at_ones, same_from_bits}
+use Rattle.std.proofs.lemmas.Nat.Bits.{bit_at_above, bit_at_and, bit_at-lt, bit_at-trailing_zeros, bit_at-zero, bit_at_ones, same_from_bits}
 use Rattle.sl_asm_fit.specs.Cells.{Fits, IsByteOf}
 use Rattle.sl_asm_fit.specs.declared.Cell.{Cell}
 use Rattle.sl_cube.specs.declared.Cube.{Cube}
@@ -48,3 +48,16 @@ fits_from_byte cube k x c is has = λ j on. elim (cases_lt j 8) [
   | inl lt ↦ has j lt (sym (is.mask j lt) ∙ on) ∙ sym (is.value j lt)
   | inr past ↦ absurd (zero_one (bit_at c.mask j) (bit_at_above c.mask 8 j is.byte past) on)
 ]
+
+-- ---- bytes of which nothing is fixed
+
+unfixed : (cube : Cube) (k x : ℕ) → ((j : ℕ) → j < 8 → bit_at cube.mask (8 * (15 - k) + j) ≡ 0) → HasByteOf cube k x
+unfixed cube k x none = λ j lt on. absurd (zero_one (bit_at cube.mask (8 * (15 - k) + j)) (none j lt) on)
+
+pub none_fixed : (cube : Cube) (k x : ℕ) → cube.mask ≡ 0 → HasByteOf cube k x
+none_fixed cube k x none = unfixed cube k x (λ j lt. ap (λ (n : ℕ). bit_at n (8 * (15 - k) + j)) none ∙ bit_at-zero (8 * (15 - k) + j))
+
+-- a byte past the one with the lowest 1 of the mask
+pub past_fixed : (cube : Cube) (n k x : ℕ) → 0 < cube.mask → cube.mask < 2 ^ 128 → 16 - trailing_zeros w128 cube.mask / 8 ≤ n → n ≤ k → k < 16 → HasByteOf cube k x
+past_fixed cube n k x some fits end past below = unfixed cube k x (λ j lt.
+    (bit_at-trailing_zeros w128 cube.mask some fits).2 (8 * (15 - k) + j) (omega (arith, end, past, below, lt)))

@@ -3,7 +3,7 @@ use Rattle.std.proofs.Common.{◌≡◌, ◌≢◌, ℕ, ◌+◌, ◌<◌, ◌�
 use Rattle.std.specs.Prelude.{slice_get}
 use Rattle.std.specs.Int.{bit_at}
 use Rattle.std.specs.List.{All}
-use Rattle.std.proofs.lemmas.Bool.{cases_eq}
+use Rattle.std.proofs.lemmas.Bool.{cases_eq, cases_lt}
 use Rattle.std.proofs.lemmas.Nat.Bits.{bit_at-zero}
 use Rattle.std.proofs.lemmas.Option.{get_or_from_slice_get, same_Some, slice_get_read, slice_get_within}
 use Rattle.std.proofs.lemmas.List.{get_or-map, get_or-replicate, get_or-set_other, get_or-set_same, get_or_past, length-map, length-replicate, length-set}
@@ -122,12 +122,15 @@ first_misses region at context cube narrow n c place below is one f = λ xs h re
     let has = reads_bytes cube xs at context place h.are_bytes reads in
     one xs (f.all xs h has) (fits_from_byte cube n (get_or xs (at + n) 0) c is (has n below))
 
-pub first_all : (region : List Cell) (at context : ℕ) (cube : Cube) (narrow : List Cell) (n : ℕ) → at ≤ 255 → 16 ≤ n → cube.mask < 2 ^ 128
+pub first_all : (region : List Cell) (at context : ℕ) (cube : Cube) (narrow : List Cell) (n : ℕ) → at ≤ 255 → ((k x : ℕ) → n ≤ k → k < 16 → HasByteOf cube k x) → cube.mask < 2 ^ 128
     → Agrees cube.ctx_mask cube.ctx_value context → NarrowsFirst region at cube n narrow → Narrows region at context cube narrow
-first_all region at context cube narrow n place whole fits agrees f = record {
+first_all region at context cube narrow n place rest fits agrees f = record {
   long = f.long;
   within = f.within;
-  reads = λ xs h. bytes_read cube xs at context place h.are_bytes fits (λ k lt. f.has xs h k (omega (arith, lt, whole))) agrees;
+  reads = λ xs h. bytes_read cube xs at context place h.are_bytes fits (λ k lt. elim (cases_lt k n) [
+    | inl told ↦ f.has xs h k told
+    | inr past ↦ rest k (get_or xs (at + k) 0) past lt
+  ]) agrees;
   all = λ xs h reads. f.all xs h (reads_bytes cube xs at context place h.are_bytes reads);
 }
 

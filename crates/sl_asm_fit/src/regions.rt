@@ -67,7 +67,10 @@ pub fn narrowed(
         return Ok(None);
     }
     let mut narrow = copied(alloc, region)?;
-    for index in 0..16u32 {
+    if cube.mask == 0 {
+        return Ok(Some(narrow));
+    }
+    for index in 0..16 - cube.mask.trailing_zeros() / 8 {
         let cell = cell_of(cube, index);
         if !narrow_one(&mut narrow, (at + index) as usize, &cell) {
             return Ok(None);

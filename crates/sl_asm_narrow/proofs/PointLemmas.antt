@@ -1,12 +1,14 @@
 -- The sixteen bytes of a point at a place are those of the list, so a token's field has the same integer there.
-use Rattle.std.proofs.Common.{◌≡◌, ℕ, zero, suc, ◌+◌, ◌*◌, ◌/◌, ◌%◌, ◌^◌, ◌<◌, ◌≤◌, List, [], ◌∷◌, ◌++◌, length, take, drop, replicate, Bool, true, Some, arith, refl, sym, ap, ap₂, ◌∙◌}
+use Rattle.std.proofs.Common.{◌≡◌, ℕ, zero, suc, ◌+◌, ◌*◌, ◌/◌, ◌%◌, ◌^◌, ◌<◌, ◌≤◌, List, [], ◌∷◌, ◌++◌, length, take, drop, replicate, Bool, true, Option, None, Some, arith, refl, sym, ap, ap₂, ◌∙◌}
 use Rattle.std.specs.Prelude.{All, reverse, if◌then◌else◌}
 use Rattle.std.specs.Int.{byte_at, bytes_high_first}
 use Rattle.std.proofs.lemmas.Bool.{le-leb}
 use Rattle.std.proofs.lemmas.List.{length-append, length-drop, length-replicate, length-reverse, length-take, reverse-append, take-take}
 use Rattle.std.proofs.lemmas.List.Elements.{All-append, All-drop, All-head, All-replicate, All-tail, All-take}
 use Rattle.std.proofs.lemmas.Nat.{div-mul-add, mul-add-lt}
+use Rattle.sl_asm_bounds.specs.Bounds.{Fits}
 use Rattle.sl_asm_fit.specs.Windows.{window, with_zeros}
+use Rattle.sl_asm_narrow.specs.Spots.{IsInPoint}
 use Rattle.sl_decode_meaning.specs.Decoding.{point_at}
 use Rattle.sl_decode_meaning.specs.Lookups.{is_whole, number_at}
 use Rattle.sl_shape_constraints.specs.Values.{point_bytes}
@@ -91,7 +93,7 @@ module _ (xs : List ℕ) (are : AreBytes xs) (at : ℕ) (near : at ≤ 255) wher
       ∙ written_out 0 sixteen sixteen_bytes
 
   -- the integer of a token's field is that of the bytes at the point
-  pub same_number : (t : Tables) (f : Field) (token : Token) (context other : ℕ) → token_of t.tokens f ≡ Some token → token.bits ≤ 128
+  same_number : (t : Tables) (f : Field) (token : Token) (context other : ℕ) → token_of t.tokens f ≡ Some token → token.bits ≤ 128
       → number_in (token_of t.tokens f) (point_bytes (point_at (with_zeros xs) at other)) other ≡ number_at t f (with_zeros xs) at context
   same_number t f token context other token_is few =
       let bytes = token.bits / 8 in
@@ -103,3 +105,10 @@ module _ (xs : List ℕ) (are : AreBytes xs) (at : ℕ) (near : at ≤ 255) wher
       let right : (if is_whole (Some token) at (length (with_zeros xs)) then number_in (Some token) (drop at (with_zeros xs)) context else 0) ≡ number_in (Some token) (drop at (with_zeros xs)) context =
       ap (λ (b : Bool). if b then number_in (Some token) (drop at (with_zeros xs)) context else 0) whole in
       rw token_is (left ∙ sym right)
+
+  -- so is the number of any field that a point has
+  pub same_in_point : (t : Tables) (f : Field) (token : Option Token) (known : Option ℕ) (context : ℕ) → token_of t.tokens f ≡ token → IsInPoint token known → Fits known context
+      → number_in (token_of t.tokens f) (point_bytes (point_at (with_zeros xs) at (context % 2 ^ 64))) (context % 2 ^ 64) ≡ number_at t f (with_zeros xs) at context
+  same_in_point t f (Some token) known context is few fits = same_number t f token context (context % 2 ^ 64) is few
+  same_in_point t f None (Some k) context is small fits = let same : context % 2 ^ 64 ≡ context = omega (arith, fits, small) in rw is same
+  same_in_point t f None None context is unknown fits = absurd unknown

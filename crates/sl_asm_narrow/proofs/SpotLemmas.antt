@@ -1,9 +1,9 @@
 -- Texts of fields and of action names, and the lists that have them.
-use Rattle.std.proofs.Common.{◌≡◌, ℕ, zero, suc, ◌⊎◌, inl, inr, ◌+◌, ◌≤◌, ℤ, List, [], ◌∷◌, ◌++◌, length, Option, Some, None, false, Ok, refl, sym, ap, subst, ◌∙◌, arith}
+use Rattle.std.proofs.Common.{◌≡◌, ℕ, zero, suc, ◌⊎◌, inl, inr, ◌+◌, ◌%◌, ◌^◌, ◌≤◌, ℤ, List, [], ◌∷◌, ◌++◌, length, Option, Some, None, false, Ok, refl, sym, ap, subst, ◌∙◌, arith}
 use Rattle.std.specs.Prelude.{IfSome, MatchOption, option_map, slice_get}
 use Rattle.std.proofs.lemmas.Option.{same_Some}
 use denote.Ref.{Bor}
-use Rattle.sl_asm_bounds.specs.Bounds.{AreBetween, IsInCubes, IsOfSome}
+use Rattle.sl_asm_bounds.specs.Bounds.{AreBetween, Fits, IsInCubes, IsOfSome}
 use Rattle.sl_asm_bounds.specs.Texts.{AreTexts}
 use Rattle.sl_asm_bounds.specs.declared.operands.Lengths.{Lengths}
 use Rattle.sl_asm_fit.proofs.WindowLemmas as window
@@ -13,12 +13,12 @@ use Rattle.sl_asm_fit.specs.declared.Cell.{Cell}
 use Rattle.sl_asm_bits.specs.declared.Known.{Known}
 use Rattle.sl_asm_known.specs.Frames.{AreOf, IsSiteOf}
 use Rattle.sl_asm_known.specs.declared.Frame.{Frame}
-use Rattle.sl_asm_narrow.proofs.PointLemmas.{same_number}
+use Rattle.sl_asm_narrow.proofs.PointLemmas.{same_in_point}
 use Rattle.sl_asm_narrow.specs.Candidates.{Candidate, input_of}
 use Rattle.sl_asm_narrow.specs.Nodes.{IsRead, IsWithinAll, spot_in}
 use Rattle.sl_asm_narrow.specs.declared.operands.Operands.{Operands}
 use Rattle.sl_asm_narrow.specs.Readers.{tables_of}
-use Rattle.sl_asm_narrow.specs.Spots.{AreNamesTexts, IsSpotIn, IsTextOfName, IsTokenField, KeepsField, KeepsPart, KeepsParts}
+use Rattle.sl_asm_narrow.specs.Spots.{AreNamesTexts, IsReadInPoints, IsSpotIn, IsTextOfName, KeepsField, KeepsPart, KeepsParts}
 use Rattle.sl_asm_narrow.specs.declared.reader.Node.{Node}
 use Rattle.sl_asm_narrow.specs.declared.reader.Reader.{Reader}
 use Rattle.sl_asm_narrow.specs.declared.reader.Setting.{Setting}
@@ -43,56 +43,57 @@ use Rattle.sl_show.specs.Texts.{Spot, field_text, field_text_by}
 use Rattle.sl_show.specs.declared.templates.Part.{Part}
 use Rattle.sl_show.specs.declared.templates.Part.TheVariants as p
 use Rattle.sl_spec.specs.Attachments.{attached_to}
+use Rattle.sl_spec.specs.FieldValues.{token_of}
 use Rattle.sl_spec.specs.Tables.{Field}
 use Rattle.sl_spec.specs.declared.tables.Tables.{Tables}
 
 -- ---- fields
 
--- a list in which a token's field has the text is in one of the cubes that were added for it
-pub field_inside : (t : Tables) (id at : ℕ) (text : List ℕ) (region : List Cell) (cubes : List Cube) (bytes : List ℕ) (context : ℕ) → at ≤ 255 → IsTokenField t id
-    → ((f : Field) → slice_get t.fields id ≡ Some f → AddsWhere (HasText t id f text) [] cubes) → IsOf region bytes
-    → field_text t id (with_zeros bytes) at context ≡ text → IsInCubes region at None cubes bytes
-field_inside t id at text region cubes bytes context near token adds inside shows =
-    let f = token.field in
-    let point = point_at (with_zeros bytes) at 0 in
-    let same = same_number bytes inside.are_bytes at near t f token.token context 0 token.token_is token.few in
-    let shows_by : field_text_by t f (attached_to id t.attached) _ ≡ text = rw token.field_is at shows in
+-- a list in which the field has the text is in one of the cubes that were added for it
+pub field_inside : (t : Tables) (id at : ℕ) (text : List ℕ) (region : List Cell) (cubes : List Cube) (bytes : List ℕ) (known : Option ℕ) (context : ℕ) → at ≤ 255
+    → IsReadInPoints t id known → ((f : Field) → slice_get t.fields id ≡ Some f → AddsWhere (HasText t id f text) [] cubes) → IsOf region bytes → Fits known context
+    → field_text t id (with_zeros bytes) at context ≡ text → IsInCubes region at known cubes bytes
+field_inside t id at text region cubes bytes known context near read adds inside fits shows =
+    let f = read.field in
+    let point = point_at (with_zeros bytes) at (context % 2 ^ 64) in
+    let same = same_in_point bytes inside.are_bytes at near t f (token_of t.tokens f) known context refl read.number fits in
+    let shows_by : field_text_by t f (attached_to id t.attached) _ ≡ text = rw read.field_is at shows in
     record {
       of_region = inside;
-      from = 0;
-      known = tt;
-      inside = (adds f token.field_is).all point (window.in_range bytes at 0 near inside.are_bytes (omega arith))
+      from = context;
+      known = fits;
+      inside = (adds f read.field_is).all point (window.in_range bytes at (context % 2 ^ 64) near inside.are_bytes (omega arith))
           (ap (λ (n : ℕ). field_text_by t f (attached_to id t.attached) n) same ∙ shows_by);
     }
 
 -- ---- parts, one by one
 
-module _ (t : Tables) (lengths : Lengths) (at : ℕ) where
+module _ (t : Tables) (lengths : Lengths) (at : ℕ) (known : Option ℕ) where
   pub by_place : (region : List Cell) (id place : ℕ) (e : Extent) (text : List ℕ) (found : Option (List Cell))
       → ((those : List ℕ) → AreBetween lengths.leasts.items lengths.mosts.items those → at + extent e those ≡ place)
-      → KeepsField t region id place text found → KeepsPart t region lengths at (p.Field id e) text found
+      → KeepsField t region id place known text found → KeepsPart t region lengths at known (p.Field id e) text found
   by_place region id place e text found place_is keeps = λ bytes s inside spot shows.
       let there : s.at + extent e s.lengths ≡ place = ap (λ (n : ℕ). n + extent e s.lengths) spot.place ∙ place_is s.lengths spot.between in
-      keeps bytes s.context inside
+      keeps bytes s.context inside spot.from
       (ap (λ (l : List ℕ). field_text t id l place s.context) (sym spot.reads)
       ∙ ap (λ (n : ℕ). field_text t id s.bytes n s.context) (sym there) ∙ sym shows)
 
   module _ (parts : List Part) (texts : List (Bor (List ℕ))) (whole : List Cell) where
     -- the lists stay in the region in which the parts have their texts
     abbrev pub StayIn : List Cell → Type 0
-    StayIn region = (bytes : List ℕ) (s : Spot) → IsOf whole bytes → IsSpotIn lengths at bytes s
+    StayIn region = (bytes : List ℕ) (s : Spot) → IsOf whole bytes → IsSpotIn lengths at known bytes s
         → AreTexts (part_text t s) parts texts → IsOf region bytes
 
     pub stay_whole : StayIn whole
     stay_whole = λ bytes s inside spot texts_are. inside
 
     pub stay_narrow : (region narrow : List Cell) (n : ℕ) (part : Part) (text : Bor (List ℕ)) → slice_get parts n ≡ Some part → slice_get texts n ≡ Some text
-        → KeepsPart t region lengths at part text.now (Some narrow) → StayIn region → StayIn narrow
+        → KeepsPart t region lengths at known part text.now (Some narrow) → StayIn region → StayIn narrow
     stay_narrow region narrow n part text part_is text_is keeps stay = λ bytes s inside spot texts_are.
         keeps bytes s (stay bytes s inside spot texts_are) spot (texts_are n part text part_is text_is)
 
     pub stay_nowhere : (region : List Cell) (n : ℕ) (part : Part) (text : Bor (List ℕ)) → slice_get parts n ≡ Some part → slice_get texts n ≡ Some text
-        → KeepsPart t region lengths at part text.now None → StayIn region → KeepsParts t whole lengths at parts texts None
+        → KeepsPart t region lengths at known part text.now None → StayIn region → KeepsParts t whole lengths at known parts texts None
     stay_nowhere region n part text part_is text_is keeps stay = λ bytes s inside spot texts_are.
         keeps bytes s (stay bytes s inside spot texts_are) spot (texts_are n part text part_is text_is)
 
@@ -149,9 +150,9 @@ module _ {r : Reader} {s : Setting} (c : Candidate r s) (node : Node) (context l
       }
 
   -- lists of a region in which the parts have these texts
-  pub in_parts : (o : Operands) (found : Option (List Cell)) → IsWithinAll o c.bytes n.inner after
-      → KeepsParts (tables_of r) o.region.items o.lengths node.goal.at node.parts.now node.texts.now found → IsOfSome found c.bytes
-  in_parts o found within keeps = keeps c.bytes (spot_in c n) within.region (record { reads = refl; place = refl; between = within.between }) are
+  pub in_parts : (o : Operands) (found : Option (List Cell)) → IsWithinAll o c.bytes n.inner after → Fits node.goal.context context
+      → KeepsParts (tables_of r) o.region.items o.lengths node.goal.at node.goal.context node.parts.now node.texts.now found → IsOfSome found c.bytes
+  in_parts o found within known keeps = keeps c.bytes (spot_in c n) within.region (record { reads = refl; place = refl; from = known; between = within.between }) are
 
   abbrev pub site_is : (f : Frame) (region : List Cell) → IsOf region c.bytes → f.at ≡ node.goal.at → f.lengths.now ≡ n.inner → f.context ≡ context
       → f.start ≡ s.start → f.next ≡ c.next → f.names.now ≡ [] → IsSiteOf f region site

@@ -1,5 +1,5 @@
 -- step: regions narrowed by the texts of a node's fields and action names.
-use Rattle.std.specs.Prelude.{◌≡◌, ℕ, ◌≤◌, List, Option, Some, slice_get}
+use Rattle.std.specs.Prelude.{◌≡◌, ℕ, ◌<◌, ◌≤◌, ◌^◌, List, Option, None, Some, slice_get}
 use denote.Ref.{Bor}
 use Rattle.sl_asm_bounds.specs.Bounds.{AreBetween, Fits, IsOfSome}
 use Rattle.sl_asm_bounds.specs.Texts.{AreTexts}
@@ -21,19 +21,25 @@ use Rattle.sl_spec.specs.FieldValues.{token_of}
 use Rattle.sl_spec.specs.Tables.{Field, Token}
 use Rattle.sl_spec.specs.declared.tables.Tables.{Tables}
 
--- A node is at the place in the list followed by zeros, and its operands have lengths within the bounds.
-pub record IsSpotIn (lengths : Lengths) (at : ℕ) (bytes : List ℕ) (s : Spot) : Type 0 where
+-- A node is at the place in the list followed by zeros, from a context that is as known, and its operands
+-- have lengths within the bounds.
+pub record IsSpotIn (lengths : Lengths) (at : ℕ) (known : Option ℕ) (bytes : List ℕ) (s : Spot) : Type 0 where
   pub reads : s.bytes ≡ with_zeros bytes
   pub place : s.at ≡ at
+  pub from : Fits known s.context
   pub between : AreBetween lengths.leasts.items lengths.mosts.items s.lengths
 
--- The field is one of a token of sixteen bytes at most.
-pub record IsTokenField (t : Tables) (id : ℕ) : Type 0 where
+-- A point has the whole token; or, where there is no token, the context, which is known.
+abbrev pub IsInPoint : Option Token → Option ℕ → Type 0
+IsInPoint (Some token) known = token.bits ≤ 128
+IsInPoint None (Some context) = context < 2 ^ 64
+IsInPoint None None = ⊥
+
+-- A point has the number that the field is read from.
+pub record IsReadInPoints (t : Tables) (id : ℕ) (known : Option ℕ) : Type 0 where
   pub field : Field
-  pub token : Token
   pub field_is : slice_get t.fields id ≡ Some field
-  pub token_is : token_of t.tokens field ≡ Some token
-  pub few : token.bits ≤ 128
+  pub number : IsInPoint (token_of t.tokens field) known
 
 -- The text is that of the part that has the action name of this number.
 pub record IsTextOfName (parts : List Part) (texts : List (Bor (List ℕ))) (number : ℕ) (text : Bor (List ℕ)) : Type 0 where
@@ -47,20 +53,20 @@ AreNamesTexts parts texts wanted = (number : ℕ) (text : Bor (List ℕ)) → sl
     → IsTextOfName parts texts number text
 
 module _ (t : Tables) (region : List Cell) where
-  -- Lists of the region stay in which a field at the place has the text.
-  abbrev pub KeepsField : (id at : ℕ) → (text : List ℕ) → Option (List Cell) → Type 0
-  KeepsField id at text found = (bytes : List ℕ) (context : ℕ) → IsOf region bytes
+  -- Lists of the region stay in which a field at the place has the text, from a context that is as known.
+  abbrev pub KeepsField : (id at : ℕ) → (known : Option ℕ) → (text : List ℕ) → Option (List Cell) → Type 0
+  KeepsField id at known text found = (bytes : List ℕ) (context : ℕ) → IsOf region bytes → Fits known context
       → field_text t id (with_zeros bytes) at context ≡ text → IsOfSome found bytes
 
   -- Those in which a part of a node has the text.
-  abbrev pub KeepsPart : Lengths → (at : ℕ) → Part → (text : List ℕ) → Option (List Cell) → Type 0
-  KeepsPart lengths at part text found = (bytes : List ℕ) (s : Spot) → IsOf region bytes → IsSpotIn lengths at bytes s
-      → text ≡ part_text t s part → IsOfSome found bytes
+  abbrev pub KeepsPart : Lengths → (at : ℕ) → (known : Option ℕ) → Part → (text : List ℕ) → Option (List Cell) → Type 0
+  KeepsPart lengths at known part text found = (bytes : List ℕ) (s : Spot) → IsOf region bytes
+      → IsSpotIn lengths at known bytes s → text ≡ part_text t s part → IsOfSome found bytes
 
   -- Those in which the parts have these texts.
-  abbrev pub KeepsParts : Lengths → (at : ℕ) → List Part → List (Bor (List ℕ)) → Option (List Cell) → Type 0
-  KeepsParts lengths at parts texts found = (bytes : List ℕ) (s : Spot) → IsOf region bytes → IsSpotIn lengths at bytes s
-      → AreTexts (part_text t s) parts texts → IsOfSome found bytes
+  abbrev pub KeepsParts : Lengths → (at : ℕ) → (known : Option ℕ) → List Part → List (Bor (List ℕ)) → Option (List Cell) → Type 0
+  KeepsParts lengths at known parts texts found = (bytes : List ℕ) (s : Spot) → IsOf region bytes
+      → IsSpotIn lengths at known bytes s → AreTexts (part_text t s) parts texts → IsOfSome found bytes
 
 -- Lists of the region stay in which a node is read whose operands have lengths within the bounds and whose
 -- first parts have the texts that are known.

@@ -13,12 +13,12 @@ ghost use Rattle.sl_asm_narrow.specs.Nodes.{BoundsPlanned, BoundsTable};
 ghost use Rattle.sl_asm_narrow.specs.Readers.{IsReader};
 ghost use Rattle.sl_conflict.specs.Kept.{IsPaired};
 
-use crate::operands::{Operands, begins_with};
+use crate::operands::Operands;
 use crate::reader::{Goal, Node, Reader, Setting};
 use sl_asm_bounds::{Bounds, after_steps, either, narrow_some, text_of, unknown};
 use sl_asm_fit::Cell;
 use sl_asm_known::Frame;
-use sl_asm_print::splits;
+use sl_asm_print::{begins_with, splits};
 use sl_conflict::TableSets;
 use sl_decode_plan::{Plan, Slot};
 use sl_show::Part;

@@ -1,16 +1,12 @@
 //! What is known of a node's operands.
 
-ghost use Rattle.std.specs.Prelude.{◌≡◌, ◌++◌, ◌∷◌, [], ℕ, List, IfOk, OnOk, IsTrue};
-ghost use Rattle.std.specs.List.{flat_map};
+ghost use Rattle.std.specs.Prelude.{◌≡◌, ◌++◌, ◌∷◌, [], ℕ, List, IfOk, OnOk};
 ghost use Rattle.sl_asm_bounds.specs.Bounds.{Fits, IsWithin};
 ghost use Rattle.sl_asm_fit.specs.Regions.{IsOf};
 ghost use Rattle.sl_asm_narrow.specs.Nodes.{IsWithinAll};
-ghost use Rattle.sl_asm_print.specs.Splits.{KeepsTexts};
-ghost use Rattle.sl_show.specs.declared.templates.Part.{Part as PartOf};
 
 use sl_asm_bounds::{Bounds, Lengths, copied};
 use sl_asm_fit::Cell;
-use sl_show::Part;
 use std::alloc::{AllocError, Global};
 
 /// What is known of some first operands of a node: a region of the lists in which they are, their
@@ -52,16 +48,5 @@ impl Operands {
         self.region = next.region;
         self.context = next.after;
         Ok(())
-    }
-}
-
-/// Whether the text may be shown by the parts: it begins with the first of them, if that is a text.
-pub(crate) fn begins_with(parts: &[Part], text: &[u8]) -> bool
-    ensures { (shows : PartOf → List ℕ) → KeepsTexts shows → text.now ≡ flat_map shows parts.now
-        → IsTrue result }
-{
-    match parts.first() {
-        Some(Part::Text(first)) => text.starts_with(first),
-        _ => true,
     }
 }

@@ -5,11 +5,11 @@ ghost use Rattle.std.specs.Prelude.{length, min, option_map, slice_get};
 ghost use Rattle.sl_asm_bounds.specs.Bounds.{AreAsLong, IsAsLong};
 ghost use Rattle.sl_asm_narrow.specs.Nodes.{BoundsShown};
 ghost use Rattle.sl_asm_narrow.specs.Readers.{IsReader};
-ghost use Rattle.sl_asm_narrow.specs.Spots.{AreNamesTexts, IsTokenField, IsTextOfName};
+ghost use Rattle.sl_asm_narrow.specs.Spots.{AreNamesTexts, IsReadInPoints, IsTextOfName};
 ghost use Rattle.sl_asm_narrow.specs.Spots.{KeepsField, KeepsNames, KeepsPart, KeepsParts};
 
 use crate::operands::Operands;
-use crate::reader::{Node, Reader, Setting};
+use crate::reader::{Goal, Node, Reader, Setting};
 use sl_asm_bounds::{Bounds, Lengths, narrow_some};
 use sl_asm_fit::Cell;
 use sl_asm_known::Frame;
@@ -20,44 +20,47 @@ use sl_show::Part;
 use sl_spec::{FieldId, Tables};
 use std::alloc::{AllocError, Global};
 
-/// Whether the field is one of a token that a point has whole.
-fn is_of_token(t: &Tables, id: FieldId) -> bool
-    ensures { IsTrue result → IsTokenField t.now id }
+/// Whether a point has the number that the field is read from: its whole token, or the context if
+/// that is known.
+fn is_in_points(t: &Tables, id: FieldId, context: Option<u64>) -> bool
+    ensures { IsTrue result → IsReadInPoints t.now id context }
 {
     let Some(of) = t.fields.at(id.number() as usize) else {
         return false;
     };
-    match token_of(t, of) {
-        Some(token) => token.bits <= 128,
-        None => false,
+    match (token_of(t, of), context) {
+        (Some(token), _) => token.bits <= 128,
+        (None, Some(_)) => true,
+        (None, None) => false,
     }
 }
 
-/// The region narrowed by the text of a field whose token is at the place.
+/// The region narrowed by the text of a field, which is read at the place and from the context.
 fn by_field(
     alloc: Global,
     t: &Tables,
     region: Vec<Cell>,
     id: FieldId,
     at: u32,
+    context: Option<u64>,
     text: &[u8],
 ) -> Result<Option<Vec<Cell>>, AllocError>
     requires place { at ≤ 255 }
     requires long { length region.items ≤ 255 }
-    ensures keeps { IfOk result (λ found. KeepsField t.now region.items id at text.now
+    ensures keeps { IfOk result (λ found. KeepsField t.now region.items id at context text.now
         (option_map (λ v. v.items) found)) }
     ensures long { IfOk result (λ found. IsAsLong (length region.items)
         (option_map (λ v. v.items) found)) }
 {
     let mut cubes = Vec::new(alloc);
-    if !is_of_token(t, id) {
+    if !is_in_points(t, id, context) {
         return Ok(Some(region));
     }
     let known = put_field(alloc, t, id, text, &mut cubes)?;
     if !known {
         return Ok(Some(region));
     }
-    let narrow = narrow_some(alloc, &region, at, None, &cubes)?;
+    let narrow = narrow_some(alloc, &region, at, context, &cubes)?;
     Ok(narrow)
 }
 
@@ -67,23 +70,23 @@ fn by_part(
     t: &Tables,
     region: Vec<Cell>,
     lengths: &Lengths,
-    at: u32,
+    goal: &Goal,
     part: &Part,
     text: &[u8],
 ) -> Result<Option<Vec<Cell>>, AllocError>
     requires long { length region.items ≤ 255 }
-    ensures keeps { IfOk result (λ found. KeepsPart t.now region.items lengths.now at part.now
-        text.now (option_map (λ v. v.items) found)) }
+    ensures keeps { IfOk result (λ found. KeepsPart t.now region.items lengths.now goal.now.at
+        goal.now.context part.now text.now (option_map (λ v. v.items) found)) }
     ensures long { IfOk result (λ found. IsAsLong (length region.items)
         (option_map (λ v. v.items) found)) }
 {
     let Part::Field(id, place) = part else {
         return Ok(Some(region));
     };
-    let Some(place) = lengths.place(at, place) else {
+    let Some(place) = lengths.place(goal.at, place) else {
         return Ok(Some(region));
     };
-    let found = by_field(alloc, t, region, *id, place, text)?;
+    let found = by_field(alloc, t, region, *id, place, goal.context, text)?;
     Ok(found)
 }
 
@@ -93,13 +96,13 @@ fn by_parts(
     t: &Tables,
     region: Vec<Cell>,
     lengths: &Lengths,
-    at: u32,
+    goal: &Goal,
     parts: &[Part],
     texts: &[&[u8]],
 ) -> Result<Option<Vec<Cell>>, AllocError>
     requires long { length region.items ≤ 255 }
-    ensures keeps { IfOk result (λ found. KeepsParts t.now region.items lengths.now at parts.now
-        texts.now (option_map (λ v. v.items) found)) }
+    ensures keeps { IfOk result (λ found. KeepsParts t.now region.items lengths.now goal.now.at
+        goal.now.context parts.now texts.now (option_map (λ v. v.items) found)) }
     ensures long { IfOk result (λ found. IsAsLong (length region.items)
         (option_map (λ v. v.items) found)) }
 {
@@ -108,7 +111,7 @@ fn by_parts(
         let (Some(part), Some(text)) = (parts.get(index), texts.get(index)) else {
             return Ok(Some(left));
         };
-        let narrow = by_part(alloc, t, left, lengths, at, part, text)?;
+        let narrow = by_part(alloc, t, left, lengths, goal, part, text)?;
         let Some(cells) = narrow else {
             return Ok(None);
         };
@@ -167,8 +170,8 @@ impl Reader<'_, '_, '_> {
             context,
         } = operands;
         let t = self.tables();
-        let at = node.goal.at;
-        let narrow = by_parts(alloc, t, region, &lengths, at, node.parts, node.texts)?;
+        let goal = &node.goal;
+        let narrow = by_parts(alloc, t, region, &lengths, goal, node.parts, node.texts)?;
         let Some(cells) = narrow else {
             return Ok(None);
         };
@@ -204,7 +207,7 @@ impl Reader<'_, '_, '_> {
         let (Some(next), Some(context)) = (setting.next, node.goal.context) else {
             return Ok(Some(region));
         };
-        if !lengths.are_known() {
+        if !lengths.are_known() || node.plan.late.rows().is_empty() {
             return Ok(Some(region));
         }
         let frame = Frame {

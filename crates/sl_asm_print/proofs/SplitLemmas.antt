@@ -67,14 +67,14 @@ back_to front now pushed again cut piece depth deep same pushed_is again_is cut_
     cut_is ∙ ap (take depth) (again_is ∙ pushed_is ∙ ap (λ l. l ++ piece ∷ []) same) ∙ ap (λ (k : ℕ). take k (front ++ piece ∷ [])) deep
     ∙ take-append_seam front (piece ∷ [])
 
-pub cut_other : (first : Part) (rest : List Part) (text : List ℕ) (front : List (List ℕ)) (n : ℕ) (old new : List Split) (piece : List ℕ) → piece ≡ take n text
-    → ((shows : Part → List ℕ) → KeepsTexts shows → shows first ≡ piece → IsTrue false) → CutFirst first rest text front n old new
+pub cut_other : (first : Part) (rest : List Part) (text : List ℕ) (front : List (List ℕ)) (n : ℕ) (old new : List Split) (piece more : List ℕ) → piece ≡ take n text → more ≡ drop n text
+    → ((shows : Part → List ℕ) → KeepsTexts shows → shows first ≡ piece → more ≡ flat_map shows rest → IsTrue false) → CutFirst first rest text front n old new
     → CutFirst first rest text front (n + 1) old new
-cut_other first rest text front n old new piece is not f = record {
+cut_other first rest text front n old new piece more is more_is not f = record {
   kept = f.kept;
   cuts = below_more (λ k. (shows : Part → List ℕ) → KeepsTexts shows → take k text ≡ shows first → flat_map shows rest ≡ drop k text
       → HasSplit (front ++ (shows first ∷ map shows rest)) new) n f.cuts
-      (λ shows keeps here behind. absurd (false≢true (not shows keeps (sym here ∙ sym is))));
+      (λ shows keeps here behind. absurd (false≢true (not shows keeps (sym here ∙ sym is) (more_is ∙ sym behind))));
 }
 
 pub cut_all : (first : Part) (rest : List Part) (text : List ℕ) (front : List (List ℕ)) (n : ℕ) (old new : List Split)

@@ -33,7 +33,10 @@ fn text_at<'e>(names: &[Option<&'e [u8]>], index: u64) -> &'e [u8]
 fn is_same(one: &[u8], other: &[u8]) -> bool
     ensures { one.now ≡ other.now → IsTrue result }
 {
-    one == other
+    match (one.last(), other.last()) {
+        (Some(end), Some(other_end)) => *end == *other_end && one == other,
+        (end, other_end) => end.is_none() && other_end.is_none(),
+    }
 }
 
 /// Whether the entry at an index has the text; a number has any text that reads as it.
@@ -42,7 +45,7 @@ fn has_text(t: &Tables, dec: bool, entries: &Entries, index: u64, text: &[u8]) -
 {
     match entries {
         Entries::Registers(ids) => match register_at(t, ids, index) {
-            Some(register) => register.name == text,
+            Some(register) => is_same(register.name, text),
             None => text.is_empty(),
         },
         Entries::Texts(names) => is_same(text_at(names, index), text),

@@ -8,4 +8,4 @@ mod splitting;
 
 pub use digits::number_with;
 pub use fields::put_field;
-pub use splitting::splits;
+pub use splitting::{begins_with, splits};

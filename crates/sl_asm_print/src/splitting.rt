@@ -1,6 +1,7 @@
 //! Ways to cut a text into parts.
 
-ghost use Rattle.std.specs.Prelude.{◌≡◌, ◌≤◌, ◌∷◌, [], List, ℕ, IfOk, IsTrue, OnOk, length, map};
+ghost use Rattle.std.specs.Prelude.{◌≡◌, ◌≤◌, ◌∷◌, ◌++◌, [], List, ℕ, IfOk, IsTrue, OnOk, length};
+ghost use Rattle.std.specs.Prelude.{map};
 ghost use Rattle.std.specs.List.{flat_map};
 ghost use Rattle.sl_asm_print.specs.Splits.{AddsSplits, HasSplit, IsBetween, KeepsTexts, pieces};
 ghost use Rattle.sl_show.specs.declared.templates.Part.{Part as PartOf};
@@ -73,7 +74,7 @@ fn add_splits<'x>(
     let (least, most) = lengths_of(first, rest, text);
     'ends: for end in least..most + 1 {
         let (piece, more) = text.split_at(end);
-        if can_be(first, piece) {
+        if may_be_cut(first, rest, piece, more) {
             front.push(piece)?;
             add_splits(alloc, rest, more, front, out)?;
             front.truncate(depth);
@@ -93,6 +94,40 @@ fn can_be(part: &Part, piece: &[u8]) -> bool
     }
 }
 
+/// Whether the text is the front, with more behind it or not.
+fn has_front(text: &[u8], front: &[u8]) -> bool
+    ensures { (rest : List ℕ) → text.now ≡ front.now ++ rest → IsTrue result }
+{
+    if text.len() < front.len() {
+        return false;
+    }
+    'bytes: for index in 0..front.len() {
+        if text[index] != front[index] {
+            return false;
+        }
+    }
+    true
+}
+
+/// Whether the text may be shown by the parts: it begins with the first of them, if that is a text.
+pub fn begins_with(parts: &[Part], text: &[u8]) -> bool
+    ensures { (shows : PartOf → List ℕ) → KeepsTexts shows → text.now ≡ flat_map shows parts.now
+        → IsTrue result }
+{
+    match parts.first() {
+        Some(Part::Text(first)) => has_front(text, first),
+        _ => true,
+    }
+}
+
+/// Whether the first part can have the piece, and the rest the text after it.
+fn may_be_cut(first: &Part, rest: &[Part], piece: &[u8], more: &[u8]) -> bool
+    ensures { (shows : PartOf → List ℕ) → KeepsTexts shows → shows first.now ≡ piece.now
+        → more.now ≡ flat_map shows rest.now → IsTrue result }
+{
+    can_be(first, piece) && begins_with(rest, more)
+}
+
 /// All ways to cut the text into the parts. The only error is want of memory.
 pub fn splits<'x>(
     alloc: Global,
@@ -102,7 +137,7 @@ pub fn splits<'x>(
     ensures { IfOk result (λ out. (shows : PartOf → List ℕ) → KeepsTexts shows
         → flat_map shows parts.now ≡ text.now → HasSplit (map shows parts.now) out.items) }
 {
-    let mut front = Vec::new(alloc);
+    let mut front = Vec::with_capacity(alloc, parts.len())?;
     let mut out = Vec::new(alloc);
     add_splits(alloc, parts, text, &mut front, &mut out)?;
     Ok(out)

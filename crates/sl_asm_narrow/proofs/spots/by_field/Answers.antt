@@ -9,6 +9,6 @@ returns-clause-keeps c =
     let text = c.args.text.now in
     let keeps = rw (c.deref.ensures.value, c.deref-2.ensures.value) at c.in_ok-narrow.ensures.keeps in
     let adds = rw c.new-cubes.ensures.items at c.in_ok-known.ensures in
-    λ bytes context inside shows.
-    keeps bytes (field_inside t id c.args.at text c.args.region.items c.put_field.new.cubes.items bytes context c.requires.place
-    (c.if-not-is_of_token.ensures refl) (adds c.if-not-known.false) inside shows)
+    λ bytes context inside fits shows.
+    keeps bytes (field_inside t id c.args.at text c.args.region.items c.put_field.new.cubes.items bytes c.args.context context c.requires.place
+    (c.if-not-is_in_points.ensures refl) (adds c.if-not-known.false) inside fits shows)

@@ -18,8 +18,8 @@ returns-in_default-narrow-clause-keeps c =
     let text = c.in-Some-Some.text.now in
     let part_is = slice_get_read parts (length parts) i part refl (ltb-true i (length parts) (sym c.in-Some-Some.ensures.lookup.0)) c.in-Some-Some.ensures.lookup.1 in
     let text_is = slice_get_read texts (length texts) i text refl (ltb-true i (length texts) (sym c.in-Some-Some.ensures'.lookup.0)) c.in-Some-Some.ensures'.lookup.1 in
-    stay_nowhere t c.args.lengths.now c.args.at parts texts c.args.region.items c.parts.left.items i part text part_is text_is
-    (subst (λ (o : Option (Vec Cell Global)). KeepsPart t c.parts.left.items c.args.lengths.now c.args.at part text.now (option_map (λ v. v.items) o))
+    stay_nowhere t c.args.lengths.now c.args.goal.now.at c.args.goal.now.context parts texts c.args.region.items c.parts.left.items i part text part_is text_is
+    (subst (λ (o : Option (Vec Cell Global)). KeepsPart t c.parts.left.items c.args.lengths.now c.args.goal.now.at c.args.goal.now.context part text.now (option_map (λ v. v.items) o))
     c.in_default-narrow.is c.in_ok-narrow.ensures.keeps) c.parts.invariant.stay
 
 pub parts-preserved : goal.parts-preserved
@@ -33,8 +33,8 @@ parts-preserved c =
     let part_is = slice_get_read parts (length parts) i part refl (ltb-true i (length parts) (sym c.in-Some-Some.ensures.lookup.0)) c.in-Some-Some.ensures.lookup.1 in
     let text_is = slice_get_read texts (length texts) i text refl (ltb-true i (length texts) (sym c.in-Some-Some.ensures'.lookup.0)) c.in-Some-Some.ensures'.lookup.1 in
     let long = subst (λ (o : Option (Vec Cell Global)). IsAsLong (length c.parts.left.items) (option_map (λ v. v.items) o)) c.in-Some.is c.in_ok-narrow.ensures.long in record {
-      stay = stay_narrow t c.args.lengths.now c.args.at parts texts c.args.region.items c.parts.left.items c.in-Some.cells.items i part text part_is text_is
-          (subst (λ (o : Option (Vec Cell Global)). KeepsPart t c.parts.left.items c.args.lengths.now c.args.at part text.now (option_map (λ v. v.items) o))
+      stay = stay_narrow t c.args.lengths.now c.args.goal.now.at c.args.goal.now.context parts texts c.args.region.items c.parts.left.items c.in-Some.cells.items i part text part_is text_is
+          (subst (λ (o : Option (Vec Cell Global)). KeepsPart t c.parts.left.items c.args.lengths.now c.args.goal.now.at c.args.goal.now.context part text.now (option_map (λ v. v.items) o))
           c.in-Some.is c.in_ok-narrow.ensures.keeps) c.parts.invariant.stay;
       long = long ∙ c.parts.invariant.long;
     }

@@ -4,6 +4,6 @@ use Rattle.sl_asm_narrow.proofs.spots.by_parts.Given as goal
 
 abbrev pub invariant-parts : goal.invariant-parts
 invariant-parts l = record {
-  stay : StayIn l.t l.lengths l.at l.parts l.texts l.fn.region.items l.left.items;
+  stay : StayIn l.t l.lengths l.goal.at l.goal.context l.parts l.texts l.fn.region.items l.left.items;
   long : length l.left.items ≡ length l.fn.region.items;
 }

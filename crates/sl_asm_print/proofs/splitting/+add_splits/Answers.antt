@@ -2,7 +2,7 @@ use Rattle.std.proofs.Common.{◌≡◌, Bool, IsTrue, length, arith, refl, subs
 use Rattle.sl_asm_print.proofs.SplitLemmas.{back_to, cut_all, cut_none, cut_other, cut_step}
 use Rattle.sl_asm_print.specs.Splits.{pieces}
 use Rattle.sl_asm_print.proofs.splitting.+add_splits.Goals as goal
-use Rattle.sl_asm_print.proofs.splitting.+add_splits.Goals.{then-can_be+in_ok-push+in_ok-add_splits, else-can_be}
+use Rattle.sl_asm_print.proofs.splitting.+add_splits.Goals.{then-may_be_cut+in_ok-push+in_ok-add_splits, else-may_be_cut}
 
 pub ends-preserved : goal.ends-preserved
 ends-preserved t c =
@@ -13,17 +13,17 @@ ends-preserved t c =
     let n = c.ends.end in
     let old = c.args.out.now.items in
     let deep : c.len-depth.result ≡ length front = omega arith in
-    elim c.if-can_be.branch [
-      | then-can_be+in_ok-push+in_ok-add_splits w ↦ record {
+    elim c.if-may_be_cut.branch [
+      | then-may_be_cut+in_ok-push+in_ok-add_splits w ↦ record {
         same = rw w.front-is (back_to front c.ends.front.items w.push.new.self.items w.add_splits.new.front.items _ _ c.len-depth.result deep
             c.ends.invariant.same w.in_ok-push.ensures.items w.in_ok-add_splits.ensures.front w.truncate.ensures.items);
         cut = rw w.out-is (cut_step first rest text front n old c.ends.out.items w.add_splits.new.out.items _ w.push.new.self.items c.ends.front.items _
             c.split_at.ensures.front c.split_at.ensures.back c.ends.invariant.same w.in_ok-push.ensures.items c.ends.invariant.cut w.in_ok-add_splits.ensures.splits);
       }
-      | else-can_be w ↦ record {
+      | else-may_be_cut w ↦ record {
         same = rw w.front-is c.ends.invariant.same;
-        cut = rw w.out-is (cut_other first rest text (pieces front) n old c.ends.out.items _ c.split_at.ensures.front
-            (λ shows keeps e. subst (λ (b : Bool). IsTrue b) w.if-can_be.false (c.can_be.ensures shows keeps e)) c.ends.invariant.cut);
+        cut = rw w.out-is (cut_other first rest text (pieces front) n old c.ends.out.items _ _ c.split_at.ensures.front c.split_at.ensures.back
+            (λ shows keeps e behind. subst (λ (b : Bool). IsTrue b) w.if-may_be_cut.false (c.may_be_cut.ensures shows keeps e behind)) c.ends.invariant.cut);
       }
     ]
 

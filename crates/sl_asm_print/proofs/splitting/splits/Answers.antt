@@ -5,4 +5,4 @@ use Rattle.sl_asm_print.proofs.splitting.splits.Goals as goal
 
 pub returns : goal.returns
 returns c = λ shows keeps e. subst (λ (l : List (Bor (List ℕ))). HasSplit (pieces l ++ map shows c.args.parts.now) c.add_splits.new.out.items)
-    c.new-front.ensures.items (c.in_ok-add_splits.ensures.splits.all shows keeps e)
+    c.in_ok-front.ensures.items (c.in_ok-add_splits.ensures.splits.all shows keeps e)
