@@ -12,7 +12,7 @@ use Rattle.sl_bind_compile.specs.declared.error.Flaw.TheVariants as flaw
 use Rattle.sl_cube.specs.declared.Point.{Point}
 use Rattle.sl_cube_sets.specs.declared.report.Apart.{Apart}
 use Rattle.sl_cube_sets.specs.declared.report.Apart.TheVariants.{Same, Two}
-use Rattle.sl_explain.specs.Facts.{alone_faults, alone_words, ambiguity_facts, apart_advice, apart_fault, bad_byte, both_items, byte_asked, byte_facts, call_advice, culprit_facts, end_of, end_spot, export_facts, export_lines, exported_facts, fault, flaw_facts, form_asked, form_fault, is_double_relation, is_empty_call, is_export_of_number, is_of_pattern, is_quoted, is_word, item_facts, item_lines, keyword_note, line_of_token, nesting_asked, nesting_fault, point_fault, point_faults, points_facts, rule_facts, settled_asked, settling_facts, spot_at, syntax_advice, syntax_asked, syntax_fault, syntax_words, token_facts, token_of, token_spot, wanted_exports, wanted_lines, word_facts, word_lines, words_at}
+use Rattle.sl_explain.specs.Facts.{alone_faults, alone_words, ambiguity_facts, apart_advice, apart_fault, bad_byte, both_items, byte_asked, byte_facts, call_advice, culprit_facts, end_of, end_spot, export_facts, export_lines, exported_facts, fault, flaw_facts, flawed_facts, form_asked, form_fault, is_double_relation, is_empty_call, is_export_of_number, is_of_pattern, is_quoted, is_word, item_facts, item_lines, keyword_note, line_of_token, nesting_asked, nesting_fault, part_facts, part_lines, part_of, pattern_facts, point_fault, point_faults, points_facts, rule_facts, settled_asked, settling_facts, spot_at, syntax_advice, syntax_asked, syntax_fault, syntax_words, token_facts, token_of, token_spot, wanted_exports, wanted_lines, wanted_parts, word_facts, word_lines, words_at}
 use Rattle.sl_explain.specs.Laws.{FactsAreLines}
 use Rattle.sl_explain.specs.Sentences.{advice, asked, cause_words, feature_advice, flaw_advice, flaw_asked, line_of, lines_of, rule_line, rule_lines, rule_rows}
 use Rattle.sl_explain_exports.proofs.LineLemmas.{culprits as exported_culprits}
@@ -31,6 +31,9 @@ use Rattle.sl_explain_names.proofs.LineLemmas.{culprits}
 use Rattle.sl_explain_names.specs.Culprits.{culprit}
 use Rattle.sl_explain_names.specs.FaultWords.{advice_line, fault_line, sentence_of}
 use Rattle.sl_explain_names.specs.declared.culprits.Culprit.{Culprit}
+use Rattle.sl_explain_patterns.proofs.LineLemmas.{parts as told_parts}
+use Rattle.sl_explain_patterns.specs.FaultWords as patterns
+use Rattle.sl_explain_patterns.specs.declared.findings.Culprit as parts
 use Rattle.sl_explain_points.specs.FieldsAtPoints.{fields_words}
 use Rattle.sl_explain_points.specs.Sites.{sites_of_both}
 use Rattle.sl_explain_points.specs.declared.sites.Site.{Site}
@@ -264,10 +267,35 @@ unfolding rule_facts
 of_rules t ts number None = of_flaws ts (flaw.Rule number) None
 of_rules t ts number (Some index) = of_words t ts number index (culprit ts index number)
 
+part_is : (t : Text) (ts : List Token) (index : ℕ) (c : parts.Culprit) → AreLines (part_lines t ts index c)
+unfolding part_lines
+part_is t ts index c =
+    lines_both (token_spot t (slice_get ts c.index)) (item_lines ts true (Some index)) (token_is t (slice_get ts c.index)) (item_is ts true (Some index))
+
+wanted_parts_are : (ts : List Token) (f : Flaw) (c : parts.Culprit) → AreLines (wanted_parts f c)
+unfolding wanted_parts
+wanted_parts_are ts f c = lines_both (flaw_asked f) (patterns.advice_line c.finding) (asked_of_flaw f) (told_parts ts c).1
+
+of_parts : (t : Text) (ts : List Token) (f : Flaw) (index : ℕ) (c : parts.Culprit) → AreLines (part_facts t ts f index c)
+unfolding part_facts
+of_parts t ts f index c =
+    lines_both (part_lines t ts index c) (patterns.fault_line ts c ++ wanted_parts f c) (part_is t ts index c)
+    (lines_both (patterns.fault_line ts c) (wanted_parts f c) (told_parts ts c).0 (wanted_parts_are ts f c))
+
+of_patterns : (t : Text) (ts : List Token) (f : Flaw) (index : ℕ) (c : Option parts.Culprit) → AreLines (pattern_facts t ts f index c)
+unfolding pattern_facts
+of_patterns t ts f index None = of_flaws ts f (Some index)
+of_patterns t ts f index (Some c) = of_parts t ts f index c
+
+of_flawed : (t : Text) (ts : List Token) (f : Flaw) (index : Option ℕ) → AreLines (flawed_facts t ts f index)
+unfolding flawed_facts
+of_flawed t ts f None = of_flaws ts f None
+of_flawed t ts f (Some index) = of_patterns t ts f index (part_of ts f index)
+
 of_items : (t : Text) (ts : List Token) (f : Flaw) (index : Option ℕ) → AreLines (item_facts t ts f index)
 unfolding item_facts
 of_items t ts (flaw.Rule number) index = of_rules t ts number index
-of_items t ts f index = of_flaws ts f index
+of_items t ts f index = of_flawed t ts f index
 
 -- ---- tables
 

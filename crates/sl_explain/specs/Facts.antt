@@ -22,6 +22,9 @@ use Rattle.sl_explain_lines.specs.FactLines.{fact_line, line_words, spot_lines}
 use Rattle.sl_explain_names.specs.Culprits.{culprit}
 use Rattle.sl_explain_names.specs.FaultWords.{advice_line, fault_line, sentence_of}
 use Rattle.sl_explain_names.specs.declared.culprits.Culprit.{Culprit}
+use Rattle.sl_explain_patterns.specs.FaultWords as patterns
+use Rattle.sl_explain_patterns.specs.Findings.{joined_culprit, never_culprit}
+use Rattle.sl_explain_patterns.specs.declared.findings.Culprit as parts
 use Rattle.sl_explain_points.specs.FieldsAtPoints.{fields_words}
 use Rattle.sl_explain_points.specs.Sites.{sites_of_both}
 use Rattle.sl_explain_points.specs.declared.sites.Site.{Site}
@@ -252,9 +255,44 @@ unfoldable pub rule_facts : expanded.Text → List Token → (number : ℕ) → 
 rule_facts t ts number None = flaw_facts ts (flaw.Rule number) None
 rule_facts t ts number (Some index) = word_facts t ts number index (culprit ts index number)
 
+-- ---- parts of patterns
+
+-- The part that has this flaw of the pattern of the item whose first token has this index, where one can be told.
+unfoldable pub part_of : List Token → Flaw → (index : ℕ) → Option parts.Culprit
+part_of ts flaw.Impossible index = never_culprit ts index
+part_of ts flaw.TokensDiffer index = joined_culprit ts index
+part_of ts (flaw.Rule number) index = None
+part_of ts flaw.SizeClash index = None
+part_of ts flaw.SizeUnfixed index = None
+part_of ts flaw.InteriorEllipsis index = None
+part_of ts (flaw.TooManyCubes count) index = None
+part_of ts (flaw.WindowTooLong count) index = None
+
+-- where the part is, and in which item
+unfoldable pub part_lines : expanded.Text → List Token → (index : ℕ) → parts.Culprit → List ℕ
+part_lines t ts index c = token_spot t (slice_get ts c.index) ++ item_lines ts true (Some index)
+
+-- the sentence that it breaks, and what to write instead
+unfoldable pub wanted_parts : Flaw → parts.Culprit → List ℕ
+wanted_parts flaw c = flaw_asked flaw ++ patterns.advice_line c.finding
+
+-- What is said of it.
+unfoldable pub part_facts : expanded.Text → List Token → Flaw → (index : ℕ) → parts.Culprit → List ℕ
+part_facts t ts flaw index c = part_lines t ts index c ++ (patterns.fault_line ts c ++ wanted_parts flaw c)
+
+-- Where none is told, the item is told without it.
+unfoldable pub pattern_facts : expanded.Text → List Token → Flaw → (index : ℕ) → Option parts.Culprit → List ℕ
+pattern_facts t ts flaw index None = flaw_facts ts flaw (Some index)
+pattern_facts t ts flaw index (Some c) = part_facts t ts flaw index c
+
+-- A flaw that is no broken rule is told with the part of the pattern that has it, where one can be told.
+unfoldable pub flawed_facts : expanded.Text → List Token → Flaw → Option ℕ → List ℕ
+flawed_facts t ts flaw None = flaw_facts ts flaw None
+flawed_facts t ts flaw (Some index) = pattern_facts t ts flaw index (part_of ts flaw index)
+
 unfoldable pub item_facts : expanded.Text → List Token → Flaw → Option ℕ → List ℕ
 item_facts t ts (flaw.Rule number) index = rule_facts t ts number index
-item_facts t ts flaw index = flaw_facts ts flaw index
+item_facts t ts flaw index = flawed_facts t ts flaw index
 
 -- ---- tables
 

@@ -13,6 +13,7 @@ ghost use Rattle.sl_lex.specs.Views.{view, views};
 ghost use Rattle.sl_preproc.specs.Expanded.{seen};
 ghost use Rattle.sl_preproc.specs.Works.{names_of};
 
+use crate::parts::push_flawed_facts;
 use crate::sentences::{
     push_advice_on_flaw, push_asked, push_asked_of_cause, push_asked_of_flaw, push_sentence,
 };
@@ -437,6 +438,6 @@ pub fn push_item_facts(
 {
     match flaw {
         Flaw::Rule(number) => push_rule_facts(alloc, out, text, tokens, number, index),
-        _ => push_flaw_facts(alloc, out, tokens, flaw, index),
+        _ => push_flawed_facts(alloc, out, text, tokens, flaw, index),
     }
 }

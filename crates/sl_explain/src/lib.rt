@@ -5,6 +5,7 @@
 
 mod facts;
 mod laws;
+mod parts;
 mod sentences;
 mod syntax;
 mod tables;

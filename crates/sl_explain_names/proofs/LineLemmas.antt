@@ -1,14 +1,15 @@
 -- What is said of a culprit has no control byte.
-use Rattle.std.proofs.Common.{ℕ, List, [], ◌∷◌, ◌++◌, refl}
+use Rattle.std.proofs.Common.{ℕ, Bool, false, List, [], ◌∷◌, ◌++◌, refl}
 use Rattle.std.specs.Prelude.{◌==◌, ◌&&◌, codes, not}
-use Rattle.std.specs.Fmt.{decimal}
+use Rattle.std.specs.Fmt.{decimal, digits}
 use Rattle.sl_explain_heads.specs.Heads.{constructor_words}
 use Rattle.sl_explain_heads.proofs.LineLemmas.{constructor_shown}
 use Rattle.sl_explain_heads.specs.Words.{text_at}
-use Rattle.sl_explain_lines.proofs.ShownLemmas.{AllShown, all_both, all_either, last_fact, number_shown, words_shown}
+use Rattle.sl_explain_lines.proofs.ShownLemmas.{AllShown, all_both, all_either, hex_shown, last_fact, number_shown, words_shown}
 use Rattle.sl_explain_lines.specs.Laws.{AreLines}
 use Rattle.sl_explain_lines.specs.Laws.AreLines.{no_line}
-use Rattle.sl_explain_names.specs.FaultWords.{advice_by, advice_line, advice_words, arguments_word, context_advice, context_fields, fault_line, fault_words, fields_words, is_context, is_kind, kind_advice, kind_words, members_words, number_advice, operand_advice, phrase, relation_note, said, sentence, sizes_words, values_words, words_after, words_at}
+use Rattle.sl_explain_names.specs.Arguments.{parameter_name}
+use Rattle.sl_explain_names.specs.FaultWords.{advice_by, advice_line, advice_words, arguments_word, assigned_words, bits_words, context_advice, context_fields, end_words, ends_words, fault_line, fault_words, fields_words, given_words, hex_words, is_context, is_kind, kind_advice, kind_words, members_words, name_words, number_advice, operand_advice, phrase, relation_note, said, sentence, sizes_words, values_words, words_after, words_at}
 use Rattle.sl_explain_names.specs.Items.{is_field, is_register, is_table}
 use Rattle.sl_explain_names.specs.Laws.{CulpritsAreLines}
 use Rattle.sl_explain_names.specs.TokenKinds.{text_after}
@@ -81,6 +82,44 @@ sizes_shown ts first other =
     (all_both (words_at ts first) (codes " has " ++ decimal other) (at_shown ts first)
     (all_both (codes " has ") (decimal other) refl (number_shown other)))
 
+word_hex_shown : (n : ℕ) → AllShown (hex_words n)
+unfolding hex_words
+word_hex_shown n = all_both (codes "0x") (digits 16 false n) refl (hex_shown n)
+
+ends_shown : (end space : ℕ) → AllShown (ends_words end space)
+unfolding ends_words
+ends_shown end space =
+    all_both (codes "the places end at ") (hex_words end ++ (codes ", the space at " ++ hex_words space)) refl
+    (all_both (hex_words end) (codes ", the space at " ++ hex_words space) (word_hex_shown end)
+    (all_both (codes ", the space at ") (hex_words space) refl (word_hex_shown space)))
+
+end_shown : (ts : List Token) (index end : ℕ) → AllShown (end_words ts index end)
+unfolding end_words
+end_shown ts index end =
+    all_both (words_at ts index) (codes " ends at bit " ++ decimal end) (at_shown ts index)
+    (all_both (codes " ends at bit ") (decimal end) refl (number_shown end))
+
+bits_shown : (ts : List Token) (index bits : ℕ) → AllShown (bits_words ts index bits)
+unfolding bits_words
+bits_shown ts index bits =
+    all_both (codes ", and ") (words_after ts index 2 ++ (codes " has " ++ decimal bits)) refl
+    (all_both (words_after ts index 2) (codes " has " ++ decimal bits) (after_shown ts index 2)
+    (all_both (codes " has ") (decimal bits) refl (number_shown bits)))
+
+given_shown : (ts : List Token) (index : ℕ) (is_name : Bool) → AllShown (given_words ts index is_name)
+unfolding given_words
+given_shown ts index is_name =
+    all_either is_name (words_at ts index ++ codes " is a number") (codes "this is no name")
+    (all_both (words_at ts index) (codes " is a number") (at_shown ts index) refl) refl
+
+assigned_shown : (ts : List Token) (call of count : ℕ) → AllShown (assigned_words ts call of count)
+unfolding assigned_words
+assigned_shown ts call of count =
+    let name : List ℕ = name_words (parameter_name ts of count) in
+    all_both (codes ", and ") (words_at ts call ++ (codes " assigns " ++ name)) refl
+    (all_both (words_at ts call) (codes " assigns " ++ name) (at_shown ts call)
+    (all_both (codes " assigns ") name refl (words_shown 40 (parameter_name ts of count))))
+
 -- a bit of a field, and what is said of it
 bit_shown : (label : List ℕ) (ts : List Token) (index ahead : ℕ) (words : List ℕ) → AllShown label → AllShown words
     → AllShown (label ++ (words_after ts index ahead ++ (codes " of " ++ (words_at ts index ++ words))))
@@ -105,6 +144,15 @@ fault_shown ts start index finding.SecondAttribute = all_both (codes "a second "
 fault_shown ts start index finding.NamesItself =
     all_both (words_at ts index) (codes " names " ++ words_at ts index) (at_shown ts index)
     (all_both (codes " names ") (words_at ts index) refl (at_shown ts index))
+fault_shown ts start index finding.DividesByZero =
+    all_both (codes "the constraint of ") (words_at ts index ++ codes " divides by 0") refl
+    (all_both (words_at ts index) (codes " divides by 0") (at_shown ts index) refl)
+fault_shown ts start index (finding.PlacesPast end space) = ends_shown end space
+fault_shown ts start index (finding.RangeOf k) = all_both (words_after ts index 2) (is_kind k) (after_shown ts index 2) (is_kind_shown k)
+fault_shown ts start index (finding.BitsPast end bits) =
+    all_both (end_words ts index end) (bits_words ts index bits) (end_shown ts index end) (bits_shown ts index bits)
+fault_shown ts start index (finding.Assigned is_name call of count) =
+    all_both (given_words ts index is_name) (assigned_words ts call of count) (given_shown ts index is_name) (assigned_shown ts call of count)
 fault_shown ts start index finding.LowAbove =
     bit_shown (codes "the low bit ") ts index 3 (codes " is above " ++ words_after ts index 5) refl
     (all_both (codes " is above ") (words_after ts index 5) refl (after_shown ts index 5))
@@ -159,6 +207,7 @@ advice_shown : (ts : List Token) (rule index : ℕ) (f : Finding) → AllShown (
 advice_shown ts rule index (finding.Is k) = kind_advice_shown ts rule index k
 advice_shown ts rule index (finding.NoOperand k) = operand_advice_shown ts rule index k
 advice_shown ts rule index finding.Number = number_advice_shown ts rule index
+advice_shown ts rule index finding.IsBare = refl
 advice_shown ts rule index (finding.LocalIs k) = refl
 advice_shown ts rule index finding.LocalIsParameter = refl
 advice_shown ts rule index finding.LocalIsOperand = refl

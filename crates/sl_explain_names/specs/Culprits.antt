@@ -2,11 +2,13 @@
 use Rattle.std.specs.Prelude.{ℕ, ◌==◌, List, [], ◌∷◌, if◌then◌else◌, Option, Some, None}
 use Rattle.sl_explain_heads.specs.Heads.{table_of}
 use Rattle.sl_explain_heads.specs.Words.{blocks_round}
+use Rattle.sl_explain_names.specs.Arguments as arguments
 use Rattle.sl_explain_names.specs.Definitions as definitions
 use Rattle.sl_explain_names.specs.Items.{Item}
 use Rattle.sl_explain_names.specs.Names.{mentions}
 use Rattle.sl_explain_names.specs.Patterns as patterns
 use Rattle.sl_explain_names.specs.Places.{places_of}
+use Rattle.sl_explain_names.specs.Ranges as ranges
 use Rattle.sl_explain_names.specs.Sections as sections
 use Rattle.sl_explain_names.specs.Sections.{is_of_root}
 use Rattle.sl_explain_names.specs.declared.culprits.Culprit.{Culprit}
@@ -27,6 +29,8 @@ finding i test.NewName p = definitions.new_finding i p
 finding i test.SpaceAttributes p = definitions.space_finding i p
 finding i test.SecondDefault p = definitions.default_finding i p
 finding i test.Registers p = definitions.registers_finding i p
+finding i test.RegisterPlaces p = ranges.places_finding i p
+finding i test.BitRanges p = ranges.bit_range_finding i p
 finding i test.TokenWidth p = definitions.token_finding i p
 finding i test.FieldBits p = definitions.field_finding i p
 finding i test.ContextParts p = definitions.context_finding i p
@@ -38,14 +42,19 @@ finding i test.DisplayWords p = patterns.display_finding i p
 finding i test.PatternNames p = patterns.pattern_finding i p
 finding i test.BareNames p = patterns.twice_finding i p
 finding i test.OperandCount p = patterns.operand_finding i p
+finding i test.InsideOr p = patterns.inside_finding i p
+finding i test.ZeroDivisors p = patterns.zero_finding i p
+finding i test.OnlyDivision p = patterns.division_finding i p
 finding i test.ActionNames p = patterns.left_finding i p
 finding i test.UsedNames p = patterns.used_finding i p
+finding i test.ContextSources p = patterns.context_finding i p
 finding i test.CommittedFields p = patterns.set_finding i p
 finding i test.Addresses p = patterns.address_finding i p
 finding i test.ParameterNames p = sections.parameter_finding i p
 finding i test.Sizes p = sections.size_finding i p
 finding i test.SectionNames p = sections.section_finding i p
 finding i test.LeftSides p = sections.left_finding i p
+finding i test.AssignedArguments p = arguments.argument_finding i p
 finding i test.Labels p = sections.label_finding i p
 finding i test.BuiltTwice p = sections.built_finding i p
 finding i test.BuiltTables p = sections.build_finding i p
@@ -67,6 +76,8 @@ rule_tests =
     ∷ (4, test.SpaceAttributes)
     ∷ (5, test.SecondDefault)
     ∷ (6, test.Registers)
+    ∷ (7, test.RegisterPlaces)
+    ∷ (8, test.BitRanges)
     ∷ (9, test.TokenWidth)
     ∷ (10, test.FieldBits)
     ∷ (11, test.ContextParts)
@@ -78,14 +89,19 @@ rule_tests =
     ∷ (17, test.PatternNames)
     ∷ (18, test.BareNames)
     ∷ (18, test.OperandCount)
+    ∷ (19, test.InsideOr)
+    ∷ (20, test.ZeroDivisors)
+    ∷ (20, test.OnlyDivision)
     ∷ (21, test.ActionNames)
     ∷ (22, test.UsedNames)
+    ∷ (23, test.ContextSources)
     ∷ (24, test.CommittedFields)
     ∷ (25, test.Addresses)
     ∷ (26, test.ParameterNames)
     ∷ (26, test.Sizes)
     ∷ (26, test.SectionNames)
     ∷ (27, test.LeftSides)
+    ∷ (27, test.AssignedArguments)
     ∷ (28, test.Labels)
     ∷ (29, test.BuiltTwice)
     ∷ (29, test.BuiltTables)

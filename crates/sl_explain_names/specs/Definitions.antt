@@ -11,7 +11,6 @@ use Rattle.sl_explain_names.specs.Sections.{range_finding}
 use Rattle.sl_explain_names.specs.TokenKinds.{has_after, has_before, has_here, has_kind, is_integer, is_text, number_after, text_after}
 use Rattle.sl_explain_names.specs.declared.findings.Finding.{Finding}
 use Rattle.sl_explain_names.specs.declared.findings.Finding.TheVariants as finding
-use Rattle.sl_explain_names.specs.declared.names.Kind.{Kind}
 use Rattle.sl_explain_names.specs.declared.names.Kind.TheVariants as kind
 use Rattle.sl_explain_names.specs.declared.names.Mention.{Mention}
 use Rattle.sl_explain_names.specs.declared.names.Role.{Role}

@@ -1,10 +1,11 @@
 -- meaning: what is wrong with a culprit in words, what to write instead, and which of a rule's sentences asks for it.
 use Rattle.std.specs.Prelude.{ℕ, ◌==◌, ◌&&◌, List, [], ◌∷◌, ◌++◌, codes, if◌then◌else◌, Bool, true, false, not}
-use Rattle.std.specs.Fmt.{decimal}
+use Rattle.std.specs.Fmt.{decimal, digits}
 use Rattle.sl_explain_heads.specs.Heads.{constructor_words}
 use Rattle.sl_explain_heads.specs.Words.{text_at}
 use Rattle.sl_explain_lines.specs.Excerpts.{shown_up_to}
 use Rattle.sl_explain_lines.specs.FactLines.{fact_line}
+use Rattle.sl_explain_names.specs.Arguments.{parameter_name}
 use Rattle.sl_explain_names.specs.Items.{begins_at, is_context_field, is_field, is_register, is_table}
 use Rattle.sl_explain_names.specs.Names.{kind_by, mentions}
 use Rattle.sl_explain_names.specs.TokenKinds.{text_after}
@@ -49,6 +50,11 @@ arguments_word n = if n == 1 then codes " argument, and takes " else codes " arg
 -- what is said of the name behind it, where it is one phrase
 abbrev pub phrase : Finding → List ℕ
 phrase finding.BareTwice = codes " is bare twice"
+phrase finding.IsBare = codes " is bare"
+phrase finding.NotYetKnown = codes " is not known yet"
+phrase finding.ActionName = codes " is an action name"
+phrase finding.BehindTable = codes " stands right of a ; whose left side holds a table"
+phrase finding.HasNoBits = codes " has no bits"
 phrase finding.TooManyOperands = codes " is operand 33"
 phrase finding.NoNumber = codes " is no number"
 phrase finding.SetBefore = codes " is set before"
@@ -119,6 +125,29 @@ members_words members = decimal members ++ codes " members, and "
 unfoldable pub values_words : List Token → (index values : ℕ) → List ℕ
 values_words ts index values = words_at ts index ++ (codes " has " ++ (decimal values ++ codes " values"))
 
+-- a number in hexadecimal
+unfoldable pub hex_words : ℕ → List ℕ
+hex_words n = codes "0x" ++ digits 16 false n
+
+-- where registers end, and where their space does
+unfoldable pub ends_words : (end space : ℕ) → List ℕ
+ends_words end space = codes "the places end at " ++ (hex_words end ++ (codes ", the space at " ++ hex_words space))
+
+-- where the bit range at this index ends, and how many bits its register has
+unfoldable pub end_words : List Token → (index end : ℕ) → List ℕ
+end_words ts index end = words_at ts index ++ (codes " ends at bit " ++ decimal end)
+
+unfoldable pub bits_words : List Token → (index bits : ℕ) → List ℕ
+bits_words ts index bits = codes ", and " ++ (words_after ts index 2 ++ (codes " has " ++ decimal bits))
+
+-- what an argument is that the macro assigns
+unfoldable pub given_words : List Token → (index : ℕ) → (is_name : Bool) → List ℕ
+given_words ts index is_name = if is_name then words_at ts index ++ codes " is a number" else codes "this is no name"
+
+unfoldable pub assigned_words : List Token → (call of count : ℕ) → List ℕ
+assigned_words ts call of count =
+    codes ", and " ++ (words_at ts call ++ (codes " assigns " ++ name_words (parameter_name ts of count)))
+
 -- that a register has another size than the first one
 abbrev pub sizes_words : List Token → (first other : ℕ) → List ℕ
 sizes_words ts first other = codes ", and " ++ (words_at ts first ++ (codes " has " ++ decimal other))
@@ -137,6 +166,11 @@ fault_words ts start index finding.NoMembers = sentence finding.NoMembers
 fault_words ts start index finding.OfRoot = constructor_words ts start ++ codes " is of instruction"
 fault_words ts start index finding.SecondAttribute = codes "a second " ++ words_at ts index
 fault_words ts start index finding.NamesItself = words_at ts index ++ (codes " names " ++ words_at ts index)
+fault_words ts start index finding.DividesByZero = codes "the constraint of " ++ (words_at ts index ++ codes " divides by 0")
+fault_words ts start index (finding.PlacesPast end space) = ends_words end space
+fault_words ts start index (finding.RangeOf k) = words_after ts index 2 ++ is_kind k
+fault_words ts start index (finding.BitsPast end bits) = end_words ts index end ++ bits_words ts index bits
+fault_words ts start index (finding.Assigned is_name call of count) = given_words ts index is_name ++ assigned_words ts call of count
 fault_words ts start index finding.LowAbove =
     codes "the low bit " ++ (words_after ts index 3 ++ (codes " of " ++ (words_at ts index ++ (codes " is above " ++ words_after ts index 5))))
 fault_words ts start index (finding.HighNotBelow bits) =
@@ -201,6 +235,7 @@ abbrev pub advice_words : List Token → (rule index : ℕ) → Finding → List
 advice_words ts rule index (finding.Is k) = kind_advice ts rule index k
 advice_words ts rule index (finding.NoOperand k) = operand_advice ts rule index k
 advice_words ts rule index finding.Number = number_advice ts rule index
+advice_words ts rule index finding.IsBare = codes "a constructor for each side"
 advice_words ts rule index (finding.LocalIs k) = codes "another name"
 advice_words ts rule index finding.LocalIsParameter = codes "another name"
 advice_words ts rule index finding.LocalIsOperand = codes "another name"
@@ -226,6 +261,10 @@ name_sentence (finding.Below n) = 4
 name_sentence (finding.Above n) = 4
 name_sentence _ = 0
 
+abbrev pub assigned_sentence : Finding → ℕ
+assigned_sentence (finding.Assigned is_name call of count) = 1
+assigned_sentence _ = 0
+
 abbrev pub export_sentence : Finding → ℕ
 export_sentence finding.StatementAfter = 0
 export_sentence finding.OfRoot = 0
@@ -242,6 +281,7 @@ call_sentence ts index _ = place_sentence ts index
 unfoldable pub sentence_of : List Token → (rule : ℕ) → Culprit → ℕ
 sentence_of ts rule c =
     if rule == 26 then name_sentence c.finding
+    else if rule == 27 then assigned_sentence c.finding
     else if rule == 30 then export_sentence c.finding
     else if rule == 31 then call_sentence ts c.index c.finding
     else 0

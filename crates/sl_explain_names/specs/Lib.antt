@@ -2,10 +2,13 @@ pub mod TokenKinds
 pub mod Places
 pub mod Names
 pub mod Items
+pub mod Brackets
 pub mod ItemView
 pub mod Patterns
 pub mod Sections
 pub mod Definitions
+pub mod Ranges
+pub mod Arguments
 pub mod Culprits
 pub mod FaultWords
 pub mod Laws

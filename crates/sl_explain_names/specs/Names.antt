@@ -1,9 +1,8 @@
 -- meaning: what the names of a text are, as its definitions before an item and all its tables tell.
-use Rattle.std.specs.Prelude.{ℕ, ◌+◌, ◌-◌, ◌==◌, ◌&&◌, ◌||◌, List, [], ◌∷◌, ◌++◌, codes, drop, find, nat_lt}
+use Rattle.std.specs.Prelude.{ℕ, ◌+◌, ◌-◌, ◌&&◌, ◌||◌, List, [], ◌∷◌, ◌++◌, codes, drop, find, nat_lt}
 use Rattle.std.specs.Prelude.{Bool, true, false, not, Option, Some, None, if◌then◌else◌}
 use Rattle.std.specs.List.{list_any}
 use Rattle.std.specs.Str.{bytes_eq}
-use Rattle.sl_explain_heads.specs.Words.{text_at}
 use Rattle.sl_explain_names.specs.TokenKinds.{has_after, has_before, has_here, is_word_at}
 use Rattle.sl_explain_names.specs.declared.names.Kind.{Kind}
 use Rattle.sl_explain_names.specs.declared.names.Kind.TheVariants as kind

@@ -1,13 +1,15 @@
--- meaning: what is wrong with a word of a display, a pattern or an action: rules 16 to 18, 21 to 25, 34 and 35.
-use Rattle.std.specs.Prelude.{ℕ, ◌==◌, ◌&&◌, ◌||◌, List, codes, filter, length, nat_lt}
-use Rattle.std.specs.Prelude.{Bool, not, Option, Some, None, if◌then◌else◌}
+-- meaning: what is wrong with a word of a display, a pattern or an action: rules 16 to 25, 34 and 35.
+use Rattle.std.specs.Prelude.{ℕ, ◌==◌, ◌&&◌, ◌||◌, List, codes, drop, filter, length, nat_lt}
+use Rattle.std.specs.Prelude.{Bool, not, Option, Some, None, if◌then◌else◌, slice_get}
 use Rattle.std.specs.List.{list_any}
 use Rattle.std.specs.Str.{bytes_eq}
-use Rattle.sl_explain_names.specs.Items.{Item, has_relation, is_action, is_action_name_before, is_address_name, has_bare_name, is_bare, is_bare_name}
+use Rattle.sl_explain_names.specs.Brackets.{encloses, stands_behind}
+use Rattle.sl_explain_names.specs.Items.{Item, has_name, has_relation, is_action, is_action_name_before, is_address_name, has_bare_name, is_bare, is_bare_name}
 use Rattle.sl_explain_names.specs.Items.{is_context_field, is_display, is_field, is_free, is_in_pattern, is_left, is_named, is_operand}
-use Rattle.sl_explain_names.specs.Items.{is_pattern_name, is_register, is_set, is_set_before, is_table, is_token_field, is_word_in}
+use Rattle.sl_explain_names.specs.Items.{is_pattern, is_pattern_name, is_register, is_set, is_set_before, is_settled, is_table, is_token_field, is_word_in}
 use Rattle.sl_explain_names.specs.Items.{kind_of, name_at}
-use Rattle.sl_explain_names.specs.TokenKinds.{has_after, has_before}
+use Rattle.sl_explain_names.specs.Names.{stands_between}
+use Rattle.sl_explain_names.specs.TokenKinds.{has_after, has_before, has_kind, is_integer, number_after}
 use Rattle.sl_explain_names.specs.declared.findings.Finding.{Finding}
 use Rattle.sl_explain_names.specs.declared.findings.Finding.TheVariants as finding
 use Rattle.sl_explain_names.specs.declared.names.Kind.{Kind}
@@ -77,6 +79,68 @@ most_operands = 32
 abbrev pub operand_finding : Item → Place → Option Finding
 operand_finding i p = found (adds_operand i p && (operands_before i p == most_operands)) finding.TooManyOperands
 
+-- a mark of the pattern
+abbrev pub is_mark : Item → Place → (mark : List ℕ) → Bool
+is_mark i p mark = is_pattern p.part && is_named i mark p
+
+abbrev pub has_between : Item → (before after : Place) → (mark : List ℕ) → Bool
+has_between i before after mark = stands_between i.tokens mark before.index after.index
+
+-- Two places are in one pattern, and not in that of a block and one inside: no brace stands between them.
+abbrev pub are_in_one : Item → Place → Place → Bool
+are_in_one i p q = not (has_between i p q (codes "{")) && not (has_between i q p (codes "{"))
+
+-- 19: a `|`, which joins least tightly, is round all in its brackets
+abbrev pub is_or_round : Item → (at : Place) → Place → Bool
+is_or_round i at p = is_mark i p (codes "|") && (are_in_one i p at && encloses i.tokens p.index at.index)
+
+abbrev pub is_inside_or : Item → (at : Place) → Bool
+is_inside_or i at = list_any (is_or_round i at) i.places
+
+-- inside `|` no name but `epsilon` is bare
+abbrev pub inside_finding : Item → Place → Option Finding
+inside_finding i p = found (is_bare_name i p && is_inside_or i p) finding.IsBare
+
+-- 20: another part of the pattern begins between two places
+abbrev pub are_parted : Item → (before after : Place) → Bool
+are_parted i before after =
+    has_between i before after (codes "&") || (has_between i before after (codes ";")
+    || (has_between i before after (codes "|") || has_between i before after (codes "{")))
+
+-- a division of the constraint at a place
+abbrev pub divides : Item → (at : Place) → Place → Bool
+divides i at p = is_mark i p (codes "/") && (nat_lt at.index p.index && not (are_parted i at p))
+
+-- one by the integer 0
+abbrev pub divides_by_zero : Item → (at : Place) → Place → Bool
+divides_by_zero i at p =
+    divides i at p && (has_kind is_integer (slice_get (drop p.index i.tokens) 1) && (number_after i.tokens p.index 1 == 0))
+
+-- one of another constraint
+abbrev pub divides_elsewhere : Item → (at : Place) → Place → Bool
+divides_elsewhere i at p = is_mark i p (codes "/") && not (divides i at p)
+
+abbrev pub is_constrained : Item → Place → Bool
+is_constrained i p = is_pattern_name i p && has_relation i p
+
+abbrev pub has_zero : Item → (at : Place) → Bool
+has_zero i at = list_any (divides_by_zero i at) i.places
+
+-- no constraint divides by 0: the integer
+abbrev pub zero_finding : Item → Place → Option Finding
+zero_finding i p = found (is_constrained i p && has_zero i p) finding.DividesByZero
+
+abbrev pub has_division : Item → (at : Place) → Bool
+has_division i at = list_any (divides i at) i.places
+
+abbrev pub has_other_division : Item → (at : Place) → Bool
+has_other_division i at = list_any (divides_elsewhere i at) i.places
+
+-- or else, where one constraint alone divides, that one
+abbrev pub division_finding : Item → Place → Option Finding
+division_finding i p =
+    found (is_constrained i p && (has_division i p && not (has_other_division i p))) finding.DividesByZero
+
 -- 34: no table names itself
 abbrev pub itself_finding : Item → Place → Option Finding
 itself_finding i p = found (is_bare_name i p && is_named i i.table p) finding.NamesItself
@@ -130,6 +194,39 @@ use_finding i p name =
 
 abbrev pub used_finding : Item → Place → Option Finding
 used_finding i p = if is_used i p then use_finding i p (name_at i p) else None
+
+-- 23: a field of the context that the action sets in which a place is
+abbrev pub sets_context : Item → (at : Place) → Place → Bool
+sets_context i at p =
+    is_left i p && (is_context_field (kind_of i (name_at i p)) && (nat_lt p.index at.index && not (is_settled i p at)))
+
+abbrev pub is_for_context : Item → (at : Place) → Bool
+is_for_context i at = list_any (sets_context i at) i.places
+
+-- a table on the left of a `;` on whose right a place is
+abbrev pub is_table_before : Item → (at : Place) → Place → Bool
+is_table_before i at p =
+    is_bare_name i p && (is_table (kind_of i (name_at i p)) && (nat_lt p.index at.index
+    && (are_in_one i p at && stands_behind i.tokens p.index at.index)))
+
+abbrev pub is_behind_table : Item → (at : Place) → Bool
+is_behind_table i at = list_any (is_table_before i at) i.places
+
+abbrev pub has_name_behind : Item → (name : List ℕ) → Place → Bool
+has_name_behind i name p = has_name i name p && is_behind_table i p
+
+abbrev pub is_name_behind : Item → (name : List ℕ) → Bool
+is_name_behind i name = list_any (has_name_behind i name) i.places
+
+abbrev pub early_finding : Item → Place → (name : List ℕ) → Option Finding
+early_finding i p name =
+    if bytes_eq name (codes "inst_next") then Some finding.NotYetKnown
+    else if is_action_name_before i p name then Some finding.ActionName
+    else found (is_name_behind i name) finding.BehindTable
+
+-- an action on a context field uses no `inst_next`, no action name, and no field right of a `;` whose left side holds a table
+abbrev pub context_finding : Item → Place → Option Finding
+context_finding i p = if is_used i p && is_for_context i p then early_finding i p (name_at i p) else None
 
 -- 24: `globalset` names a context field
 abbrev pub committed_finding : Kind → Option Finding

@@ -3,7 +3,7 @@ use Rattle.std.specs.Prelude.{ℕ, ◌+◌, ◌-◌, ◌==◌, ◌&&◌, ◌||�
 use Rattle.std.specs.Prelude.{Bool, true, false, not, Option, Some, None, if◌then◌else◌, slice_get}
 use Rattle.std.specs.List.{list_any}
 use Rattle.std.specs.Str.{bytes_eq}
-use Rattle.sl_explain_names.specs.Items.{Item, begins_statement, is_action_name, is_address_name, is_assigned, is_bare, is_bit_range}
+use Rattle.sl_explain_names.specs.Items.{Item, begins_statement, is_action_name, is_address_name, is_assigned, is_bare}
 use Rattle.sl_explain_names.specs.Items.{is_context_register, is_declared, is_field, is_local_before, is_macro, is_named, is_operation}
 use Rattle.sl_explain_names.specs.Items.{has_parameter_name, is_parameter, is_parameter_place, is_register, is_section, is_space, is_table, is_word_in}
 use Rattle.sl_explain_names.specs.Items.{kind_of, name_at, stands_for}
@@ -313,6 +313,14 @@ commas depth (t ∷ ts) =
     else if is_closing t.text then (if depth == 0 then 0 else commas (depth - 1) ts)
     else if bytes_eq t.text (codes ",") && depth == 0 then 1 + commas depth ts
     else commas depth ts
+
+-- how many of the brackets that open in these tokens are open behind them
+abbrev pub depths : (depth : ℕ) → List Token → ℕ
+depths depth [] = depth
+depths depth (t ∷ ts) =
+    if is_opening t.text then depths (depth + 1) ts
+    else if is_closing t.text then depths (depth - 1) ts
+    else depths depth ts
 
 -- how many arguments or parameters stand behind the name of this index
 abbrev pub arguments : List Token → (index : ℕ) → ℕ

@@ -11,7 +11,7 @@ use crate::item::Item;
 use crate::names::mentions;
 use crate::places::{Form, Place, places_of};
 use crate::sections::is_of_root;
-use crate::{definitions, patterns, sections};
+use crate::{arguments, definitions, patterns, ranges, sections};
 use sl_explain_heads::{blocks_round, table_of};
 use sl_lex::Tok;
 use std::alloc::{AllocError, Global};
@@ -25,6 +25,8 @@ pub enum Test {
     SpaceAttributes,
     SecondDefault,
     Registers,
+    RegisterPlaces,
+    BitRanges,
     TokenWidth,
     FieldBits,
     ContextParts,
@@ -36,14 +38,19 @@ pub enum Test {
     PatternNames,
     BareNames,
     OperandCount,
+    InsideOr,
+    ZeroDivisors,
+    OnlyDivision,
     ActionNames,
     UsedNames,
+    ContextSources,
     CommittedFields,
     Addresses,
     ParameterNames,
     Sizes,
     SectionNames,
     LeftSides,
+    AssignedArguments,
     Labels,
     BuiltTwice,
     BuiltTables,
@@ -75,6 +82,8 @@ fn finding(i: &Item<'_, '_>, test: Test, place: Place) -> Option<Finding>
         Test::SpaceAttributes => definitions::space_finding(i, place),
         Test::SecondDefault => definitions::default_finding(i, place),
         Test::Registers => definitions::registers_finding(i, place),
+        Test::RegisterPlaces => ranges::places_finding(i, place),
+        Test::BitRanges => ranges::bit_range_finding(i, place),
         Test::TokenWidth => definitions::token_finding(i, place),
         Test::FieldBits => definitions::field_finding(i, place),
         Test::ContextParts => definitions::context_finding(i, place),
@@ -86,14 +95,19 @@ fn finding(i: &Item<'_, '_>, test: Test, place: Place) -> Option<Finding>
         Test::PatternNames => patterns::pattern_finding(i, place),
         Test::BareNames => patterns::twice_finding(i, place),
         Test::OperandCount => patterns::operand_finding(i, place),
+        Test::InsideOr => patterns::inside_finding(i, place),
+        Test::ZeroDivisors => patterns::zero_finding(i, place),
+        Test::OnlyDivision => patterns::division_finding(i, place),
         Test::ActionNames => patterns::left_finding(i, place),
         Test::UsedNames => patterns::used_finding(i, place),
+        Test::ContextSources => patterns::context_finding(i, place),
         Test::CommittedFields => patterns::set_finding(i, place),
         Test::Addresses => patterns::address_finding(i, place),
         Test::ParameterNames => sections::parameter_finding(i, place),
         Test::Sizes => sections::size_finding(i, place),
         Test::SectionNames => sections::section_finding(i, place),
         Test::LeftSides => sections::left_finding(i, place),
+        Test::AssignedArguments => arguments::argument_finding(i, place),
         Test::Labels => sections::label_finding(i, place),
         Test::BuiltTwice => sections::built_finding(i, place),
         Test::BuiltTables => sections::build_finding(i, place),
@@ -109,13 +123,15 @@ fn finding(i: &Item<'_, '_>, test: Test, place: Place) -> Option<Finding>
 }
 
 /// The tests of each rule, by its number.
-static RULE_TESTS: [(u8, Test); 36] = [
+static RULE_TESTS: [(u8, Test); 43] = [
     (1, Test::Order),
     (2, Test::Alignment),
     (3, Test::NewName),
     (4, Test::SpaceAttributes),
     (5, Test::SecondDefault),
     (6, Test::Registers),
+    (7, Test::RegisterPlaces),
+    (8, Test::BitRanges),
     (9, Test::TokenWidth),
     (10, Test::FieldBits),
     (11, Test::ContextParts),
@@ -127,14 +143,19 @@ static RULE_TESTS: [(u8, Test); 36] = [
     (17, Test::PatternNames),
     (18, Test::BareNames),
     (18, Test::OperandCount),
+    (19, Test::InsideOr),
+    (20, Test::ZeroDivisors),
+    (20, Test::OnlyDivision),
     (21, Test::ActionNames),
     (22, Test::UsedNames),
+    (23, Test::ContextSources),
     (24, Test::CommittedFields),
     (25, Test::Addresses),
     (26, Test::ParameterNames),
     (26, Test::Sizes),
     (26, Test::SectionNames),
     (27, Test::LeftSides),
+    (27, Test::AssignedArguments),
     (28, Test::Labels),
     (29, Test::BuiltTwice),
     (29, Test::BuiltTables),

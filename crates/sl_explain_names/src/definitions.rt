@@ -28,14 +28,14 @@ fn is_in(i: &Item<'_, '_>, place: Place, word: &[u8]) -> bool
 }
 
 /// Whether a place of a definition has this word so many places before it.
-fn is_after(i: &Item<'_, '_>, place: Place, back: usize, word: &[u8]) -> bool
+pub fn is_after(i: &Item<'_, '_>, place: Place, back: usize, word: &[u8]) -> bool
     ensures { result ≡ spec.is_after (item i.now) place back word.now }
 {
     is_defining(place.part) && has_before(i.tokens, place.index, back, word)
 }
 
 /// The number at a place.
-fn number_at(i: &Item<'_, '_>, place: Place) -> u64
+pub fn number_at(i: &Item<'_, '_>, place: Place) -> u64
     ensures { result ≡ spec.number_at (item i.now) place }
 {
     number_after(i.tokens, place.index, 0)

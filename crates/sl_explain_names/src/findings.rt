@@ -17,11 +17,21 @@ pub enum Finding {
     /// It is the 33rd operand.
     TooManyOperands,
     NamesItself,
+    /// It is bare inside of `|`.
+    IsBare,
+    /// The constraint of the field divides by 0.
+    DividesByZero,
     /// The pattern of the constructor that begins here may have no bytes.
     NoBytes,
     SetBefore,
     /// No action before sets it, but a later one.
     NotYetSet,
+    /// It is `inst_next` where the instruction isn't decoded yet.
+    NotYetKnown,
+    /// It is an action's name.
+    ActionName,
+    /// It is on the right of a `;` whose left side has a table.
+    BehindTable,
     /// It is a field that isn't in the pattern.
     NotInPattern,
     /// It is a field that isn't bare in the pattern.
@@ -56,7 +66,18 @@ pub enum Finding {
     NoNumber,
     /// `build` or `export` in a macro.
     InMacro,
-    Arguments { given: usize, taken: usize },
+    Arguments {
+        given: usize,
+        taken: usize,
+    },
+    /// It is a number, or no name by itself; the macro that the token of the index `call` names and
+    /// whose own name has the index `of` assigns the parameter before which there are so many.
+    Assigned {
+        is_name: bool,
+        call: usize,
+        of: usize,
+        count: usize,
+    },
     /// The first item of a text that doesn't begin with the byte order.
     FirstItem,
     SecondEndian,
@@ -66,6 +87,20 @@ pub enum Finding {
     Twice,
     /// The space whose definition begins at this index is `default`.
     DefaultIs(usize),
+    /// The registers end at this byte of a space that ends at that one.
+    PlacesPast {
+        end: u64,
+        space: u64,
+    },
+    /// The register of the bit range is of this kind.
+    RangeOf(Kind),
+    /// The bit range has no bits.
+    HasNoBits,
+    /// The bit range ends at this bit of a register with so many.
+    BitsPast {
+        end: u64,
+        bits: u64,
+    },
     /// It is no multiple of 8.
     NoMultiple,
     LowAbove,
@@ -86,7 +121,11 @@ pub enum Finding {
     /// It has so many bytes, which are too many.
     SizeIs(u64),
     /// It has so many bytes, and the register at this index has another number.
-    SizesDiffer { size: u64, first: usize, other: u64 },
+    SizesDiffer {
+        size: u64,
+        first: usize,
+        other: u64,
+    },
     NoRegister,
     IsInteger,
     IsText,
@@ -94,6 +133,9 @@ pub enum Finding {
     /// It is a number past those that are attached.
     PastValues,
     /// So many members are attached to a field with so many values.
-    ManyMembers { members: usize, values: u64 },
+    ManyMembers {
+        members: usize,
+        values: u64,
+    },
     NoMembers,
 }

@@ -229,7 +229,7 @@ impl<'t, 's> Item<'t, 's> {
     }
 
     /// Whether a place of the pattern has the name.
-    fn has_name(&self, name: &[u8], place: Place) -> bool
+    pub fn has_name(&self, name: &[u8], place: Place) -> bool
         ensures { result ≡ spec.has_name (item self.now) name.now place }
     {
         self.is_pattern_name(place) && self.is_named(name, place)
@@ -287,7 +287,7 @@ impl<'t, 's> Item<'t, 's> {
     }
 
     /// Whether a semicolon is between two places.
-    fn is_settled(&self, before: Place, after: Place) -> bool
+    pub fn is_settled(&self, before: Place, after: Place) -> bool
         ensures { result ≡ spec.is_settled (item self.now) before after }
     {
         stands_between(self.tokens, b";", before.index, after.index)

@@ -5,6 +5,8 @@
 //! the first word, in the text's order, with which something is wrong.
 #![tactic(auto)]
 
+mod arguments;
+mod brackets;
 mod culprits;
 mod definitions;
 mod findings;
@@ -13,6 +15,7 @@ mod laws;
 mod names;
 mod patterns;
 mod places;
+mod ranges;
 mod sections;
 mod tokens;
 mod words;
@@ -31,4 +34,4 @@ pub use sections::{is_assigned_bits, is_called, is_table_operand, is_value_name}
 pub use tokens::{
     has_after, has_before, has_here, is, is_integer_at, is_word_at, number_after, text_after,
 };
-pub use words::{push_advice, push_fault, push_kind, sentence_of};
+pub use words::{push_advice, push_fault, push_hex, push_kind, sentence_of};

@@ -4,14 +4,16 @@ ghost use Rattle.std.specs.Prelude.{◌≡◌};
 ghost use Rattle.sl_explain_names.specs.ItemView.{item};
 ghost use Rattle.sl_explain_names.specs.Patterns as spec;
 
+use crate::brackets::{encloses, stands_behind};
 use crate::findings::Finding;
 use crate::item::{
-    Item, is_action, is_address_name, is_context_field, is_display, is_field, is_free, is_register,
-    is_table, is_token_field,
+    Item, is_action, is_address_name, is_context_field, is_display, is_field, is_free, is_pattern,
+    is_register, is_table, is_token_field,
 };
-use crate::names::Kind;
+use crate::names::{Kind, stands_between};
 use crate::places::Place;
-use crate::tokens::{has_after, has_before, is};
+use crate::tokens::{has_after, has_before, is, is_integer_at, number_after};
+use sl_explain_heads::from;
 
 /// The finding where something is wrong.
 pub fn found(is_wrong: bool, finding: Finding) -> Option<Finding>
@@ -149,6 +151,127 @@ pub fn operand_finding(i: &Item<'_, '_>, place: Place) -> Option<Finding>
     found(is_past, Finding::TooManyOperands)
 }
 
+/// Whether a place is this mark of the pattern.
+fn is_mark(i: &Item<'_, '_>, place: Place, mark: &[u8]) -> bool
+    ensures { result ≡ spec.is_mark (item i.now) place mark.now }
+{
+    is_pattern(place.part) && i.is_named(mark, place)
+}
+
+/// Whether this mark is between two places.
+fn has_between(i: &Item<'_, '_>, before: Place, after: Place, mark: &[u8]) -> bool
+    ensures { result ≡ spec.has_between (item i.now) before after mark.now }
+{
+    stands_between(i.tokens, mark, before.index, after.index)
+}
+
+/// Whether two places are in one pattern, and not in that of a block and one inside.
+fn are_in_one(i: &Item<'_, '_>, place: Place, other: Place) -> bool
+    ensures { result ≡ spec.are_in_one (item i.now) place other }
+{
+    !has_between(i, place, other, b"{") && !has_between(i, other, place, b"{")
+}
+
+/// Whether a place is a `|` inside of which another one is.
+fn is_or_round(i: &Item<'_, '_>, at: Place, place: Place) -> bool
+    ensures { result ≡ spec.is_or_round (item i.now) at place }
+{
+    is_mark(i, place, b"|") && are_in_one(i, place, at) && encloses(i.tokens, place.index, at.index)
+}
+
+fn is_inside_or(i: &Item<'_, '_>, at: Place) -> bool
+    ensures { result ≡ spec.is_inside_or (item i.now) at }
+{
+    i.places.iter().any(|p| is_or_round(i, at, *p))
+}
+
+/// Rule 19: inside `|` no name but `epsilon` is bare.
+pub fn inside_finding(i: &Item<'_, '_>, place: Place) -> Option<Finding>
+    ensures { result ≡ spec.inside_finding (item i.now) place }
+{
+    found(
+        i.is_bare_name(place) && is_inside_or(i, place),
+        Finding::IsBare,
+    )
+}
+
+/// Whether another part of a pattern begins between two places.
+fn are_parted(i: &Item<'_, '_>, before: Place, after: Place) -> bool
+    ensures { result ≡ spec.are_parted (item i.now) before after }
+{
+    has_between(i, before, after, b"&")
+        || has_between(i, before, after, b";")
+        || has_between(i, before, after, b"|")
+        || has_between(i, before, after, b"{")
+}
+
+/// Whether a place is a division of the constraint at another one.
+fn divides(i: &Item<'_, '_>, at: Place, place: Place) -> bool
+    ensures { result ≡ spec.divides (item i.now) at place }
+{
+    is_mark(i, place, b"/") && at.index < place.index && !are_parted(i, at, place)
+}
+
+/// Whether it is one by the integer 0.
+fn divides_by_zero(i: &Item<'_, '_>, at: Place, place: Place) -> bool
+    ensures { result ≡ spec.divides_by_zero (item i.now) at place }
+{
+    divides(i, at, place)
+        && is_integer_at(from(i.tokens, place.index), 1)
+        && number_after(i.tokens, place.index, 1) == 0
+}
+
+/// Whether a place is a division of another constraint.
+fn divides_elsewhere(i: &Item<'_, '_>, at: Place, place: Place) -> bool
+    ensures { result ≡ spec.divides_elsewhere (item i.now) at place }
+{
+    is_mark(i, place, b"/") && !divides(i, at, place)
+}
+
+fn is_constrained(i: &Item<'_, '_>, place: Place) -> bool
+    ensures { result ≡ spec.is_constrained (item i.now) place }
+{
+    i.is_pattern_name(place) && i.has_relation(place)
+}
+
+fn has_zero(i: &Item<'_, '_>, at: Place) -> bool
+    ensures { result ≡ spec.has_zero (item i.now) at }
+{
+    i.places.iter().any(|p| divides_by_zero(i, at, *p))
+}
+
+/// Rule 20: no constraint divides by the integer 0.
+pub fn zero_finding(i: &Item<'_, '_>, place: Place) -> Option<Finding>
+    ensures { result ≡ spec.zero_finding (item i.now) place }
+{
+    found(
+        is_constrained(i, place) && has_zero(i, place),
+        Finding::DividesByZero,
+    )
+}
+
+fn has_division(i: &Item<'_, '_>, at: Place) -> bool
+    ensures { result ≡ spec.has_division (item i.now) at }
+{
+    i.places.iter().any(|p| divides(i, at, *p))
+}
+
+fn has_other_division(i: &Item<'_, '_>, at: Place) -> bool
+    ensures { result ≡ spec.has_other_division (item i.now) at }
+{
+    i.places.iter().any(|p| divides_elsewhere(i, at, *p))
+}
+
+/// Rule 20, where one constraint alone divides.
+pub fn division_finding(i: &Item<'_, '_>, place: Place) -> Option<Finding>
+    ensures { result ≡ spec.division_finding (item i.now) place }
+{
+    let is_only = is_constrained(i, place)
+        && has_division(i, place)
+        && !has_other_division(i, place);
+    found(is_only, Finding::DividesByZero)
+}
+
 /// Rule 34: no table names itself.
 pub fn itself_finding(i: &Item<'_, '_>, place: Place) -> Option<Finding>
     ensures { result ≡ spec.itself_finding (item i.now) place }
@@ -271,6 +394,78 @@ fn use_finding(i: &Item<'_, '_>, place: Place, name: &[u8]) -> Option<Finding>
         None
     } else {
         unknown_finding(i, name)
+    }
+}
+
+/// Whether a place is a field of the context that an action sets in which another place is.
+fn sets_context(i: &Item<'_, '_>, at: Place, place: Place) -> bool
+    ensures { result ≡ spec.sets_context (item i.now) at place }
+{
+    i.is_left(place)
+        && is_context_field(i.kind_of(i.name_at(place)))
+        && place.index < at.index
+        && !i.is_settled(place, at)
+}
+
+/// Whether a place is in the value of an action on a field of the context.
+fn is_for_context(i: &Item<'_, '_>, at: Place) -> bool
+    ensures { result ≡ spec.is_for_context (item i.now) at }
+{
+    i.places.iter().any(|p| sets_context(i, at, *p))
+}
+
+/// Whether a place is a table on the left of a `;` on whose right another one is.
+fn is_table_before(i: &Item<'_, '_>, at: Place, place: Place) -> bool
+    ensures { result ≡ spec.is_table_before (item i.now) at place }
+{
+    i.is_bare_name(place)
+        && is_table(i.kind_of(i.name_at(place)))
+        && place.index < at.index
+        && are_in_one(i, place, at)
+        && stands_behind(i.tokens, place.index, at.index)
+}
+
+fn is_behind_table(i: &Item<'_, '_>, at: Place) -> bool
+    ensures { result ≡ spec.is_behind_table (item i.now) at }
+{
+    i.places.iter().any(|p| is_table_before(i, at, *p))
+}
+
+/// Whether a place of the pattern has the name, and is behind a table.
+fn has_name_behind(i: &Item<'_, '_>, name: &[u8], place: Place) -> bool
+    ensures { result ≡ spec.has_name_behind (item i.now) name.now place }
+{
+    i.has_name(name, place) && is_behind_table(i, place)
+}
+
+fn is_name_behind(i: &Item<'_, '_>, name: &[u8]) -> bool
+    ensures { result ≡ spec.is_name_behind (item i.now) name.now }
+{
+    i.places.iter().any(|p| has_name_behind(i, name, *p))
+}
+
+/// What is wrong with a name in the value of an action on a field of the context.
+fn early_finding(i: &Item<'_, '_>, place: Place, name: &[u8]) -> Option<Finding>
+    ensures { result ≡ spec.early_finding (item i.now) place name.now }
+{
+    if is(name, b"inst_next") {
+        Some(Finding::NotYetKnown)
+    } else if i.is_action_name_before(place, name) {
+        Some(Finding::ActionName)
+    } else {
+        found(is_name_behind(i, name), Finding::BehindTable)
+    }
+}
+
+/// Rule 23: an action on a context field uses no `inst_next`, no action name, and no field on the
+/// right of a `;` whose left side has a table.
+pub fn context_finding(i: &Item<'_, '_>, place: Place) -> Option<Finding>
+    ensures { result ≡ spec.context_finding (item i.now) place }
+{
+    if is_used(i, place) && is_for_context(i, place) {
+        early_finding(i, place, i.name_at(place))
+    } else {
+        None
     }
 }
 

@@ -33,7 +33,7 @@ fn is_keyword(name: &[u8]) -> bool
 }
 
 /// Whether a place is a word of a section that is no keyword.
-fn is_name(i: &Item<'_, '_>, place: Place) -> bool
+pub fn is_name(i: &Item<'_, '_>, place: Place) -> bool
     ensures { result ≡ spec.is_name (item i.now) place }
 {
     is_section(place.part) && i.is_word(place) && !is_keyword(i.name_at(place))
@@ -301,7 +301,7 @@ fn is_plain_field(i: &Item<'_, '_>, name: &[u8]) -> bool
 }
 
 /// Whether the name stands for a number.
-fn is_number(i: &Item<'_, '_>, name: &[u8]) -> bool
+pub fn is_number(i: &Item<'_, '_>, name: &[u8]) -> bool
     ensures { result ≡ spec.is_number (item i.now) name.now }
 {
     is_address_name(name) || i.is_action_name(name) || is_plain_field(i, name)
@@ -616,7 +616,7 @@ fn is_closing(text: &[u8]) -> bool
 }
 
 /// How many commas are there up to the bracket that closes, those within further brackets left out.
-fn commas(tokens: &[Tok<'_>]) -> usize
+pub fn commas(tokens: &[Tok<'_>]) -> usize
     ensures is { result ≡ spec.commas 0 (views tokens.now) }
     ensures most { result ≤ length tokens.now }
 {
@@ -635,6 +635,21 @@ fn commas(tokens: &[Tok<'_>]) -> usize
         }
     }
     count
+}
+
+/// How many of the brackets that open in these tokens, round or square, are open after them.
+pub fn depths(tokens: &[Tok<'_>]) -> usize
+    ensures { result ≡ spec.depths 0 (views tokens.now) }
+{
+    let mut depth = 0_usize;
+    'tokens: for token in tokens {
+        if is_opening(token.text) {
+            depth += 1;
+        } else if is_closing(token.text) {
+            depth = depth.saturating_sub(1);
+        }
+    }
+    depth
 }
 
 /// How many arguments or parameters are after the name of this index.

@@ -6,6 +6,7 @@ ghost use Rattle.sl_explain_names.specs.FaultWords as spec;
 ghost use Rattle.sl_explain_names.specs.Names.{mentions};
 ghost use Rattle.sl_lex.specs.Views.{views};
 
+use crate::arguments::parameter_name;
 use crate::culprits::Culprit;
 use crate::findings::Finding;
 use crate::item::{begins_at, is_context_field, is_field, is_register, is_table};
@@ -83,6 +84,11 @@ fn phrase(finding: Finding) -> &'static [u8]
 {
     match finding {
         Finding::BareTwice => b" is bare twice",
+        Finding::IsBare => b" is bare",
+        Finding::NotYetKnown => b" is not known yet",
+        Finding::ActionName => b" is an action name",
+        Finding::BehindTable => b" stands right of a ; whose left side holds a table",
+        Finding::HasNoBits => b" has no bits",
         Finding::TooManyOperands => b" is operand 33",
         Finding::NoNumber => b" is no number",
         Finding::SetBefore => b" is set before",
@@ -300,6 +306,110 @@ fn push_sizes(
     push_other_size(out, tokens, first, other)
 }
 
+/// Appends a number in hexadecimal, without leading zeros.
+#[tactic(auto, unfolding(crate::specs::FaultWords::hex_words))]
+pub fn push_hex(alloc: Global, out: &mut Vec<u8>, number: u64) -> Result<(), AllocError>
+    ensures { OnOk result (out.new.items ≡ out.old.items ++ spec.hex_words number) }
+{
+    let digits = format!(in alloc; "{number:x}")?;
+    out.extend_from_slice(b"0x")?;
+    out.extend_from_slice(digits.as_bytes())
+}
+
+/// Appends where registers end, and where their space does.
+#[tactic(auto, unfolding(crate::specs::FaultWords::ends_words))]
+fn push_ends(alloc: Global, out: &mut Vec<u8>, end: u64, space: u64) -> Result<(), AllocError>
+    ensures { OnOk result (out.new.items ≡ out.old.items ++ spec.ends_words end space) }
+{
+    out.extend_from_slice(b"the places end at ")?;
+    push_hex(alloc, out, end)?;
+    out.extend_from_slice(b", the space at ")?;
+    push_hex(alloc, out, space)
+}
+
+/// Appends which bit the bit range at this index ends at.
+#[tactic(auto, unfolding(crate::specs::FaultWords::end_words))]
+fn push_end_bit(
+    out: &mut Vec<u8>,
+    tokens: &[Tok<'_>],
+    index: usize,
+    end: u64,
+) -> Result<(), AllocError>
+    ensures { OnOk result (out.new.items
+        ≡ out.old.items ++ spec.end_words (views tokens.now) index end) }
+{
+    push_at(out, tokens, index)?;
+    push_count(out, b" ends at bit ", end)
+}
+
+/// Appends how many bits the register of the bit range at this index has.
+#[tactic(auto, unfolding(crate::specs::FaultWords::bits_words))]
+fn push_range_bits(
+    out: &mut Vec<u8>,
+    tokens: &[Tok<'_>],
+    index: usize,
+    bits: u64,
+) -> Result<(), AllocError>
+    ensures { OnOk result (out.new.items
+        ≡ out.old.items ++ spec.bits_words (views tokens.now) index bits) }
+{
+    out.extend_from_slice(b", and ")?;
+    push_after(out, tokens, index, 2)?;
+    push_count(out, b" has ", bits)
+}
+
+/// Appends what is wrong with the register of the bit range at this index.
+fn push_range_of(
+    out: &mut Vec<u8>,
+    tokens: &[Tok<'_>],
+    index: usize,
+    kind: Kind,
+) -> Result<(), AllocError>
+    ensures { OnOk result (out.new.items ≡ out.old.items
+        ++ (spec.words_after (views tokens.now) index 2 ++ spec.is_kind kind)) }
+{
+    push_after(out, tokens, index, 2)?;
+    push_kind(out, kind)
+}
+
+/// Appends what an argument at this index is.
+#[tactic(auto, unfolding(crate::specs::FaultWords::given_words))]
+fn push_given(
+    out: &mut Vec<u8>,
+    tokens: &[Tok<'_>],
+    index: usize,
+    is_name: bool,
+) -> Result<(), AllocError>
+    ensures { OnOk result (out.new.items
+        ≡ out.old.items ++ spec.given_words (views tokens.now) index is_name) }
+{
+    if is_name {
+        push_at(out, tokens, index)?;
+        out.extend_from_slice(b" is a number")
+    } else {
+        out.extend_from_slice(b"this is no name")
+    }
+}
+
+/// Appends that the macro that is called at an index, and whose name has the index `of`, assigns the
+/// parameter before which there are so many.
+#[tactic(auto, unfolding(crate::specs::FaultWords::assigned_words))]
+fn push_assigned(
+    out: &mut Vec<u8>,
+    tokens: &[Tok<'_>],
+    call: usize,
+    of: usize,
+    count: usize,
+) -> Result<(), AllocError>
+    ensures { OnOk result (out.new.items
+        ≡ out.old.items ++ spec.assigned_words (views tokens.now) call of count) }
+{
+    out.extend_from_slice(b", and ")?;
+    push_at(out, tokens, call)?;
+    out.extend_from_slice(b" assigns ")?;
+    push_name(out, parameter_name(tokens, of, count))
+}
+
 /// Appends how many members there are.
 #[tactic(auto, unfolding(crate::specs::FaultWords::members_words))]
 fn push_member_count(out: &mut Vec<u8>, members: usize) -> Result<(), AllocError>
@@ -375,6 +485,24 @@ fn push_words(
             push_at(out, tokens, index)?;
             out.extend_from_slice(b" names ")?;
             push_at(out, tokens, index)
+        }
+        Finding::DividesByZero => {
+            push_round(out, b"the constraint of ", tokens, index, b" divides by 0")
+        }
+        Finding::PlacesPast { end, space } => push_ends(alloc, out, end, space),
+        Finding::RangeOf(kind) => push_range_of(out, tokens, index, kind),
+        Finding::BitsPast { end, bits } => {
+            push_end_bit(out, tokens, index, end)?;
+            push_range_bits(out, tokens, index, bits)
+        }
+        Finding::Assigned {
+            is_name,
+            call,
+            of,
+            count,
+        } => {
+            push_given(out, tokens, index, is_name)?;
+            push_assigned(out, tokens, call, of, count)
         }
         Finding::LowAbove => {
             push_bit(out, b"the low bit ", tokens, index, 3)?;
@@ -579,6 +707,7 @@ fn push_advice_words(
         Finding::Is(kind) => push_kind_advice(alloc, out, tokens, rule, index, kind),
         Finding::NoOperand(kind) => push_operand_advice(out, tokens, rule, index, kind),
         Finding::Number => push_number_advice(out, tokens, rule, index),
+        Finding::IsBare => out.extend_from_slice(b"a constructor for each side"),
         Finding::LocalIs(_) => out.extend_from_slice(b"another name"),
         Finding::LocalIsParameter => out.extend_from_slice(b"another name"),
         Finding::LocalIsOperand => out.extend_from_slice(b"another name"),
@@ -633,6 +762,16 @@ fn name_sentence(finding: Finding) -> usize
     }
 }
 
+/// The sentence of rule 27.
+fn assigned_sentence(finding: Finding) -> usize
+    ensures { result ≡ spec.assigned_sentence finding }
+{
+    match finding {
+        Finding::Assigned { .. } => 1,
+        _ => 0,
+    }
+}
+
 /// The sentence of rule 30.
 fn export_sentence(finding: Finding) -> usize
     ensures { result ≡ spec.export_sentence finding }
@@ -668,6 +807,8 @@ pub fn sentence_of(tokens: &[Tok<'_>], rule: u8, culprit: Culprit) -> usize
 {
     if rule == 26 {
         name_sentence(culprit.finding)
+    } else if rule == 27 {
+        assigned_sentence(culprit.finding)
     } else if rule == 30 {
         export_sentence(culprit.finding)
     } else if rule == 31 {
