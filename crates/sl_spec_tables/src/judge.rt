@@ -1,12 +1,13 @@
 //! The first broken rule from 32 to 37.
 
-ghost use Rattle.std.specs.Prelude.{◌≡◌, ◌∷◌, [], IfOk, length};
-ghost use Rattle.sl_base_graphs.specs.Orders.{IsOrder};
+ghost use Rattle.std.specs.Prelude.{◌≡◌, ◌∷◌, [], ℕ, IfOk, get_or, length, min};
 ghost use Rattle.sl_spec.specs.Numbers.{AreNumbered};
 ghost use Rattle.sl_spec.specs.Unfolded.{all_placed};
 ghost use Rattle.sl_spec_tables.specs.BlockLengths.{AreMeasured, AreMeasuredGroups};
 ghost use Rattle.sl_spec_tables.specs.Rows as spec;
-ghost use Rattle.sl_spec_tables.specs.Rows.{graph, is_of};
+ghost use Rattle.sl_spec_tables.specs.Lengths.{table_amount};
+ghost use Rattle.sl_spec_tables.specs.Ordered.{IsOrdered};
+ghost use Rattle.sl_spec_tables.specs.Rows.{is_of};
 ghost use Rattle.sl_spec_tables.specs.TableRules.{amount_rules, broken_at, early_rules};
 ghost use Rattle.sl_spec_tables.specs.TableRules.{empty_place};
 ghost use Rattle.sl_spec_tables.specs.TableRules.{first_fault, first_place, has_few_nodes};
@@ -54,112 +55,102 @@ fn early_fault(t: &Tables, rows: &[Row]) -> Option<LateFault>
     }
 }
 
-/// Where rule 35 is broken, if it is. Where the least number of bytes of `instruction` isn't 0, no
-/// constructor is walked again.
-fn empty_place(
-    alloc: Global,
-    t: &Tables,
-    made: &ByBlock<Length>,
-    groups: &[Vec<Row>],
-    rows: &[Row],
-    order: &[usize],
-) -> Result<Option<Place>, AllocError>
-    requires groups { AreMeasuredGroups t.now made.now groups.now }
-    requires rows { AreMeasured t.now made.now rows.now }
-    requires order { IsOrder (graph (groups_of groups.now)) order.now }
-    requires grouped { groups_of groups.now ≡ spec.groups (length t.now.tables)
-        (rows_of rows.now) }
-    ensures { IfOk result (λ place. place
-        ≡ empty_place t.now (groups_of groups.now) (rows_of rows.now)) }
-{
-    let values = table_amounts(alloc, Quantity::Least, t, made, groups, order)?;
-    if known(values.as_slice(), 0) > 0 {
-        return Ok(None);
-    }
-    let place = first_empty(t, made, values.as_slice(), rows);
-    Ok(place)
+/// The constructors of a text with what is reckoned of them once.
+#[derive(Clone, Copy)]
+struct Ordered<'m, 'x, 's, 'a> {
+    t: &'m Tables<'a>,
+    /// The bytes of the patterns of blocks.
+    made: &'m ByBlock<Length<'a>>,
+    /// The constructors of each table.
+    groups: &'m [Vec<Row<'x, 's, 'a>>],
+    /// All constructors.
+    rows: &'m [Row<'x, 's, 'a>],
+    /// The tables, each after those that its constructors name.
+    order: &'m [usize],
 }
 
-/// Where rule 36 is broken, if it is.
-fn nodes_place(
-    alloc: Global,
-    t: &Tables,
-    made: &ByBlock<Length>,
-    groups: &[Vec<Row>],
-    rows: &[Row],
-    order: &[usize],
-) -> Result<Option<Place>, AllocError>
-    requires groups { AreMeasuredGroups t.now made.now groups.now }
-    requires order { IsOrder (graph (groups_of groups.now)) order.now }
-    ensures { IfOk result (λ place. place ≡ broken_at (has_few_nodes t.now (groups_of groups.now))
-        (first_place (is_of 0) (rows_of rows.now))) }
-{
-    let values = table_amounts(alloc, Quantity::Nodes, t, made, groups, order)?;
-    if known(values.as_slice(), 0) <= MOST_NODES {
-        return Ok(None);
+impl Ordered<'_, '_, '_, '_> {
+    /// Where rule 35 is broken, if it is. Where the least number of bytes of `instruction` isn't 0,
+    /// no constructor is walked again.
+    fn empty_place(&self, alloc: Global) -> Result<Option<Place>, AllocError>
+        requires { IsOrdered self.now }
+        ensures { IfOk result (λ place. place
+            ≡ empty_place self.now.t.now (groups_of self.now.groups.now)
+            (rows_of self.now.rows.now)) }
+    {
+        let values = self.amounts(alloc, Quantity::Least)?;
+        if known(values.as_slice(), 0) > 0 {
+            return Ok(None);
+        }
+        let place = first_empty(self.t, self.made, values.as_slice(), self.rows);
+        Ok(place)
     }
-    let place = first_of_instruction(rows);
-    Ok(place)
-}
 
-/// Where rule 37 is broken, if it is.
-fn bytes_place(
-    alloc: Global,
-    t: &Tables,
-    made: &ByBlock<Length>,
-    groups: &[Vec<Row>],
-    rows: &[Row],
-    order: &[usize],
-) -> Result<Option<Place>, AllocError>
-    requires groups { AreMeasuredGroups t.now made.now groups.now }
-    requires order { IsOrder (graph (groups_of groups.now)) order.now }
-    ensures { IfOk result (λ place. place ≡ broken_at (is_short t.now (groups_of groups.now))
-        (first_place (is_of 0) (rows_of rows.now))) }
-{
-    let values = table_amounts(alloc, Quantity::Greatest, t, made, groups, order)?;
-    if known(values.as_slice(), 0) <= MOST_BYTES {
-        return Ok(None);
+    /// Where rule 36 is broken, if it is.
+    fn nodes_place(&self, alloc: Global) -> Result<Option<Place>, AllocError>
+        requires { IsOrdered self.now }
+        ensures { IfOk result (λ place. place
+            ≡ broken_at (has_few_nodes self.now.t.now (groups_of self.now.groups.now))
+            (first_place (is_of 0) (rows_of self.now.rows.now))) }
+    {
+        let values = self.amounts(alloc, Quantity::Nodes)?;
+        if known(values.as_slice(), 0) <= MOST_NODES {
+            return Ok(None);
+        }
+        let place = first_of_instruction(self.rows);
+        Ok(place)
     }
-    let place = first_of_instruction(rows);
-    Ok(place)
-}
 
-/// The first broken one of rules 35 to 37, where no table reaches itself.
-fn amount_fault(
-    alloc: Global,
-    t: &Tables,
-    made: &ByBlock<Length>,
-    groups: &[Vec<Row>],
-    rows: &[Row],
-    order: &[usize],
-) -> Result<Option<LateFault>, AllocError>
-    requires groups { AreMeasuredGroups t.now made.now groups.now }
-    requires rows { AreMeasured t.now made.now rows.now }
-    requires order { IsOrder (graph (groups_of groups.now)) order.now }
-    requires grouped { groups_of groups.now ≡ spec.groups (length t.now.tables)
-        (rows_of rows.now) }
-    ensures { IfOk result (λ fault. fault
-        ≡ first_fault (amount_rules t.now (groups_of groups.now) (rows_of rows.now))) }
-{
-    if let Some(place) = empty_place(alloc, t, made, groups, rows, order)? {
-        return Ok(Some(LateFault { rule: 35, place }));
+    /// Where rule 37 is broken, if it is.
+    fn bytes_place(&self, alloc: Global) -> Result<Option<Place>, AllocError>
+        requires { IsOrdered self.now }
+        ensures { IfOk result (λ place. place
+            ≡ broken_at (is_short self.now.t.now (groups_of self.now.groups.now))
+            (first_place (is_of 0) (rows_of self.now.rows.now))) }
+    {
+        let values = self.amounts(alloc, Quantity::Greatest)?;
+        if known(values.as_slice(), 0) <= MOST_BYTES {
+            return Ok(None);
+        }
+        let place = first_of_instruction(self.rows);
+        Ok(place)
     }
-    if let Some(place) = nodes_place(alloc, t, made, groups, rows, order)? {
-        return Ok(Some(LateFault { rule: 36, place }));
+
+    /// What is reckoned of each table.
+    fn amounts(&self, alloc: Global, quantity: Quantity) -> Result<Vec<usize>, AllocError>
+        requires { IsOrdered self.now }
+        ensures { IfOk result (λ values. (v : ℕ) → get_or values.items v 0
+            ≡ min (table_amount quantity self.now.t.now (groups_of self.now.groups.now) v) 1025) }
+    {
+        table_amounts(alloc, quantity, self.t, self.made, self.groups, self.order)
     }
-    if let Some(place) = bytes_place(alloc, t, made, groups, rows, order)? {
-        return Ok(Some(LateFault { rule: 37, place }));
+
+    /// The first broken one of rules 35 to 37.
+    fn amount_fault(&self, alloc: Global) -> Result<Option<LateFault>, AllocError>
+        requires { IsOrdered self.now }
+        ensures { IfOk result (λ fault. fault ≡ first_fault (amount_rules self.now.t.now
+            (groups_of self.now.groups.now) (rows_of self.now.rows.now))) }
+    {
+        if let Some(place) = self.empty_place(alloc)? {
+            return Ok(Some(LateFault { rule: 35, place }));
+        }
+        if let Some(place) = self.nodes_place(alloc)? {
+            return Ok(Some(LateFault { rule: 36, place }));
+        }
+        if let Some(place) = self.bytes_place(alloc)? {
+            return Ok(Some(LateFault { rule: 37, place }));
+        }
+        Ok(None)
     }
-    Ok(None)
 }
 
 /// The first broken one of rules 34 to 37.
-fn reaching_fault(
+fn reaching_fault<'m, 'x, 's, 'a>(
     alloc: Global,
-    t: &Tables,
-    made: &ByBlock<Length>,
-    groups: &[Vec<Row>],
-    rows: &[Row],
+    t: &'m Tables<'a>,
+    made: &'m ByBlock<Length<'a>>,
+    groups: &'m [Vec<Row<'x, 's, 'a>>],
+    rows: &'m [Row<'x, 's, 'a>],
 ) -> Result<Option<LateFault>, AllocError>
     requires groups { AreMeasuredGroups t.now made.now groups.now }
     requires rows { AreMeasured t.now made.now rows.now }
@@ -173,7 +164,14 @@ fn reaching_fault(
     if let Some(place) = first_reaching(levels.reaching.as_slice(), rows) {
         return Ok(Some(LateFault { rule: 34, place }));
     }
-    let fault = amount_fault(alloc, t, made, groups, rows, levels.order.as_slice())?;
+    let ordered = Ordered {
+        t,
+        made,
+        groups,
+        rows,
+        order: levels.order.as_slice(),
+    };
+    let fault = ordered.amount_fault(alloc)?;
     Ok(fault)
 }
 
