@@ -1,5 +1,5 @@
 -- All that more is said of a refusal is lines.
-use Rattle.std.proofs.Common.{◌≡◌, ℕ, ◌-◌, Bool, true, List, [], ◌∷◌, ◌++◌, Option, Some, None, length, min, refl}
+use Rattle.std.proofs.Common.{◌≡◌, ℕ, ◌-◌, Bool, true, false, List, [], ◌∷◌, ◌++◌, Option, Some, None, length, min, refl}
 use Rattle.std.specs.Prelude.{◌==◌, ◌&&◌, codes, if◌then◌else◌, slice_get, slice_index_or}
 use Rattle.std.specs.List.{list_all}
 use Rattle.std.proofs.lemmas.Bool.{and_parts}
@@ -12,7 +12,7 @@ use Rattle.sl_bind_compile.specs.declared.error.Flaw.TheVariants as flaw
 use Rattle.sl_cube.specs.declared.Point.{Point}
 use Rattle.sl_cube_sets.specs.declared.report.Apart.{Apart}
 use Rattle.sl_cube_sets.specs.declared.report.Apart.TheVariants.{Same, Two}
-use Rattle.sl_explain.specs.Facts.{alone_faults, alone_words, ambiguity_facts, apart_advice, apart_fault, bad_byte, both_items, byte_asked, byte_facts, call_advice, culprit_facts, end_of, end_spot, export_facts, export_lines, exported_facts, fault, flaw_facts, flawed_facts, form_asked, form_fault, is_double_relation, is_empty_call, is_export_of_number, is_of_pattern, is_quoted, is_word, item_facts, item_lines, keyword_note, line_of_token, nesting_asked, nesting_fault, part_facts, part_lines, part_of, pattern_facts, point_fault, point_faults, points_facts, rule_facts, settled_asked, settling_facts, spot_at, syntax_advice, syntax_asked, syntax_fault, syntax_words, token_facts, token_of, token_spot, wanted_exports, wanted_lines, wanted_parts, word_facts, word_lines, words_at}
+use Rattle.sl_explain.specs.Facts.{alone_faults, alone_words, ambiguity_facts, apart_advice, apart_fault, bad_byte, both_items, byte_asked, byte_facts, call_advice, culprit_facts, end_of, end_spot, export_facts, export_lines, exported_facts, fault, flaw_facts, flawed_facts, form_asked, form_fault, is_double_relation, is_empty_call, is_export_of_number, is_of_pattern, is_quoted, is_word, item_facts, item_lines, keyword_note, line_of_token, nesting_asked, nesting_fault, part_facts, part_lines, part_of, pattern_facts, point_fault, point_faults, points_facts, rule_facts, settled_asked, settling_facts, size_facts, size_lines, sized_facts, sized_part, spot_at, syntax_advice, syntax_asked, syntax_fault, syntax_words, token_facts, token_of, token_spot, wanted_exports, wanted_lines, wanted_parts, wanted_sizes, word_facts, word_lines, words_at}
 use Rattle.sl_explain.specs.Laws.{FactsAreLines}
 use Rattle.sl_explain.specs.Sentences.{advice, asked, cause_words, feature_advice, flaw_advice, flaw_asked, line_of, lines_of, rule_line, rule_lines, rule_rows}
 use Rattle.sl_explain_exports.proofs.LineLemmas.{culprits as exported_culprits}
@@ -37,6 +37,9 @@ use Rattle.sl_explain_patterns.specs.declared.findings.Culprit as parts
 use Rattle.sl_explain_points.specs.FieldsAtPoints.{fields_words}
 use Rattle.sl_explain_points.specs.Sites.{sites_of_both}
 use Rattle.sl_explain_points.specs.declared.sites.Site.{Site}
+use Rattle.sl_explain_sizes.proofs.LineLemmas.{sizes as told_sizes}
+use Rattle.sl_explain_sizes.specs.FaultWords as sizes
+use Rattle.sl_explain_sizes.specs.declared.faults.Culprit as sized
 use Rattle.sl_lex.specs.Faults.{Fault}
 use Rattle.sl_lex.specs.Faults.Fault.{NoLexeme, OpenQuote, TooWide}
 use Rattle.sl_lex.specs.Reading.{Token}
@@ -287,10 +290,31 @@ unfolding pattern_facts
 of_patterns t ts f index None = of_flaws ts f (Some index)
 of_patterns t ts f index (Some c) = of_parts t ts f index c
 
+size_is : (t : Text) (ts : List Token) (index : ℕ) (c : sized.Culprit) → AreLines (size_lines t ts index c)
+unfolding size_lines
+size_is t ts index c =
+    lines_both (spot_at t c.extent.byte c.extent.width) (item_lines ts false (Some index)) (spot_is t c.extent.byte c.extent.width)
+    (item_is ts false (Some index))
+
+wanted_sizes_are : (t : Text) (ts : List Token) (f : Flaw) (c : sized.Culprit) → AreLines (wanted_sizes t f c)
+unfolding wanted_sizes
+wanted_sizes_are t ts f c = lines_both (flaw_asked f) (sizes.advice_line t c) (asked_of_flaw f) (told_sizes t ts c).1
+
+of_sizes : (t : Text) (ts : List Token) (f : Flaw) (index : ℕ) (c : sized.Culprit) → AreLines (size_facts t ts f index c)
+unfolding size_facts
+of_sizes t ts f index c =
+    lines_both (size_lines t ts index c) (sizes.fault_line t ts c ++ wanted_sizes t f c) (size_is t ts index c)
+    (lines_both (sizes.fault_line t ts c) (wanted_sizes t f c) (told_sizes t ts c).0 (wanted_sizes_are t ts f c))
+
+of_sized : (t : Text) (ts : List Token) (f : Flaw) (index : ℕ) (c : Option sized.Culprit) → AreLines (sized_facts t ts f index c)
+unfolding sized_facts
+of_sized t ts f index None = of_patterns t ts f index (part_of ts f index)
+of_sized t ts f index (Some c) = of_sizes t ts f index c
+
 of_flawed : (t : Text) (ts : List Token) (f : Flaw) (index : Option ℕ) → AreLines (flawed_facts t ts f index)
 unfolding flawed_facts
 of_flawed t ts f None = of_flaws ts f None
-of_flawed t ts f (Some index) = of_patterns t ts f index (part_of ts f index)
+of_flawed t ts f (Some index) = of_sized t ts f index (sized_part ts f index)
 
 of_items : (t : Text) (ts : List Token) (f : Flaw) (index : Option ℕ) → AreLines (item_facts t ts f index)
 unfolding item_facts

@@ -28,6 +28,9 @@ use Rattle.sl_explain_patterns.specs.declared.findings.Culprit as parts
 use Rattle.sl_explain_points.specs.FieldsAtPoints.{fields_words}
 use Rattle.sl_explain_points.specs.Sites.{sites_of_both}
 use Rattle.sl_explain_points.specs.declared.sites.Site.{Site}
+use Rattle.sl_explain_sizes.specs.FaultWords as sizes
+use Rattle.sl_explain_sizes.specs.Sections.{clash_culprit, unfixed_culprit}
+use Rattle.sl_explain_sizes.specs.declared.faults.Culprit as sized
 use Rattle.sl_lex.specs.Faults.{Fault}
 use Rattle.sl_lex.specs.Faults.Fault.{NoLexeme, OpenQuote, TooWide}
 use Rattle.sl_lex.specs.Reading.{Token}
@@ -285,10 +288,39 @@ unfoldable pub pattern_facts : expanded.Text → List Token → Flaw → (index 
 pattern_facts t ts flaw index None = flaw_facts ts flaw (Some index)
 pattern_facts t ts flaw index (Some c) = part_facts t ts flaw index c
 
--- A flaw that is no broken rule is told with the part of the pattern that has it, where one can be told.
+-- ---- sizes
+
+-- The part of the section of the item whose first token has this index whose sizes have this flaw, where one can be told.
+unfoldable pub sized_part : List Token → Flaw → (index : ℕ) → Option sized.Culprit
+sized_part ts flaw.SizeClash index = clash_culprit ts index
+sized_part ts flaw.SizeUnfixed index = unfixed_culprit ts index
+sized_part ts (flaw.Rule number) index = None
+sized_part ts flaw.Impossible index = None
+sized_part ts flaw.TokensDiffer index = None
+sized_part ts flaw.InteriorEllipsis index = None
+sized_part ts (flaw.TooManyCubes count) index = None
+sized_part ts (flaw.WindowTooLong count) index = None
+
+-- where the part is, and in which item
+unfoldable pub size_lines : expanded.Text → List Token → (index : ℕ) → sized.Culprit → List ℕ
+size_lines t ts index c = spot_at t c.extent.byte c.extent.width ++ item_lines ts false (Some index)
+
+-- what is asked of sizes, and what to write instead
+unfoldable pub wanted_sizes : expanded.Text → Flaw → sized.Culprit → List ℕ
+wanted_sizes t flaw c = flaw_asked flaw ++ sizes.advice_line t c
+
+-- What is said of it.
+unfoldable pub size_facts : expanded.Text → List Token → Flaw → (index : ℕ) → sized.Culprit → List ℕ
+size_facts t ts flaw index c = size_lines t ts index c ++ (sizes.fault_line t ts c ++ wanted_sizes t flaw c)
+
+unfoldable pub sized_facts : expanded.Text → List Token → Flaw → (index : ℕ) → Option sized.Culprit → List ℕ
+sized_facts t ts flaw index None = pattern_facts t ts flaw index (part_of ts flaw index)
+sized_facts t ts flaw index (Some c) = size_facts t ts flaw index c
+
+-- A flaw that is no broken rule is told with the part of the section or of the pattern that has it, where one can be told.
 unfoldable pub flawed_facts : expanded.Text → List Token → Flaw → Option ℕ → List ℕ
 flawed_facts t ts flaw None = flaw_facts ts flaw None
-flawed_facts t ts flaw (Some index) = pattern_facts t ts flaw index (part_of ts flaw index)
+flawed_facts t ts flaw (Some index) = sized_facts t ts flaw index (sized_part ts flaw index)
 
 unfoldable pub item_facts : expanded.Text → List Token → Flaw → Option ℕ → List ℕ
 item_facts t ts (flaw.Rule number) index = rule_facts t ts number index

@@ -13,10 +13,10 @@ ghost use Rattle.sl_lex.specs.Views.{view, views};
 ghost use Rattle.sl_preproc.specs.Expanded.{seen};
 ghost use Rattle.sl_preproc.specs.Works.{names_of};
 
-use crate::parts::push_flawed_facts;
 use crate::sentences::{
     push_advice_on_flaw, push_asked, push_asked_of_cause, push_asked_of_flaw, push_sentence,
 };
+use crate::sizes::push_flawed_facts;
 use crate::syntax::token_at;
 use sl_bind_compile::Flaw;
 use sl_explain_exports::find_export_culprit;

@@ -7,6 +7,7 @@ mod facts;
 mod laws;
 mod parts;
 mod sentences;
+mod sizes;
 mod syntax;
 mod tables;
 

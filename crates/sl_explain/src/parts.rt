@@ -1,7 +1,7 @@
 //! What more is said of a pattern that is refused.
 
 ghost use Rattle.std.specs.Prelude.{◌≡◌, ◌++◌, IfOk, OnOk};
-ghost use Rattle.sl_explain.specs.Facts.{flawed_facts, part_facts, part_lines, part_of, pattern_facts};
+ghost use Rattle.sl_explain.specs.Facts.{part_facts, part_lines, part_of, pattern_facts};
 ghost use Rattle.sl_explain.specs.Facts.{wanted_parts};
 ghost use Rattle.sl_lex.specs.Views.{views};
 ghost use Rattle.sl_preproc.specs.Expanded.{seen};
@@ -18,7 +18,7 @@ use std::alloc::{AllocError, Global};
 /// The part that has this flaw of the pattern of the item whose first token has this index. `None`
 /// where none can be told.
 #[tactic(auto, unfolding(crate::specs::Facts::part_of))]
-fn part_of(
+pub fn part_of(
     alloc: Global,
     tokens: &[Tok<'_>],
     flaw: Flaw,
@@ -81,7 +81,7 @@ fn push_part_facts(
 /// Appends what is said of a flaw of the item with this first token, with the part that has it, where
 /// there is one.
 #[tactic(auto, unfolding(crate::specs::Facts::pattern_facts))]
-fn push_pattern_facts(
+pub fn push_pattern_facts(
     alloc: Global,
     out: &mut Vec<u8>,
     text: &Expanded,
@@ -96,28 +96,5 @@ fn push_pattern_facts(
     match culprit {
         Some(culprit) => push_part_facts(alloc, out, text, tokens, flaw, index, culprit),
         None => push_flaw_facts(alloc, out, tokens, flaw, Some(index)),
-    }
-}
-
-/// Appends what is said of a flaw that is no broken rule, of the item with this first token, or of
-/// none.
-#[tactic(auto, unfolding(crate::specs::Facts::flawed_facts))]
-pub fn push_flawed_facts(
-    alloc: Global,
-    out: &mut Vec<u8>,
-    text: &Expanded,
-    tokens: &[Tok<'_>],
-    flaw: Flaw,
-    index: Option<usize>,
-) -> Result<(), AllocError>
-    ensures { OnOk result (out.new.items ≡ out.old.items
-        ++ flawed_facts (seen text.now) (views tokens.now) flaw index) }
-{
-    match index {
-        Some(index) => {
-            let culprit = part_of(alloc, tokens, flaw, index)?;
-            push_pattern_facts(alloc, out, text, tokens, flaw, index, culprit)
-        }
-        None => push_flaw_facts(alloc, out, tokens, flaw, None),
     }
 }

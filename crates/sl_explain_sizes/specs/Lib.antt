@@ -1,0 +1,9 @@
+pub mod Slices
+pub mod Operators
+pub mod Widths
+pub mod ScopeView
+pub mod Values
+pub mod Faults
+pub mod Sections
+pub mod FaultWords
+pub mod Laws
