@@ -10,9 +10,7 @@ use Rattle.sl_explain_sizes.specs.Sections.{call_in, called_by, section_by, too_
 use Rattle.sl_explain_sizes.specs.Slices.{beyond}
 use Rattle.sl_explain_sizes.specs.Values.{combined, inside, single, value_by, value_in, value_of, value_with}
 use Rattle.sl_explain_sizes.specs.Widths.{Scope}
-use Rattle.sl_explain_sizes.specs.declared.faults.Culprit.{Culprit}
 use Rattle.sl_explain_sizes.specs.declared.faults.Wanted.{Wanted}
-use Rattle.sl_explain_sizes.specs.declared.values.Value.{Value}
 use Rattle.sl_explain_sizes.specs.declared.widths.Width.TheVariants.{Untold}
 use Rattle.sl_lex.specs.Reading.{Token}
 use Rattle.sl_lex.specs.Views.{view, views}

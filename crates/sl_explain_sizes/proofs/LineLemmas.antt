@@ -1,5 +1,5 @@
 -- What is said of the sizes of a part has no control byte.
-use Rattle.std.proofs.Common.{ℕ, ◌+◌, Bool, true, false, List, [], ◌++◌, Option, Some, None, length, min, take, drop, refl}
+use Rattle.std.proofs.Common.{ℕ, ◌+◌, Bool, List, [], ◌++◌, Option, Some, None, length, min, take, drop, refl}
 use Rattle.std.specs.Prelude.{◌&&◌, codes, if◌then◌else◌, nat_lt, slice_index_or}
 use Rattle.std.specs.Fmt.{decimal}
 use Rattle.sl_explain_heads.specs.Words.{text_at}

@@ -1,14 +1,13 @@
 -- meaning: the first part of an expression or of a statement whose sizes are at fault, as far as its tokens tell them.
 use Rattle.std.specs.Prelude.{ℕ, zero, suc, ◌-◌, ◌==◌, ◌&&◌, ◌||◌, List, [], ◌∷◌, codes, drop, length, nat_lt, take}
 use Rattle.std.specs.Prelude.{Bool, true, false, not, Option, Some, None, if◌then◌else◌, slice_get}
-use Rattle.std.specs.Str.{bytes_eq}
 use Rattle.sl_explain_heads.specs.Words.{text_at}
 use Rattle.sl_explain_names.specs.Names.{steps_to}
 use Rattle.sl_explain_names.specs.TokenKinds.{has_after, has_here, has_kind, is_integer, number_after}
-use Rattle.sl_explain_sizes.specs.Operators.{class_of, main_of, star_length}
-use Rattle.sl_explain_sizes.specs.Slices.{beyond, extent_of, in_bracket, up_to}
+use Rattle.sl_explain_sizes.specs.Operators.{class_of, main_of}
+use Rattle.sl_explain_sizes.specs.Slices.{beyond, extent_of, up_to}
 use Rattle.sl_explain_sizes.specs.Values.{gives_any, inside, is_call, is_carry, is_function, is_group, is_minus, is_not, is_star}
-use Rattle.sl_explain_sizes.specs.Values.{loaded_width, most_depth, name_value, primary_value, suffix_of, value_of}
+use Rattle.sl_explain_sizes.specs.Values.{loaded_width, most_depth, primary_value, suffix_of, value_of}
 use Rattle.sl_explain_sizes.specs.Widths.{Scope, bit_bytes, named, star_size, told}
 use Rattle.sl_explain_sizes.specs.declared.faults.Culprit.{Culprit}
 use Rattle.sl_explain_sizes.specs.declared.faults.Finding.{Finding}

@@ -1,6 +1,6 @@
 -- meaning: what the tokens of an expression say of the size of its value.
-use Rattle.std.specs.Prelude.{ℕ, zero, suc, ◌+◌, ◌-◌, ◌==◌, ◌&&◌, ◌||◌, List, [], ◌∷◌, codes, drop, length, nat_lt, take}
-use Rattle.std.specs.Prelude.{Bool, true, false, Option, Some, None, if◌then◌else◌, slice_get}
+use Rattle.std.specs.Prelude.{ℕ, zero, suc, ◌-◌, ◌==◌, ◌&&◌, ◌||◌, List, [], ◌∷◌, codes, drop, length, nat_lt, take}
+use Rattle.std.specs.Prelude.{Bool, false, Option, Some, None, if◌then◌else◌, slice_get}
 use Rattle.std.specs.Str.{bytes_eq}
 use Rattle.sl_explain_heads.specs.Words.{text_at}
 use Rattle.sl_explain_names.specs.Items.{is_operation, is_parameter, kind_of}
