@@ -9,11 +9,10 @@ ghost use Rattle.sl_build_template.specs.declared.piece.Piece.TheVariants as var
 
 use crate::bits::operand_bits;
 use crate::extract::extract;
-use crate::given::{given_into, given_read};
 use crate::insert::{Bits, Put, insert};
 use crate::operations::Operations;
 use crate::site::Site;
-use crate::slots::{operand_put, operand_stored, value};
+use crate::slots::{operand_put, operand_stored, slot_into, slot_read, value};
 use sl_build_template::{Insert, NewBits, Piece, Slot, amount};
 use sl_word::UserId;
 use std::alloc::AllocError;
@@ -78,10 +77,10 @@ fn piece(site: &Site<'_>, out: &mut Operations, a: &Piece) -> Result<(), AllocEr
         ++ p.piece_code site.now.top (setting_of site.now) (frame_of site.now) (piece_of a.now)) }
 {
     match a {
-        Piece::Read(a, t, n) => given_read(site, out, *t, *a, *n),
-        Piece::Into(a, t, to) => {
+        Piece::Read(v) => slot_read(site, out, *v),
+        Piece::Into(v, to) => {
             let to = value(site, *to)?;
-            given_into(site, out, *t, *a, to)
+            slot_into(site, out, *v, to)
         }
         Piece::Unary(op, to, a) => {
             let to = value(site, *to)?;

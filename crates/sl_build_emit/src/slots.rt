@@ -2,6 +2,7 @@
 
 ghost use Rattle.std.specs.Prelude.{◌≡◌, ◌++◌, IfOk, OnOk};
 ghost use Rattle.sl_build_emit.specs.Views.{frame_of, reference_of, references_of, setting_of};
+ghost use Rattle.sl_faithful_code.specs.Terms as term;
 ghost use Rattle.sl_meaning_sections.specs.Values.{reference_at};
 ghost use Rattle.sl_build_template.specs.Placed as p;
 
@@ -12,10 +13,10 @@ use crate::reading::operand;
 use crate::reference::Reference;
 use crate::site::Site;
 use crate::targets::given_address;
-use crate::varnodes::{at_temp, local, range, temporary};
-use sl_build_template::{Slot, in_space, slot_size};
+use crate::varnodes::{at_temp, local, narrow, range, temporary};
+use sl_build_template::{Slot, Whole, amount, in_space, slot_size};
 use sl_pcode::Varnode;
-use sl_word::{Op1, Size};
+use sl_word::{Op1, Op2, Size};
 use std::alloc::AllocError;
 
 /// Where a value of `n` bytes for a reference is put: there, where that is a varnode.
@@ -41,6 +42,54 @@ fn written(site: &Site<'_>, i: u32, n: Size) -> Varnode
     }
 }
 
+/// The varnode that a name stands for.
+fn whole_leaf(site: &Site<'_>, whole: Whole) -> Option<Varnode>
+    ensures { result ≡ p.whole_leaf site.now.top (setting_of site.now) (frame_of site.now) whole }
+{
+    match whole {
+        Whole::Fixed(v) => Some(v),
+        Whole::Local(x, n) => Some(local(site.node, x, n)),
+        Whole::Given(a, n) => given_leaf(site, a, n),
+    }
+}
+
+/// Its lowest bytes.
+fn view(site: &Site<'_>, whole: Whole, n: Size) -> Result<Option<Varnode>, AllocError>
+    ensures { IfOk result (λ leaf. leaf ≡ term.view (setting_of site.now)
+        (p.whole_leaf site.now.top (setting_of site.now) (frame_of site.now) whole) n) }
+{
+    match whole_leaf(site, whole) {
+        Some(v) => {
+            let low = narrow(site, v, n)?;
+            Ok(Some(low))
+        }
+        None => Ok(None),
+    }
+}
+
+/// What is given and isn't a varnode is put into a temporary value, and its lowest bytes into a
+/// varnode.
+fn cut_into(
+    site: &Site<'_>,
+    out: &mut Operations,
+    t: u32,
+    whole: Whole,
+    to: Varnode,
+) -> Result<(), AllocError>
+    ensures { OnOk result (out.new ≡ out.old
+        ++ p.cut_into site.now.top (setting_of site.now) (frame_of site.now) t whole to) }
+{
+    match whole {
+        Whole::Fixed(_) => Ok(()),
+        Whole::Local(_, _) => Ok(()),
+        Whole::Given(a, n) => {
+            let tmp = at_temp(site, t, n);
+            given_into(site, out, t, a, tmp)?;
+            out.binary(Op2::Subpiece, to, tmp, amount(0))
+        }
+    }
+}
+
 /// The varnode of a slot.
 pub(crate) fn value(site: &Site<'_>, v: Slot) -> Result<Varnode, AllocError>
     ensures { IfOk result (λ w. w
@@ -51,6 +100,10 @@ pub(crate) fn value(site: &Site<'_>, v: Slot) -> Result<Varnode, AllocError>
         Slot::Local(x, n) => Ok(local(site.node, x, n)),
         Slot::Temporary(t, n) => Ok(at_temp(site, t, n)),
         Slot::Given(a, t, n) => Ok(operand(given_leaf(site, a, n), at_temp(site, t, n))),
+        Slot::View(t, whole, n) => {
+            let leaf = view(site, whole, n)?;
+            Ok(operand(leaf, at_temp(site, t, n)))
+        }
         Slot::Written(i, n) => Ok(written(site, i, n)),
         Slot::Target(a, n) => {
             let address = given_address(site, a)?;
@@ -60,12 +113,16 @@ pub(crate) fn value(site: &Site<'_>, v: Slot) -> Result<Varnode, AllocError>
 }
 
 /// A value is made ready to be read.
-fn slot_read(site: &Site<'_>, out: &mut Operations, v: Slot) -> Result<(), AllocError>
+pub(crate) fn slot_read(site: &Site<'_>, out: &mut Operations, v: Slot) -> Result<(), AllocError>
     ensures { OnOk result (out.new ≡ out.old
         ++ p.before site.now.top (setting_of site.now) (frame_of site.now) v) }
 {
     match v {
         Slot::Given(a, t, n) => given_read(site, out, t, a, n),
+        Slot::View(t, whole, n) => match view(site, whole, n)? {
+            Some(_) => Ok(()),
+            None => cut_into(site, out, t, whole, at_temp(site, t, n)),
+        },
         Slot::Fixed(_) => Ok(()),
         Slot::Local(_, _) => Ok(()),
         Slot::Temporary(_, _) => Ok(()),
@@ -75,12 +132,21 @@ fn slot_read(site: &Site<'_>, out: &mut Operations, v: Slot) -> Result<(), Alloc
 }
 
 /// A value is put into a varnode.
-fn slot_into(site: &Site<'_>, out: &mut Operations, v: Slot, to: Varnode) -> Result<(), AllocError>
+pub(crate) fn slot_into(
+    site: &Site<'_>,
+    out: &mut Operations,
+    v: Slot,
+    to: Varnode,
+) -> Result<(), AllocError>
     ensures { OnOk result (out.new ≡ out.old
         ++ p.into site.now.top (setting_of site.now) (frame_of site.now) v to) }
 {
     match v {
         Slot::Given(a, t, _) => given_into(site, out, t, a, to),
+        Slot::View(t, whole, n) => match view(site, whole, n)? {
+            Some(leaf) => out.unary(Op1::Copy, to, leaf),
+            None => cut_into(site, out, t, whole, to),
+        },
         Slot::Fixed(v) => out.unary(Op1::Copy, to, v),
         Slot::Local(x, n) => {
             let from = local(site.node, x, n);

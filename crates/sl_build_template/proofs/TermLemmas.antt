@@ -5,7 +5,7 @@ use Rattle.sl_faithful_code.specs.Bits.{bits_into}
 use Rattle.sl_faithful_code.specs.Operations as o
 use Rattle.sl_faithful_code.specs.Operations.{Operation, amount, at_temp, constant, in_space, range_of, temporary}
 use Rattle.sl_faithful_code.specs.Terms as term
-use Rattle.sl_faithful_code.specs.Terms.{code_before, operand, read_leaf, term_into, term_leaf, term_operand, terms_before, terms_operands}
+use Rattle.sl_faithful_code.specs.Terms.{code_before, copied, name_leaf, operand, read_leaf, term_into, term_leaf, term_operand, terms_before, terms_operands, view}
 use Rattle.sl_meaning_sections.specs.References.{Reference, Setting, local, memory, number, storage}
 use Rattle.sl_meaning_sections.specs.Values.{Frame, reference_at, space_of}
 use Rattle.sl_pcode.specs.declared.varnode.Varnode.{Varnode}
@@ -15,9 +15,11 @@ use Rattle.sl_section_flat.specs.declared.term.Order.{Order}
 use Rattle.sl_section_flat.specs.declared.term.Order.TheVariants.{AsWritten, Exchanged}
 use Rattle.sl_build_template.specs.Pieces as p
 use Rattle.sl_build_template.specs.Pieces.{Form, Piece, slot_size}
-use Rattle.sl_build_template.specs.Placed.{before, given, into, piece_code, pieces_code, read_value, value, values, written}
+use Rattle.sl_build_template.specs.Placed.{before, cut_into, given, into, piece_code, pieces_code, read_value, value, values, whole_leaf, written}
 use Rattle.sl_build_template.specs.declared.slot.Slot.{Slot}
 use Rattle.sl_build_template.specs.declared.slot.Slot.TheVariants as slot
+use Rattle.sl_build_template.specs.declared.slot.Whole.{Whole}
+use Rattle.sl_build_template.specs.declared.slot.Whole.TheVariants as whole
 use Rattle.sl_word.specs.Numbers.{residue}
 use Rattle.sl_word.specs.declared.operation.Op1.TheVariants.{Copy}
 use Rattle.sl_word.specs.declared.operation.Op2.{Op2}
@@ -46,11 +48,16 @@ module _ (top : ℕ) where
   written_size (memory space size pointer width) n = refl
 
   module _ (g : Setting) (f : Frame) where
+    view_size : (leaf : Option Varnode) (t : ℕ) (n : Size) → (operand (view g leaf n) (at_temp top t n)).size ≡ n
+    view_size None t n = refl
+    view_size (Some v) t n = refl
+
     pub value_size : (v : Slot) → (value top g f v).size ≡ slot_size v
     value_size (slot.Fixed v) = refl
     value_size (slot.Local x n) = refl
     value_size (slot.Temporary t n) = refl
     value_size (slot.Given a t n) = read_size (given top g f a) t n
+    value_size (slot.View t w n) = view_size (whole_leaf top g f w) t n
     value_size (slot.Written i n) = written_size (reference_at f.refs i) n
     value_size (slot.Target a n) = refl
 
@@ -95,12 +102,89 @@ module _ (top : ℕ) where
     paren_opens t e x None h = h
     paren_opens t e x (Some v) h = record { size = h.size; reads = h.reads; has = h.has; puts = h.puts }
 
+    -- ---- the lowest bytes of what a name stands for
+
+    -- the operations that take them from a temporary value
+    abbrev cut : (t : ℕ) → Term → (out : Varnode) → List Operation
+    cut t e out = term.term_before top g f t e ++ o.binary Subpiece out (term_operand top g f t e) (amount 0) ∷ []
+
+    -- A name in an expression stands for it.
+    record IsWholeOf (t : ℕ) (e : Term) (w : Whole) : Type 0 where
+      leaf : name_leaf g f e ≡ whole_leaf top g f w
+      cuts : (n : Size) (out : Varnode) → copied (view g (whole_leaf top g f w) n) out (cut t e out) ≡ copied (view g (whole_leaf top g f w) n) out (cut_into top g f t w out)
+
+    abbrev Stands : ℕ → Term → Option Whole → Type 0
+    Stands t e None = name_leaf g f e ≡ None
+    Stands t e (Some w) = IsWholeOf t e w
+
+    given_cuts : (leaf : Option Varnode) (n : Size) (out tmp : Varnode) (code : List Operation)
+        → copied (view g leaf n) out (code_before leaf code ++ o.binary Subpiece out (operand leaf tmp) (amount 0) ∷ []) ≡ copied (view g leaf n) out (code ++ o.binary Subpiece out tmp (amount 0) ∷ [])
+    given_cuts None n out tmp code = refl
+    given_cuts (Some v) n out tmp code = refl
+
+    abbrev given_stands : Reference → (t : ℕ) → (k n : Size) → (out : Varnode) → Type 0
+    given_stands r t k n out =
+        copied (view g (read_leaf r k) n) out (code_before (read_leaf r k) (term.read_into top t r (at_temp top t k)) ++ o.binary Subpiece out (operand (read_leaf r k) (at_temp top t k)) (amount 0) ∷ [])
+        ≡ copied (view g (read_leaf r k) n) out (term.read_into top t r (at_temp top t k) ++ o.binary Subpiece out (at_temp top t k) (amount 0) ∷ [])
+
+    given_is : (r : Reference) (t : ℕ) (k n : Size) (out : Varnode) → given_stands r t k n out
+    given_is r t k n out = given_cuts (read_leaf r k) n out (at_temp top t k) (term.read_into top t r (at_temp top t k))
+
+    name_stands : (t : ℕ) (a : Symbol) (x : ℕ) → Stands t (s.name a x) (p.symbol_whole a (f.size x))
+    name_stands t (s.register space offset k) x = record { leaf = refl; cuts = λ n out. refl }
+    name_stands t (s.bit_range space offset k low count) x = refl
+    name_stands t (s.local y) x = record { leaf = refl; cuts = λ n out. refl }
+    name_stands t (s.table i) x = record { leaf = refl; cuts = given_is (reference_at f.refs i) t (f.size x) }
+    name_stands t (s.attached i k) x = record { leaf = refl; cuts = given_is (reference_at f.refs i) t (f.size x) }
+    name_stands t (s.value i) x = record { leaf = refl; cuts = given_is (reference_at f.refs i) t (f.size x) }
+    name_stands t s.start x = record { leaf = refl; cuts = given_is (number g.start) t (f.size x) }
+    name_stands t s.next x = record { leaf = refl; cuts = given_is (number g.next) t (f.size x) }
+    name_stands t (s.integer v) x = record { leaf = refl; cuts = λ n out. refl }
+
+    paren_stands : (t : ℕ) (e : Term) (x : ℕ) (w : Option Whole) → Stands t e w → Stands t (s.paren e x) w
+    paren_stands t e x None h = h
+    paren_stands t e x (Some w) h = record { leaf = h.leaf; cuts = h.cuts }
+
+    stands : (t : ℕ) (e : Term) → Stands t e (p.term_whole (form g f) e)
+    stands t (s.number v x) = refl
+    stands t (s.sized v n x) = refl
+    stands t (s.name a x) = name_stands t a x
+    stands t (s.paren e x) = paren_stands t e x (p.term_whole (form g f) e) (stands t e)
+    stands t (s.kept e n x) = refl
+    stands t (s.dropped e n x) = refl
+    stands t (s.bits e low count x) = refl
+    stands t (s.load space n e x) = refl
+    stands t (s.one op e x) = refl
+    stands t (s.two op order a b x) = refl
+    stands t (s.user op es x) = refl
+
+    kept_puts : (t : ℕ) (e : Term) (n : Size) (w : Whole) → IsWholeOf t e w → (out : Varnode) → copied (view g (name_leaf g f e) n) out (cut t e out) ≡ into top g f (slot.View t w n) out
+    kept_puts t e n w h out = ap (λ l. copied (view g l n) out (cut t e out)) h.leaf ∙ h.cuts n out
+
+    read_once : (leaf : Option Varnode) (out : Varnode) (code : List Operation) → code_before leaf (copied leaf out code) ≡ code_before leaf code
+    read_once None out code = refl
+    read_once (Some v) out code = refl
+
+    kept_opens : (t : ℕ) (e : Term) (k x : ℕ) (w : Option Whole) → Stands t e w → Opens t (s.kept e k x) (p.view_of t w (f.size x))
+    kept_opens t e k x None h = ap (λ l. view g l (f.size x)) h
+    kept_opens t e k x (Some w) h =
+        let n = f.size x in
+        let tmp = at_temp top t n in
+        record {
+          size = refl;
+          reads = ap (λ l. code_before (view g l n) (copied (view g l n) tmp (cut t e tmp))) h.leaf
+              ∙ ap (code_before (view g (whole_leaf top g f w) n)) (h.cuts n tmp)
+              ∙ read_once (view g (whole_leaf top g f w) n) tmp (cut_into top g f t w tmp);
+          has = ap (λ l. operand (view g l n) tmp) h.leaf;
+          puts = λ out same. kept_puts t e n w h out;
+        }
+
     pub opens : (t : ℕ) (e : Term) → Opens t e (p.term_slot (form g f) t e)
     opens t (s.number v x) = record { size = refl; reads = refl; has = refl; puts = λ out e. refl }
     opens t (s.sized v n x) = record { size = refl; reads = refl; has = refl; puts = λ out e. refl }
     opens t (s.name a x) = name_opens t a x
     opens t (s.paren e x) = paren_opens t e x (p.term_slot (form g f) t e) (opens t e)
-    opens t (s.kept e n x) = refl
+    opens t (s.kept e n x) = kept_opens t e n x (p.term_whole (form g f) e) (stands t e)
     opens t (s.dropped e n x) = refl
     opens t (s.bits e low count x) = refl
     opens t (s.load space n e x) = refl
@@ -113,6 +197,9 @@ module _ (top : ℕ) where
     reads_slot (slot.Local x n) = refl
     reads_slot (slot.Temporary t n) = refl
     reads_slot (slot.Given a t n) = append-nil (before top g f (slot.Given a t n))
+    reads_slot (slot.View t (whole.Fixed v) n) = refl
+    reads_slot (slot.View t (whole.Local x k) n) = refl
+    reads_slot (slot.View t (whole.Given a k) n) = append-nil (before top g f (slot.View t (whole.Given a k) n))
     reads_slot (slot.Written i n) = refl
     reads_slot (slot.Target a n) = refl
 
@@ -151,6 +238,11 @@ module _ (top : ℕ) where
 
     -- ---- expressions
 
+    kept_into : (t : ℕ) (e : Term) (n : Size) (out : Slot) (w : Option Whole) (ps : List Piece) → Stands t e w → code ps ≡ cut t e (value top g f out)
+        → code (p.into_or (p.view_of t w n) out ps) ≡ copied (view g (name_leaf g f e) n) (value top g f out) (cut t e (value top g f out))
+    kept_into t e n out None ps h is = is ∙ ap (λ l. copied (view g l n) (value top g f out) (cut t e (value top g f out))) (sym h)
+    kept_into t e n out (Some w) ps h is = append-nil _ ∙ sym (kept_puts t e n w h (value top g f out))
+
     mutual
       pub into_is : (t : ℕ) (e : Term) (out : Slot) → code (p.term_into (form g f) t e out) ≡ term_into top g f t e (value top g f out)
       into_is t (s.number v x) out = refl
@@ -158,9 +250,10 @@ module _ (top : ℕ) where
       into_is t (s.name a x) out = name_into t a out
       into_is t (s.paren e x) out = into_is t e out
       into_is t (s.kept e n x) out =
-          joined (p.term_before (form g f) t e) _ (term.term_before top g f t e) _
+          kept_into t e (f.size x) out (p.term_whole (form g f) e) _ (stands t e)
+          (joined (p.term_before (form g f) t e) _ (term.term_before top g f t e) _
           (before_by t e (p.term_slot (form g f) t e) _ (opens t e) (into_is t e (p.temp_of (form g f) t e)))
-          (ap (λ v. o.binary Subpiece (value top g f out) v (amount 0) ∷ []) (value_is t e))
+          (ap (λ v. o.binary Subpiece (value top g f out) v (amount 0) ∷ []) (value_is t e)))
       into_is t (s.dropped e n x) out =
           joined (p.term_before (form g f) t e) _ (term.term_before top g f t e) _
           (before_by t e (p.term_slot (form g f) t e) _ (opens t e) (into_is t e (p.temp_of (form g f) t e)))

@@ -12,10 +12,11 @@ use Rattle.sl_section_flat.specs.Sections.{Label, Step, Symbol, Term, Terms, var
 use Rattle.sl_section_flat.specs.Chains.{chain}
 use Rattle.sl_section_flat.specs.declared.term.Order.{Order}
 use Rattle.sl_section_flat.specs.declared.term.Order.TheVariants.{AsWritten, Exchanged}
-use Rattle.sl_build_template.specs.declared.slot.Given.{Given}
 use Rattle.sl_build_template.specs.declared.slot.Given.TheVariants.{Operand, Start, Next}
 use Rattle.sl_build_template.specs.declared.slot.Slot.{Slot}
 use Rattle.sl_build_template.specs.declared.slot.Slot.TheVariants as slot
+use Rattle.sl_build_template.specs.declared.slot.Whole.{Whole}
+use Rattle.sl_build_template.specs.declared.slot.Whole.TheVariants as whole
 use Rattle.sl_word.specs.Numbers.{residue}
 use Rattle.sl_word.specs.declared.operation.Op1.{Op1}
 use Rattle.sl_word.specs.declared.operation.Op1.TheVariants.{Copy}
@@ -35,8 +36,8 @@ pub record Form : Type 0 where
 -- varnode (`stored`), or is put into bits of it; bits of what is read are put into a varnode
 -- (`extract`), and so is a value of so many bytes with bits of another in their place (`insert`).
 pub data Piece : Type 0 where
-  read : Given → (t : ℕ) → Size → Piece
-  into : Given → (t : ℕ) → (out : Slot) → Piece
+  read : (v : Slot) → Piece
+  into : (v out : Slot) → Piece
   unary : Op1 → (out a : Slot) → Piece
   binary : Op2 → (out a b : Slot) → Piece
   load : (out : Slot) → (space : ℕ) → (pointer : Slot) → Piece
@@ -70,6 +71,7 @@ slot_size (slot.Fixed v) = v.size
 slot_size (slot.Local x n) = n
 slot_size (slot.Temporary t n) = n
 slot_size (slot.Given a t n) = n
+slot_size (slot.View t w n) = n
 slot_size (slot.Written i n) = n
 slot_size (slot.Target a n) = n
 
@@ -78,7 +80,8 @@ number v = slot.Fixed (amount v)
 
 -- a value is made ready to be read
 abbrev pub reads : Slot → List Piece
-reads (slot.Given a t n) = read a t n ∷ []
+reads (slot.Given a t n) = read (slot.Given a t n) ∷ []
+reads (slot.View t (whole.Given a k) n) = read (slot.View t (whole.Given a k) n) ∷ []
 reads v = []
 
 abbrev pub reads_or : Option Slot → List Piece → List Piece
@@ -88,17 +91,36 @@ reads_or (Some v) ps = reads v
 abbrev pub integer : ℕ → Size → Slot
 integer v n = slot.Fixed (constant (v % 256 ^ n.bytes) n)
 
--- the slot that a name has, where it is one
+-- what a name stands for as a whole, where that isn't bits of it
+abbrev pub symbol_whole : Symbol → Size → Option Whole
+symbol_whole (s.register space offset k) n = Some (whole.Fixed (in_space space offset n))
+symbol_whole (s.bit_range space offset k low count) n = None
+symbol_whole (s.local x) n = Some (whole.Local x n)
+symbol_whole (s.table i) n = Some (whole.Given (Operand i) n)
+symbol_whole (s.attached i k) n = Some (whole.Given (Operand i) n)
+symbol_whole (s.value i) n = Some (whole.Given (Operand i) n)
+symbol_whole s.start n = Some (whole.Given Start n)
+symbol_whole s.next n = Some (whole.Given Next n)
+symbol_whole (s.integer v) n = Some (whole.Fixed (constant (v % 256 ^ n.bytes) n))
+
+-- the slot of a name, where it is one
+abbrev pub slot_of : (t : ℕ) → Option Whole → Option Slot
+slot_of t None = None
+slot_of t (Some (whole.Fixed v)) = Some (slot.Fixed v)
+slot_of t (Some (whole.Local x n)) = Some (slot.Local x n)
+slot_of t (Some (whole.Given a n)) = Some (slot.Given a t n)
+
 abbrev pub symbol_slot : (t : ℕ) → Symbol → Size → Option Slot
-symbol_slot t (s.register space offset k) n = Some (slot.Fixed (in_space space offset n))
-symbol_slot t (s.bit_range space offset k low count) n = None
-symbol_slot t (s.local x) n = Some (slot.Local x n)
-symbol_slot t (s.table i) n = Some (slot.Given (Operand i) t n)
-symbol_slot t (s.attached i k) n = Some (slot.Given (Operand i) t n)
-symbol_slot t (s.value i) n = Some (slot.Given (Operand i) t n)
-symbol_slot t s.start n = Some (slot.Given Start t n)
-symbol_slot t s.next n = Some (slot.Given Next t n)
-symbol_slot t (s.integer v) n = Some (integer v n)
+symbol_slot t a n = slot_of t (symbol_whole a n)
+
+-- the slot of its lowest bytes
+abbrev pub view_of : (t : ℕ) → Option Whole → Size → Option Slot
+view_of t None n = None
+view_of t (Some w) n = Some (slot.View t w n)
+
+abbrev pub into_or : Option Slot → (out : Slot) → List Piece → List Piece
+into_or None out ps = ps
+into_or (Some v) out ps = into v out ∷ []
 
 -- ---- names that are read
 
@@ -111,11 +133,11 @@ symbol_into t (s.register space offset k) out =
 symbol_into t (s.bit_range space offset k low count) out =
     extract t (register space offset k) low count out ∷ []
 symbol_into t (s.local x) out = unary Copy out (slot.Local x (slot_size out)) ∷ []
-symbol_into t (s.table i) out = into (Operand i) t out ∷ []
-symbol_into t (s.attached i k) out = into (Operand i) t out ∷ []
-symbol_into t (s.value i) out = into (Operand i) t out ∷ []
-symbol_into t s.start out = into Start t out ∷ []
-symbol_into t s.next out = into Next t out ∷ []
+symbol_into t (s.table i) out = into (slot.Given (Operand i) t (slot_size out)) out ∷ []
+symbol_into t (s.attached i k) out = into (slot.Given (Operand i) t (slot_size out)) out ∷ []
+symbol_into t (s.value i) out = into (slot.Given (Operand i) t (slot_size out)) out ∷ []
+symbol_into t s.start out = into (slot.Given Start t (slot_size out)) out ∷ []
+symbol_into t s.next out = into (slot.Given Next t (slot_size out)) out ∷ []
 symbol_into t (s.integer v) out = unary Copy out (integer v (slot_size out)) ∷ []
 
 abbrev pub two_pieces : Op2 → Order → (out a b : Slot) → Piece
@@ -147,12 +169,18 @@ module _ (h : Form) where
 
   -- ---- expressions
 
+  -- what a name in an expression stands for
+  abbrev pub term_whole : Term → Option Whole
+  term_whole (s.name a x) = symbol_whole a (h.size x)
+  term_whole (s.paren e x) = term_whole e
+  term_whole _ = None
+
   abbrev pub term_slot : (t : ℕ) → Term → Option Slot
   term_slot t (s.number v x) = Some (integer v (h.size x))
   term_slot t (s.sized v n x) = Some (integer v (h.size x))
   term_slot t (s.name a x) = symbol_slot t a (h.size x)
   term_slot t (s.paren e x) = term_slot t e
-  term_slot t (s.kept e n x) = None
+  term_slot t (s.kept e n x) = view_of t (term_whole e) (h.size x)
   term_slot t (s.dropped e n x) = None
   term_slot t (s.bits e low count x) = None
   term_slot t (s.load space n e x) = None
@@ -177,8 +205,9 @@ module _ (h : Form) where
     term_into t (s.sized v n x) out = unary Copy out (integer v (h.size x)) ∷ []
     term_into t (s.name a x) out = symbol_into t a out
     term_into t (s.paren e x) out = term_into t e out
-    term_into t (s.kept e n x) out = reads_or (term_slot t e) (term_into t e (temp_of t e))
-        ++ binary Subpiece out (term_value t e) (number 0) ∷ []
+    term_into t (s.kept e n x) out = into_or (view_of t (term_whole e) (h.size x)) out
+        (reads_or (term_slot t e) (term_into t e (temp_of t e))
+        ++ binary Subpiece out (term_value t e) (number 0) ∷ [])
     term_into t (s.dropped e n x) out = reads_or (term_slot t e) (term_into t e (temp_of t e))
         ++ binary Subpiece out (term_value t e) (number n) ∷ []
     term_into t (s.bits e low count x) out = reads_or (term_slot t e) (term_into t e (temp_of t e))

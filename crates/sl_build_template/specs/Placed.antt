@@ -1,11 +1,11 @@
 -- view: the operations of a template at a node.
 use Rattle.std.specs.Prelude.{ℕ, ◌+◌, if◌then◌else◌, length, List, [], ◌∷◌, ◌++◌, Bool, false, map}
-use Rattle.std.specs.Prelude.{slice_get, unwrap_or}
+use Rattle.std.specs.Prelude.{Option, Some, slice_get, unwrap_or}
 use Rattle.sl_faithful_code.specs.Bits.{bits_into, bits_put}
 use Rattle.sl_faithful_code.specs.Operations as o
 use Rattle.sl_faithful_code.specs.Operations.{Operation, amount, at_temp, in_space, range_of, temporary}
 use Rattle.sl_faithful_code.specs.Statements.{memory_put, reference_bits, relative, target_address}
-use Rattle.sl_faithful_code.specs.Terms.{code_before, operand, read_into, read_leaf}
+use Rattle.sl_faithful_code.specs.Terms.{code_before, copied, operand, read_into, read_leaf, view}
 use Rattle.sl_meaning_sections.specs.References.{Reference, Setting, local, memory, number, reference_size}
 use Rattle.sl_meaning_sections.specs.References.{storage}
 use Rattle.sl_meaning_sections.specs.Statements.{same_label}
@@ -19,7 +19,10 @@ use Rattle.sl_build_template.specs.declared.slot.Given.{Given}
 use Rattle.sl_build_template.specs.declared.slot.Given.TheVariants.{Operand, Start, Next}
 use Rattle.sl_build_template.specs.declared.slot.Slot.{Slot}
 use Rattle.sl_build_template.specs.declared.slot.Slot.TheVariants as slot
+use Rattle.sl_build_template.specs.declared.slot.Whole.{Whole}
+use Rattle.sl_build_template.specs.declared.slot.Whole.TheVariants as whole
 use Rattle.sl_word.specs.declared.operation.Op1.TheVariants.{Copy}
+use Rattle.sl_word.specs.declared.operation.Op2.TheVariants.{Subpiece}
 use Rattle.sl_word.specs.declared.word.Size.{Size}
 
 abbrev pub tail_is : Tail → Label → Bool
@@ -62,11 +65,25 @@ module _ (top : ℕ) where
     given Start = number g.start
     given Next = number g.next
 
+    -- the varnode that a name stands for
+    abbrev pub whole_leaf : Whole → Option Varnode
+    whole_leaf (whole.Fixed v) = Some v
+    whole_leaf (whole.Local x n) = Some (temporary (range_of f.node x) n)
+    whole_leaf (whole.Given a n) = read_leaf (given a) n
+
+    -- where it is none, what is given is put into a temporary value, and its lowest bytes are taken
+    abbrev pub cut_into : (t : ℕ) → Whole → (out : Varnode) → List Operation
+    cut_into t (whole.Fixed v) out = []
+    cut_into t (whole.Local x n) out = []
+    cut_into t (whole.Given a n) out = read_into top t (given a) (at_temp top t n)
+        ++ o.binary Subpiece out (at_temp top t n) (amount 0) ∷ []
+
     abbrev pub value : Slot → Varnode
     value (slot.Fixed v) = v
     value (slot.Local x n) = temporary (range_of f.node x) n
     value (slot.Temporary t n) = at_temp top t n
     value (slot.Given a t n) = read_value (given a) t n
+    value (slot.View t w n) = operand (view g (whole_leaf w) n) (at_temp top t n)
     value (slot.Written i n) = written (reference_at f.refs i) n
     value (slot.Target a n) = in_space g.default (target_address top g f (given a)) n
 
@@ -79,6 +96,8 @@ module _ (top : ℕ) where
     before (slot.Local x n) = []
     before (slot.Temporary t n) = []
     before (slot.Given a t n) = read_code (given a) t n
+    before (slot.View t w n) =
+        code_before (view g (whole_leaf w) n) (cut_into t w (at_temp top t n))
     before (slot.Written i n) = []
     before (slot.Target a n) = []
 
@@ -88,6 +107,7 @@ module _ (top : ℕ) where
     into (slot.Local x n) out = o.unary Copy out (temporary (range_of f.node x) n) ∷ []
     into (slot.Temporary t n) out = o.unary Copy out (at_temp top t n) ∷ []
     into (slot.Given a t n) out = read_into top t (given a) out
+    into (slot.View t w n) out = copied (view g (whole_leaf w) n) out (cut_into t w out)
     into (slot.Written i n) out = o.unary Copy out (written (reference_at f.refs i) n) ∷ []
     into (slot.Target a n) out =
         o.unary Copy out (in_space g.default (target_address top g f (given a)) n) ∷ []
@@ -101,8 +121,8 @@ module _ (top : ℕ) where
         before v ++ memory_put top 1 space pointer width (value v)
 
     abbrev pub piece_code : Piece → List Operation
-    piece_code (p.read a t n) = read_code (given a) t n
-    piece_code (p.into a t out) = read_into top t (given a) (value out)
+    piece_code (p.read v) = before v
+    piece_code (p.into v out) = into v (value out)
     piece_code (p.unary op out a) = o.unary op (value out) (value a) ∷ []
     piece_code (p.binary op out a b) = o.binary op (value out) (value a) (value b) ∷ []
     piece_code (p.load out space a) = o.load_from (value out) space (value a) ∷ []

@@ -19,8 +19,8 @@ use Rattle.sl_word.specs.Sizes.{byte_counts}
 use Rattle.sl_word.specs.declared.word.Size.{Size}
 
 abbrev pub piece_of : Piece → p.Piece
-piece_of (v.Read a t n) = p.read a t n
-piece_of (v.Into a t out) = p.into a t out
+piece_of (v.Read w) = p.read w
+piece_of (v.Into w out) = p.into w out
 piece_of (v.Unary op out a) = p.unary op out a
 piece_of (v.Binary op out a b) = p.binary op out a b
 piece_of (v.Load out space a) = p.load out space.0 a

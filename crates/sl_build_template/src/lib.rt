@@ -17,6 +17,6 @@ mod varnodes;
 pub use form::Form;
 pub use piece::{Insert, NewBits, Part, Piece, Tail};
 pub use sizes::{of_address, sized};
-pub use slot::{Given, Slot, slot_size};
+pub use slot::{Given, Slot, Whole, slot_size};
 pub use steps::template;
 pub use varnodes::{above, all_but, amount, constant, cut, in_space};

@@ -1,6 +1,6 @@
 //! What templates consist of.
 
-use crate::slot::{Given, Slot};
+use crate::slot::Slot;
 use sl_pcode::Code;
 use sl_section_flat::{Label, Span};
 use sl_word::{Op1, Op2, Size, SpaceId, UserId};
@@ -25,10 +25,10 @@ pub struct Insert {
 /// One operation, or what hangs on what an operand stands for.
 #[derive(Drop)]
 pub enum Piece {
-    /// What is given is put into the temporary value of this number, where it is no varnode.
-    Read(Given, u32, Size),
-    /// What is given is put into a varnode; temporary values from this number on are free.
-    Into(Given, u32, Slot),
+    /// A value is made ready to be read.
+    Read(Slot),
+    /// The first is put into the second.
+    Into(Slot, Slot),
     Unary(Op1, Slot, Slot),
     Binary(Op2, Slot, Slot, Slot),
     Load(Slot, SpaceId, Slot),

@@ -6,7 +6,7 @@ ghost use Rattle.sl_build_template.specs.Views.{piece_of, pieces_of};
 
 use crate::piece::Piece;
 use crate::sizes::same_size;
-use crate::slot::Slot;
+use crate::slot::{Slot, Whole};
 use crate::varnodes::{amount, in_space};
 use sl_section_flat::{Order, Storage};
 use sl_word::Op2;
@@ -38,7 +38,10 @@ pub(crate) fn put_reads(out: &mut Vec<Piece>, v: Slot) -> Result<(), AllocError>
     ensures { OnOk result (pieces_of out.new.items ≡ pieces_of out.old.items ++ p.reads v) }
 {
     match v {
-        Slot::Given(a, t, n) => put(out, Piece::Read(a, t, n)),
+        Slot::Given(_, _, _) => put(out, Piece::Read(v)),
+        Slot::View(_, Whole::Given(_, _), _) => put(out, Piece::Read(v)),
+        Slot::View(_, Whole::Fixed(_), _) => Ok(()),
+        Slot::View(_, Whole::Local(_, _), _) => Ok(()),
         Slot::Fixed(_) => Ok(()),
         Slot::Local(_, _) => Ok(()),
         Slot::Temporary(_, _) => Ok(()),

@@ -17,6 +17,17 @@ pub enum Given {
     Next,
 }
 
+/// What a name stands for as a whole.
+#[derive(Clone, Copy, Debug)]
+pub enum Whole {
+    /// The same varnode at each node.
+    Fixed(Varnode),
+    /// A local of the node, by its size variable.
+    Local(u32, Size),
+    /// What is given, which may be no varnode.
+    Given(Given, Size),
+}
+
 /// A varnode of a template.
 #[derive(Clone, Copy, Debug)]
 pub enum Slot {
@@ -28,6 +39,9 @@ pub enum Slot {
     Temporary(u32, Size),
     /// What is given, where that is a varnode, and else the temporary value of this number.
     Given(Given, u32, Size),
+    /// The lowest bytes of what a name stands for, where that is a varnode, and else the temporary
+    /// value of this number.
+    View(u32, Whole, Size),
     /// Where a value for the operand of this number is put: what the operand stands for, where that
     /// is a varnode, and else the first temporary value.
     Written(u32, Size),
@@ -44,6 +58,7 @@ pub fn slot_size(v: Slot) -> Size
         Slot::Local(_, n) => n,
         Slot::Temporary(_, n) => n,
         Slot::Given(_, _, n) => n,
+        Slot::View(_, _, n) => n,
         Slot::Written(_, n) => n,
         Slot::Target(_, n) => n,
     }

@@ -4,18 +4,39 @@ ghost use Rattle.std.specs.Prelude.{◌≡◌, ◌++◌, ◌∷◌, [], IfOk, On
 ghost use Rattle.sl_section_flat.specs.Views.{term_of, terms_of};
 ghost use Rattle.sl_section_flat.specs.Chains.{chain};
 ghost use Rattle.sl_build_template.specs.Pieces as p;
-ghost use Rattle.sl_build_template.specs.Views.{form_of, pieces_of};
+ghost use Rattle.sl_build_template.specs.Views.{form_of, pieces_of, size_in};
 
 use crate::form::{Form, size_of, space_in};
 use crate::piece::Piece;
 use crate::puts::{number, put, put_ordered, put_reads};
 use crate::sizes::size_of_variable;
-use crate::slot::Slot;
-use crate::symbols::{integer, symbol_into, symbol_slot};
+use crate::slot::{Slot, Whole};
+use crate::symbols::{integer, symbol_into, symbol_slot, symbol_whole, view_of};
 use crate::varnodes::next_temp;
 use sl_section_flat::Term;
 use sl_word::{Op1, Op2, UserId};
 use std::alloc::{AllocError, Global};
+
+/// What a name in an expression stands for.
+fn term_whole(form: &Form<'_>, e: &Term) -> Option<Whole>
+    ensures { result ≡ p.term_whole (form_of form.now) (term_of e.now) }
+{
+    match e {
+        Term::Name(a, x) => symbol_whole(*a, size_of_variable(form.sizes, *x)),
+        Term::Paren(e, _) => term_whole(form, e),
+        Term::Number(_, _) | Term::Sized(_, _, _) | Term::Kept(_, _, _) => None,
+        Term::Dropped(_, _, _) | Term::Bits(_, _, _) | Term::Load(_, _, _, _) => None,
+        Term::One(_, _, _) | Term::Two(_, _, _, _, _) | Term::User(_, _, _) => None,
+    }
+}
+
+/// The slot of the lowest bytes of what a name stands for.
+fn kept_slot(form: &Form<'_>, t: u32, e: &Term, x: u32) -> Option<Slot>
+    ensures { result ≡ p.view_of t (p.term_whole (form_of form.now) (term_of e.now))
+        (size_in form.now.sizes.now x) }
+{
+    view_of(t, term_whole(form, e), size_of_variable(form.sizes, x))
+}
 
 /// The slot that an expression has, where it is one.
 pub(crate) fn term_slot(form: &Form<'_>, t: u32, e: &Term) -> Option<Slot>
@@ -26,7 +47,7 @@ pub(crate) fn term_slot(form: &Form<'_>, t: u32, e: &Term) -> Option<Slot>
         Term::Sized(v, _, x) => Some(integer(*v, size_of_variable(form.sizes, *x))),
         Term::Name(a, x) => symbol_slot(t, *a, size_of_variable(form.sizes, *x)),
         Term::Paren(e, _) => term_slot(form, t, e),
-        Term::Kept(_, _, _) => None,
+        Term::Kept(e, _, x) => kept_slot(form, t, e, *x),
         Term::Dropped(_, _, _) => None,
         Term::Bits(_, _, _) => None,
         Term::Load(_, _, _, _) => None,
@@ -67,10 +88,13 @@ pub(crate) fn term_into(
         }
         Term::Name(a, _) => symbol_into(out, t, *a, to),
         Term::Paren(e, _) => term_into(alloc, form, out, t, e, to),
-        Term::Kept(e, _, _) => {
-            let a = term_value(alloc, form, out, t, e)?;
-            put(out, Piece::Binary(Op2::Subpiece, to, a, number(0)))
-        }
+        Term::Kept(e, _, x) => match kept_slot(form, t, e, *x) {
+            Some(v) => put(out, Piece::Into(v, to)),
+            None => {
+                let a = term_value(alloc, form, out, t, e)?;
+                put(out, Piece::Binary(Op2::Subpiece, to, a, number(0)))
+            }
+        },
         Term::Dropped(e, n, _) => {
             let a = term_value(alloc, form, out, t, e)?;
             let dropped = number(u64::from(*n));

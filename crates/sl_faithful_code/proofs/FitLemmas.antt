@@ -43,6 +43,11 @@ span_least : (m : ℕ) → m ≤ 16 → m ≤ (size_at m).bytes
 unfolding size_at
 span_least m le = grind arith
 
+-- and not more than there are
+size_most : (n k : ℕ) → 1 ≤ k → n ≤ k → (size_at n).bytes ≤ k
+unfolding size_at
+size_most n k some le = grind (arith, some, le)
+
 -- as many bytes as bits take
 pub span_bytes : (count k : ℕ) → count ≤ 8 * k → IsSize k → (count ≤ 8 * (size_at (bit_bytes count)).bytes) × ((size_at (bit_bytes count)).bytes ≤ k)
 unfolding size_at
@@ -93,7 +98,11 @@ module _ (Local : (node x n : ℕ) → Type 0) (g : Setting) (f : Frame) (operan
     term_fits (s.name a x) kept meets fits = symbol_fits a x kept meets
     term_fits (s.paren e x) kept meets fits = term_fits e kept (meets_front size (q.term_equations address operand e) _ meets) fits
     term_fits (s.kept e n x) kept meets fits =
-        term_fits e kept (meets_front size (q.term_equations address operand e) _ meets) (both_true (r.term_fits size e) _ fits).0
+        let parts = both_true (r.term_fits size e) _ fits in
+        let within : n ≤ size (variable_of e) = at_most n (size (variable_of e)) parts.1 in
+        let w : size x ≡ (size_at n).bytes = (meets_back size (q.term_equations address operand e) _ meets).0 in
+        let most = size_most n (size (variable_of e)) (f.size (variable_of e)).some within in
+        (term_fits e kept (meets_front size (q.term_equations address operand e) _ meets) parts.0, omega (arith, w, most))
     term_fits (s.dropped e n x) kept meets fits =
         term_fits e kept (meets_front size (q.term_equations address operand e) _ meets) (both_true (r.term_fits size e) _ fits).0
     term_fits (s.bits e low count x) kept meets fits =

@@ -6,6 +6,7 @@ pub mod Bits
 pub mod FitLemmas
 pub mod Lands
 pub mod Masks
+pub mod Narrow
 pub mod Nodes
 pub mod Operators
 mod Rows

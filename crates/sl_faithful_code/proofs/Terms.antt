@@ -5,16 +5,17 @@ use Rattle.std.specs.List.{All}
 use Rattle.std.proofs.lemmas.Nat.{mod_below}
 use Rattle.std.proofs.Math.Nat.{div-one}
 use Rattle.sl_faithful_code.specs.Fits.{ReferenceFits, SymbolFits, TermFits, TermsFit}
-use Rattle.sl_faithful_code.specs.Operations.{amount, at_temp, binary, call_user, constant, in_space, load_from, range_of, temporary, unary}
+use Rattle.sl_faithful_code.specs.Operations.{Operation, amount, at_temp, binary, call_user, constant, in_space, load_from, narrow, range_of, temporary, unary}
 use Rattle.sl_faithful_code.specs.Runs.{Final, stops}
 use Rattle.sl_faithful_code.specs.Bits.{bits_into}
-use Rattle.sl_faithful_code.specs.Terms.{code_before, copied, operand, read_into, read_leaf, size_of, symbol_into, symbol_leaf, term_before, term_into, term_operand, terms_before, terms_operands, two_operands}
-use Rattle.sl_faithful_code.proofs.Base.{Apart, HasAt, Holds, from, has_back, has_front, holds_same, step, with_bind, with_final}
+use Rattle.sl_faithful_code.specs.Terms.{code_before, copied, name_leaf, operand, read_into, read_leaf, size_of, symbol_into, symbol_leaf, term_before, term_into, term_operand, terms_before, terms_operands, two_operands, view}
+use Rattle.sl_faithful_code.proofs.Base.{Apart, HasAt, Holds, from, has_back, has_front, has_len, holds_same, step, with_bind, with_final}
 use Rattle.sl_faithful_code.proofs.Bytes.{Same, number_below, read_same, same_below, same_refl, same_trans}
 use Rattle.sl_faithful_code.proofs.Numbers.{eight, extended}
 use Rattle.sl_faithful_code.proofs.Bits.{bits_land}
 use Rattle.sl_faithful_code.proofs.Lands.{Lands, Uses, at_place, lands_at, lands_of_uses, placed, put_run}
 use Rattle.sl_faithful_code.proofs.Operators.{Has, binary_goes, piece_goes, unary_goes}
+use Rattle.sl_faithful_code.proofs.Narrow.{narrow_value}
 use Rattle.sl_section_equations.specs.Equations.{size_at}
 use Rattle.sl_meaning_sections.specs.References.{Locals, Reference, Setting, load, local, memory, number, read, storage}
 use Rattle.sl_meaning_sections.specs.Values.{◌>>=◌, Fault, Frame, applied, bits_of, calls_user_op, fault_in, fault_or, ordered, reference_at, space_of, symbol_value, value}
@@ -173,22 +174,6 @@ module _ (g : Setting) (code : List Op) where
           → HasAt g code p (term_before top g f t e) → Uses g code left (p + length (term_before top g f t e)) (temp t) (term_operand top g f t e) (size_of g f e).bytes m u go
           → from g code left p m u ≡ with_final (value g f m l e) m go
 
-      -- what has a varnode of its own is read there, anything else from a temporary
-      pub uses_of_lands : (e : Term) → TermLands e → TermUses e
-      uses_of_lands (s.number v x) ih t p left m l u go fits holds has uses =
-          at_place g code left p (p + 0) m u (omega arith) ∙ uses (v % 256 ^ (f.size x).bytes) u (same_refl (temp t) u) (mod_below v (256 ^ (f.size x).bytes) (bytes_pos (f.size x).bytes)) (λ u'' same. refl)
-      uses_of_lands (s.sized v k x) ih t p left m l u go fits holds has uses =
-          at_place g code left p (p + 0) m u (omega arith) ∙ uses (v % 256 ^ (f.size x).bytes) u (same_refl (temp t) u) (mod_below v (256 ^ (f.size x).bytes) (bytes_pos (f.size x).bytes)) (λ u'' same. refl)
-      uses_of_lands (s.name a x) ih t p left m l u go fits holds has uses = symbol_uses a (f.size x) t p left m l u go fits holds has uses
-      uses_of_lands (s.paren e x) ih t p left m l u go fits holds has uses = uses_of_lands e ih t p left m l u go fits holds has uses
-      uses_of_lands (s.kept e k x) ih t p left m l u go fits holds has uses = ih Unique (temp t) t p left m l u go fits holds has (lands_of_uses g code left _ (temp t) (f.size x) m u go uses)
-      uses_of_lands (s.dropped e k x) ih t p left m l u go fits holds has uses = ih Unique (temp t) t p left m l u go fits holds has (lands_of_uses g code left _ (temp t) (f.size x) m u go uses)
-      uses_of_lands (s.bits e low count x) ih t p left m l u go fits holds has uses = ih Unique (temp t) t p left m l u go fits holds has (lands_of_uses g code left _ (temp t) (f.size x) m u go uses)
-      uses_of_lands (s.load space k e x) ih t p left m l u go fits holds has uses = ih Unique (temp t) t p left m l u go fits holds has (lands_of_uses g code left _ (temp t) (f.size x) m u go uses)
-      uses_of_lands (s.one op e x) ih t p left m l u go fits holds has uses = ih Unique (temp t) t p left m l u go fits holds has (lands_of_uses g code left _ (temp t) (f.size x) m u go uses)
-      uses_of_lands (s.two op order a b x) ih t p left m l u go fits holds has uses = ih Unique (temp t) t p left m l u go fits holds has (lands_of_uses g code left _ (temp t) (f.size x) m u go uses)
-      uses_of_lands (s.user op es x) ih t p left m l u go fits holds has uses = ih Unique (temp t) t p left m l u go fits holds has (lands_of_uses g code left _ (temp t) (f.size x) m u go uses)
-
       -- ---- the size of what is read
 
       leaf_size : (b : Bool) (v : ℕ) (n : Size) (o : ℕ) → (operand (if b then Some (constant v n) else None) (temporary o n)).size ≡ n
@@ -213,12 +198,94 @@ module _ (g : Setting) (code : List Op) where
       symbol_operand_size s.next n o = reference_size (number g.next) n o
       symbol_operand_size (s.integer v) n o = refl
 
+      view_size : (leaf : Option Varnode) (n : Size) (o : ℕ) → (operand (view g leaf n) (temporary o n)).size ≡ n
+      view_size None n o = refl
+      view_size (Some v) n o = refl
+
+      pub name_size : (e : Term) (v : Varnode) → name_leaf g f e ≡ Some v → v.size ≡ size_of g f e
+      name_size (s.name a x) v is = subst (λ leaf. (operand leaf (temporary 0 (f.size x))).size ≡ f.size x) is (symbol_operand_size a (f.size x) 0)
+      name_size (s.paren e x) v is = name_size e v is
+      name_size (s.number k x) v is = absurd (let no : ⊥ = cc in no)
+      name_size (s.sized k n x) v is = absurd (let no : ⊥ = cc in no)
+      name_size (s.kept e k x) v is = absurd (let no : ⊥ = cc in no)
+      name_size (s.dropped e k x) v is = absurd (let no : ⊥ = cc in no)
+      name_size (s.bits e low count x) v is = absurd (let no : ⊥ = cc in no)
+      name_size (s.load space k e x) v is = absurd (let no : ⊥ = cc in no)
+      name_size (s.one op e x) v is = absurd (let no : ⊥ = cc in no)
+      name_size (s.two op order a b x) v is = absurd (let no : ⊥ = cc in no)
+      name_size (s.user op es x) v is = absurd (let no : ⊥ = cc in no)
+
+      -- ---- the lowest bytes of what a name stands for
+
+      -- it is read where it is
+      name_uses : (e : Term) (v : Varnode) (t p left : ℕ) (m : Memory) (l : Locals) (u : Temporaries) (go : ℕ → Final) → name_leaf g f e ≡ Some v → TermFits Local g f e → Holds g.endian Local m l u
+          → p ≤ length code → Uses g code left p (temp t) v (size_of g f e).bytes m u go → from g code left p m u ≡ with_final (value g f m l e) m go
+      name_uses (s.name a x) v t p left m l u go is fits holds inside uses =
+          let here : p ≡ p + 0 = omega arith in
+          let n = f.size x in
+          let ops : Option Varnode → List Operation = λ leaf. code_before leaf (symbol_into top g f t a (at_temp top t n)) in
+          subst (λ leaf. HasAt g code p (ops leaf) → Uses g code left (p + length (ops leaf)) (temp t) (operand leaf (at_temp top t n)) n.bytes m u go → from g code left p m u ≡ go (symbol_value g f m l a n.bytes)) is
+          (symbol_uses a n t p left m l u go fits holds) inside (subst (λ q. Uses g code left q (temp t) v n.bytes m u go) here uses)
+      name_uses (s.paren e x) v t p left m l u go is fits holds inside uses = name_uses e v t p left m l u go is fits holds inside uses
+      name_uses (s.number k x) v t p left m l u go is fits holds inside uses = absurd (let no : ⊥ = cc in no)
+      name_uses (s.sized k n x) v t p left m l u go is fits holds inside uses = absurd (let no : ⊥ = cc in no)
+      name_uses (s.kept e k x) v t p left m l u go is fits holds inside uses = absurd (let no : ⊥ = cc in no)
+      name_uses (s.dropped e k x) v t p left m l u go is fits holds inside uses = absurd (let no : ⊥ = cc in no)
+      name_uses (s.bits e low count x) v t p left m l u go is fits holds inside uses = absurd (let no : ⊥ = cc in no)
+      name_uses (s.load space k e x) v t p left m l u go is fits holds inside uses = absurd (let no : ⊥ = cc in no)
+      name_uses (s.one op e x) v t p left m l u go is fits holds inside uses = absurd (let no : ⊥ = cc in no)
+      name_uses (s.two op order a b x) v t p left m l u go is fits holds inside uses = absurd (let no : ⊥ = cc in no)
+      name_uses (s.user op es x) v t p left m l u go is fits holds inside uses = absurd (let no : ⊥ = cc in no)
+
+      -- and so is a view
+      view_uses : (e : Term) (n : Size) (v : Varnode) (t p left : ℕ) (m : Memory) (l : Locals) (u : Temporaries) (go : ℕ → Final) → name_leaf g f e ≡ Some v → TermFits Local g f e × (n.bytes ≤ (size_of g f e).bytes) → Holds g.endian Local m l u
+          → p ≤ length code → Uses g code left p (temp t) (narrow g.endian g.sizes v n) n.bytes m u go → from g code left p m u ≡ with_final (value g f m l e >>= (λ w. Ok (w % 256 ^ n.bytes))) m go
+      view_uses e n v t p left m l u go is fits holds inside uses =
+          let most : n.bytes ≤ v.size.bytes = subst (λ (k : Size). n.bytes ≤ k.bytes) (sym (name_size e v is)) fits.1 in
+          name_uses e v t p left m l u (λ w. go (w % 256 ^ n.bytes)) is fits.0 holds inside
+          (λ w u' same lt reads. uses (w % 256 ^ n.bytes) u' same (mod_below w (256 ^ n.bytes) (bytes_pos n.bytes))
+          (λ u'' same'. narrow_value g.endian g.sizes m u'' v n most holds.memory (same'.low (same.low holds.low)) ∙ ap (λ q. q % 256 ^ n.bytes) (reads u'' same')))
+          ∙ sym (with_bind (value g f m l e) (λ w. Ok (w % 256 ^ n.bytes)) m go)
+
+      abbrev kept_into : Term → Size → Option Varnode → (t : ℕ) → (out : Varnode) → List Operation
+      kept_into e n leaf t out = copied (view g leaf n) out (term_before top g f t e ++ binary two.Subpiece out (term_operand top g f t e) (amount 0) ∷ [])
+
+      abbrev KeptLands : Term → Size → Option Varnode → Type 0
+      KeptLands e n leaf = (place : Place2) (offset t p left : ℕ) (m : Memory) (l : Locals) (u : Temporaries) (go : ℕ → Final) → TermFits Local g f e × (n.bytes ≤ (size_of g f e).bytes) → Holds g.endian Local m l u
+          → HasAt g code p (kept_into e n leaf t (placed place offset n)) → Lands g code left (p + length (kept_into e n leaf t (placed place offset n))) (temp t) (placed place offset n) m u go
+          → from g code left p m u ≡ with_final (value g f m l e >>= (λ w. Ok (w % 256 ^ n.bytes))) m go
+
+      kept_uses : (e : Term) (x : ℕ) (leaf : Option Varnode) → name_leaf g f e ≡ leaf → KeptLands e (f.size x) leaf → (t p left : ℕ) (m : Memory) (l : Locals) (u : Temporaries) (go : ℕ → Final) → TermFits Local g f e × ((f.size x).bytes ≤ (size_of g f e).bytes) → Holds g.endian Local m l u
+          → let ops = code_before (view g leaf (f.size x)) (kept_into e (f.size x) leaf t (at_temp top t (f.size x))) in
+          HasAt g code p ops → Uses g code left (p + length ops) (temp t) (operand (view g leaf (f.size x)) (at_temp top t (f.size x))) (f.size x).bytes m u go
+          → from g code left p m u ≡ with_final (value g f m l e >>= (λ w. Ok (w % 256 ^ (f.size x).bytes))) m go
+      kept_uses e x None is ih t p left m l u go fits holds has uses = ih Unique (temp t) t p left m l u go fits holds has (lands_of_uses g code left _ (temp t) (f.size x) m u go uses)
+      kept_uses e x (Some v) is ih t p left m l u go fits holds has uses =
+          let here : p + 0 ≡ p = omega arith in
+          view_uses e (f.size x) v t p left m l u go is fits holds has (subst (λ q. Uses g code left q (temp t) (narrow g.endian g.sizes v (f.size x)) (f.size x).bytes m u go) here uses)
+
+      -- what has a varnode of its own is read there, anything else from a temporary
+      pub uses_of_lands : (e : Term) → TermLands e → TermUses e
+      uses_of_lands (s.number v x) ih t p left m l u go fits holds has uses =
+          at_place g code left p (p + 0) m u (omega arith) ∙ uses (v % 256 ^ (f.size x).bytes) u (same_refl (temp t) u) (mod_below v (256 ^ (f.size x).bytes) (bytes_pos (f.size x).bytes)) (λ u'' same. refl)
+      uses_of_lands (s.sized v k x) ih t p left m l u go fits holds has uses =
+          at_place g code left p (p + 0) m u (omega arith) ∙ uses (v % 256 ^ (f.size x).bytes) u (same_refl (temp t) u) (mod_below v (256 ^ (f.size x).bytes) (bytes_pos (f.size x).bytes)) (λ u'' same. refl)
+      uses_of_lands (s.name a x) ih t p left m l u go fits holds has uses = symbol_uses a (f.size x) t p left m l u go fits holds has uses
+      uses_of_lands (s.paren e x) ih t p left m l u go fits holds has uses = uses_of_lands e ih t p left m l u go fits holds has uses
+      uses_of_lands (s.kept e k x) ih t p left m l u go fits holds has uses = kept_uses e x (name_leaf g f e) refl ih t p left m l u go fits holds has uses
+      uses_of_lands (s.dropped e k x) ih t p left m l u go fits holds has uses = ih Unique (temp t) t p left m l u go fits holds has (lands_of_uses g code left _ (temp t) (f.size x) m u go uses)
+      uses_of_lands (s.bits e low count x) ih t p left m l u go fits holds has uses = ih Unique (temp t) t p left m l u go fits holds has (lands_of_uses g code left _ (temp t) (f.size x) m u go uses)
+      uses_of_lands (s.load space k e x) ih t p left m l u go fits holds has uses = ih Unique (temp t) t p left m l u go fits holds has (lands_of_uses g code left _ (temp t) (f.size x) m u go uses)
+      uses_of_lands (s.one op e x) ih t p left m l u go fits holds has uses = ih Unique (temp t) t p left m l u go fits holds has (lands_of_uses g code left _ (temp t) (f.size x) m u go uses)
+      uses_of_lands (s.two op order a b x) ih t p left m l u go fits holds has uses = ih Unique (temp t) t p left m l u go fits holds has (lands_of_uses g code left _ (temp t) (f.size x) m u go uses)
+      uses_of_lands (s.user op es x) ih t p left m l u go fits holds has uses = ih Unique (temp t) t p left m l u go fits holds has (lands_of_uses g code left _ (temp t) (f.size x) m u go uses)
+
       pub operand_size : (e : Term) (t : ℕ) → (term_operand top g f t e).size ≡ size_of g f e
       operand_size (s.number v x) t = refl
       operand_size (s.sized v k x) t = refl
       operand_size (s.name a x) t = symbol_operand_size a (f.size x) (temp t)
       operand_size (s.paren e x) t = operand_size e t
-      operand_size (s.kept e k x) t = refl
+      operand_size (s.kept e k x) t = view_size (name_leaf g f e) (f.size x) (temp t)
       operand_size (s.dropped e k x) t = refl
       operand_size (s.bits e low count x) t = refl
       operand_size (s.load space k e x) t = refl
@@ -261,6 +328,24 @@ module _ (g : Setting) (code : List Op) where
       piece_run e t k place offset n x q left m u u' go ex hx has same lands =
           piece_goes g code well (placed place offset n) (term_operand top g f t e) x k q left m u' go ex (subst (λ (k : Size). x < 256 ^ k.bytes) (sym (operand_size e t)) hx) has.0 (λ v lt. lands v u' same lt)
 
+      -- the lowest bytes are put into a varnode
+      kept_lands : (e : Term) (n : Size) (leaf : Option Varnode) → name_leaf g f e ≡ leaf → TermUses e → KeptLands e n leaf
+      kept_lands e n None is e_uses place offset t p left m l u go fits holds has lands =
+          let before = term_before top g f t e in
+          let a = term_operand top g f t e in
+          let out = placed place offset n in
+          let o = binary two.Subpiece out a (amount 0) in
+          let len : p + length (before ++ o ∷ []) ≡ p + length before + 1 = omega (arith, length-append before (o ∷ [])) in
+          e_uses t p left m l u (λ v. go (v % 256 ^ n.bytes)) fits.0 holds (has_front g code p before (o ∷ []) has)
+          (λ v u' same lt reads. piece_run e t 0 place offset n v (p + length before) left m u u' go (reads u' (same_refl _ u')) lt (has_back g code p before (o ∷ []) has) same (lands_at g code left _ _ (temp t) out m u go len lands)
+          ∙ ap (λ q. go (q % 256 ^ n.bytes)) (div-one v))
+          ∙ sym (with_bind (value g f m l e) (λ v. Ok (v % 256 ^ n.bytes)) m go)
+      kept_lands e n (Some v) is e_uses place offset t p left m l u go fits holds has lands =
+          let a = narrow g.endian g.sizes v n in
+          let inside : p ≤ length code = omega (arith, has_len g code p (unary one.Copy (placed place offset n) a ∷ []) has) in
+          view_uses e n v t p left m l u go is fits holds inside
+          (λ w u' same lt reads. unary_put one.Copy a place offset n w p left (temp t) m u u' go (reads u' (same_refl _ u')) lt has.0 same lands)
+
       -- ---- all expressions
 
       stopped : (r : Result ℕ Fault) (m : Memory) (fault : Fault) → with_final r m (λ v. stops fault m) ≡ stops (fault_or r fault) m
@@ -277,17 +362,7 @@ module _ (g : Setting) (code : List Op) where
             (mod_below v (256 ^ (f.size x).bytes) (bytes_pos (f.size x).bytes)) has.0 (same_refl (temp t) u) lands
         term_lands (s.name a x) place offset t p left m l u go fits holds has lands = symbol_lands a place offset (f.size x) t p left m l u go fits holds has lands
         term_lands (s.paren e x) place offset t p left m l u go fits holds has lands = term_lands e place offset t p left m l u go fits holds has lands
-        term_lands (s.kept e k x) place offset t p left m l u go fits holds has lands =
-            let before = term_before top g f t e in
-            let a = term_operand top g f t e in
-            let n = f.size x in
-            let out = placed place offset n in
-            let o = binary two.Subpiece out a (amount 0) in
-            let len : p + length (before ++ o ∷ []) ≡ p + length before + 1 = omega (arith, length-append before (o ∷ [])) in
-            uses_of_lands e (term_lands e) t p left m l u (λ v. go (v % 256 ^ n.bytes)) fits holds (has_front g code p before (o ∷ []) has)
-            (λ v u' same lt reads. piece_run e t 0 place offset n v (p + length before) left m u u' go (reads u' (same_refl _ u')) lt (has_back g code p before (o ∷ []) has) same (lands_at g code left _ _ (temp t) out m u go len lands)
-            ∙ ap (λ q. go (q % 256 ^ n.bytes)) (div-one v))
-            ∙ sym (with_bind (value g f m l e) (λ v. Ok (v % 256 ^ n.bytes)) m go)
+        term_lands (s.kept e k x) place offset t p left m l u go fits holds has lands = kept_lands e (f.size x) (name_leaf g f e) refl (uses_of_lands e (term_lands e)) place offset t p left m l u go fits holds has lands
         term_lands (s.dropped e k x) place offset t p left m l u go fits holds has lands =
             let before = term_before top g f t e in
             let a = term_operand top g f t e in

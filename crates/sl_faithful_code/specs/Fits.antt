@@ -41,7 +41,7 @@ module _ (Local : (node x n : ℕ) → Type 0) where
       TermFits (s.sized v n x) = ⊤
       TermFits (s.name a x) = SymbolFits a (f.size x).bytes
       TermFits (s.paren e x) = TermFits e
-      TermFits (s.kept e n x) = TermFits e
+      TermFits (s.kept e n x) = TermFits e × ((f.size x).bytes ≤ (size_of g f e).bytes)
       TermFits (s.dropped e n x) = TermFits e
       TermFits (s.bits e low count x) = TermFits e
           × (low + count ≤ 8 * (size_of g f e).bytes) × (count ≤ 8 * (f.size x).bytes)

@@ -1,6 +1,7 @@
 pub mod Bits
 pub mod Fits
 pub mod Fitting
+pub mod Narrow
 pub mod Nodes
 pub mod Faithful
 pub mod Operations

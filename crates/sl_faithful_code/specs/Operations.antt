@@ -1,6 +1,6 @@
 -- law: operations by their parts, and where locals and temporary values lie.
-use Rattle.std.specs.Prelude.{ℕ, ◌+◌, ◌*◌, ◌==◌, ◌&&◌, Bool, true, false, if◌then◌else◌}
-use Rattle.std.specs.Prelude.{List, [], ◌∷◌, Option, Some, None}
+use Rattle.std.specs.Prelude.{ℕ, ◌+◌, ◌-◌, ◌*◌, ◌%◌, ◌^◌, ◌==◌, ◌&&◌, Bool, true, false}
+use Rattle.std.specs.Prelude.{if◌then◌else◌, List, [], ◌∷◌, Option, Some, None, slice_index}
 use Rattle.sl_section_equations.specs.Equations.{size_at}
 use Rattle.sl_pcode.specs.Codes.{kind_of}
 use Rattle.sl_pcode.specs.Effects.{effect_by}
@@ -15,6 +15,8 @@ use Rattle.sl_word.specs.declared.operation.Op1.{Op1}
 use Rattle.sl_word.specs.declared.operation.Op1.TheVariants as one
 use Rattle.sl_word.specs.declared.operation.Op2.{Op2}
 use Rattle.sl_word.specs.declared.operation.Op2.TheVariants as two
+use Rattle.sl_word.specs.declared.word.Endian.{Endian}
+use Rattle.sl_word.specs.declared.word.Endian.TheVariants.{Little, Big}
 use Rattle.sl_word.specs.declared.word.Size.{Size}
 
 -- An operation: its code, the varnode that its value goes to, and those that it reads.
@@ -43,6 +45,27 @@ in_space space offset n = record { place = In (record { 0 = space }); offset = o
 -- an amount of a shift, of bytes that are dropped, and a distance in the list
 abbrev pub amount : ℕ → Varnode
 amount v = constant v (size_at 4)
+
+-- ---- the lowest bytes of a varnode, as a varnode
+
+-- how many bytes lie before the lowest `n` of `size`
+abbrev pub bytes_before : Endian → (size n : ℕ) → ℕ
+bytes_before Little size n = 0
+bytes_before Big size n = size - n
+
+-- A constant is cut; in a space, what would go past the end goes on at 0.
+abbrev pub offset_after : List ℕ → Place2 → (offset before n : ℕ) → ℕ
+offset_after sizes Const offset before n = offset % 256 ^ n
+offset_after sizes Unique offset before n = offset + before
+offset_after sizes (In space) offset before n =
+    (offset + before) % 256 ^ slice_index sizes space.0
+
+abbrev pub narrow : Endian → List ℕ → Varnode → Size → Varnode
+narrow endian sizes v n = record {
+  place = v.place;
+  offset = offset_after sizes v.place v.offset (bytes_before endian v.size.bytes n.bytes) n.bytes;
+  size = n;
+}
 
 -- ---- operations
 

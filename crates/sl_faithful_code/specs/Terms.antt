@@ -1,10 +1,11 @@
--- law: the operations of expressions. What is a varnode already, as a register or a number, has
--- none; the value of anything else is put where its reader wants it.
+-- law: the operations of expressions. What is a varnode already, as a register, a number or the
+-- lowest bytes of what a name stands for, has none; the value of anything else is put where its
+-- reader wants it.
 use Rattle.std.specs.Prelude.{ℕ, ℤ, pos, negsuc, ◌+◌, ◌%◌, ◌^◌, nat_le}
 use Rattle.std.specs.Prelude.{if◌then◌else◌, List, [], ◌∷◌, ◌++◌, Option, Some, None}
 use Rattle.sl_faithful_code.specs.Bits.{bits_into}
 use Rattle.sl_faithful_code.specs.Operations.{Operation, amount, at_temp, binary, call_user, constant}
-use Rattle.sl_faithful_code.specs.Operations.{in_space, load_from, range_of, temporary, unary}
+use Rattle.sl_faithful_code.specs.Operations.{in_space, load_from, narrow, range_of, temporary, unary}
 use Rattle.sl_section_equations.specs.Equations.{size_at}
 use Rattle.sl_meaning_sections.specs.References.{Reference, Setting, local, memory, number, storage}
 use Rattle.sl_meaning_sections.specs.Values.{Frame, meant, space_of}
@@ -49,6 +50,11 @@ abbrev pub two_operands : Op2 → Order → (out a b : Varnode) → Operation
 two_operands f AsWritten out a b = binary f out a b
 two_operands f Exchanged out a b = binary f out b a
 
+-- a view: the lowest bytes of a varnode, where there is one
+abbrev pub view : Setting → Option Varnode → Size → Option Varnode
+view g None n = None
+view g (Some v) n = Some (narrow g.endian g.sizes v n)
+
 module _ (g : Setting) (f : Frame) where
   abbrev pub symbol_leaf : Symbol → Size → Option Varnode
   symbol_leaf (s.bit_range space offset k low count) n = None
@@ -57,12 +63,18 @@ module _ (g : Setting) (f : Frame) where
   abbrev pub size_of : Term → Size
   size_of e = f.size (variable_of e)
 
+  -- the varnode that a name stands for
+  abbrev pub name_leaf : Term → Option Varnode
+  name_leaf (s.name a x) = symbol_leaf a (f.size x)
+  name_leaf (s.paren e x) = name_leaf e
+  name_leaf _ = None
+
   abbrev pub term_leaf : Term → Option Varnode
   term_leaf (s.number v x) = Some (constant (v % 256 ^ (f.size x).bytes) (f.size x))
   term_leaf (s.sized v n x) = Some (constant (v % 256 ^ (f.size x).bytes) (f.size x))
   term_leaf (s.name a x) = symbol_leaf a (f.size x)
   term_leaf (s.paren e x) = term_leaf e
-  term_leaf (s.kept e n x) = None
+  term_leaf (s.kept e n x) = view g (name_leaf e) (f.size x)
   term_leaf (s.dropped e n x) = None
   term_leaf (s.bits e low count x) = None
   term_leaf (s.load space n e x) = None
@@ -108,9 +120,9 @@ module _ (top : ℕ) where
           unary Copy out (constant (v % 256 ^ (f.size x).bytes) (f.size x)) ∷ []
       term_into t (s.name a x) out = symbol_into t a out
       term_into t (s.paren e x) out = term_into t e out
-      term_into t (s.kept e n x) out =
-          code_before (term_leaf g f e) (term_into t e (temp_of t e))
-          ++ binary Subpiece out (term_operand t e) (amount 0) ∷ []
+      term_into t (s.kept e n x) out = copied (view g (name_leaf g f e) (f.size x)) out
+          (code_before (term_leaf g f e) (term_into t e (temp_of t e))
+          ++ binary Subpiece out (term_operand t e) (amount 0) ∷ [])
       term_into t (s.dropped e n x) out =
           code_before (term_leaf g f e) (term_into t e (temp_of t e))
           ++ binary Subpiece out (term_operand t e) (amount n) ∷ []

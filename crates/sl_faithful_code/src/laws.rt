@@ -1,6 +1,7 @@
 //! Laws of the code of instructions.
 
 ghost use Rattle.sl_faithful_code.specs.Fitting.{SectionsFit};
+ghost use Rattle.sl_faithful_code.specs.Narrow.{NarrowHasLowestBytes};
 ghost use Rattle.sl_faithful_code.specs.Nodes.{CodeIsFaithful};
 
 /// A list of well-formed operations that are those of an instruction does what the instruction
@@ -8,6 +9,12 @@ ghost use Rattle.sl_faithful_code.specs.Nodes.{CodeIsFaithful};
 #[tactic(auto, using(crate::proofs::Nodes::code_is_faithful))]
 pub fn code_is_faithful()
     ensures { CodeIsFaithful }
+{}
+
+/// The lowest bytes of a varnode, as a varnode, have its value, cut to them.
+#[tactic(auto, using(crate::proofs::Narrow::narrow_has_lowest_bytes))]
+pub fn narrow_has_lowest_bytes()
+    ensures { NarrowHasLowestBytes }
 {}
 
 /// Where the sizes of a section meet its equations and keep rule 40, and its names keep their

@@ -6,7 +6,7 @@ use Rattle.sl_faithful_code.specs.Bits.{bits_into, bits_put, clear, cleared, bit
 use Rattle.sl_faithful_code.specs.Nodes.{children_code, node_code}
 use Rattle.sl_faithful_code.specs.Operations.{Operation, amount, at_temp, binary, call_user, constant, exit, exit_if, in_space, load_from, range_of, store_to, temporary, unary}
 use Rattle.sl_faithful_code.specs.Statements.{direct, label_at, memory_put, reference_bits, reference_set, set_bits_code, set_code, step_code, step_length, steps_code, store_code, symbol_before, symbol_bits, symbol_operand}
-use Rattle.sl_faithful_code.specs.Terms.{code_before, copied, number_leaf, operand, read_into, read_leaf, size_of, symbol_into, symbol_leaf, temp_of, term_before, term_into, term_leaf, term_operand, terms_before, terms_operands, two_operands}
+use Rattle.sl_faithful_code.specs.Terms.{code_before, copied, name_leaf, number_leaf, operand, read_into, read_leaf, size_of, symbol_into, symbol_leaf, temp_of, term_before, term_into, term_leaf, term_operand, terms_before, terms_operands, two_operands, view}
 use Rattle.sl_section_equations.specs.Equations.{size_at}
 use Rattle.sl_meaning_sections.specs.Nodes.{Node, Operands, child, cut_to, export_reference, exported, frame_of, given, no_operands, node, reference_of, references_of, term_reference}
 use Rattle.sl_meaning_sections.specs.References.{Reference, Setting, local, memory, number, storage}
@@ -109,6 +109,10 @@ before_length (Some v) os = omega arith
 copied_length : (leaf : Option Varnode) (out : Varnode) (o : Operation) → length (copied leaf out (o ∷ [])) ≤ 1
 copied_length None out o = omega arith
 copied_length (Some v) out o = omega arith
+
+copied_most : (leaf : Option Varnode) (out : Varnode) (os : List Operation) (most : ℕ) → 1 ≤ most → length os ≤ most → length (copied leaf out os) ≤ most
+copied_most None out os most some le = le
+copied_most (Some v) out os most some le = omega (arith, some)
 
 -- ---- bits
 
@@ -227,8 +231,9 @@ module _ (top : ℕ) where
       term_length (s.paren e x) t out = let h = term_length e t out in omega (arith, h)
       term_length (s.kept e k x) t out =
           let h = term_length e t (temp_of top g f t e) in let h' = before e t in
+          let code = term_before top g f t e ++ binary two.Subpiece out (term_operand top g f t e) (amount 0) ∷ [] in
           let len = length-append (term_before top g f t e) (binary two.Subpiece out (term_operand top g f t e) (amount 0) ∷ []) in
-          omega (arith, h, h', len)
+          copied_most (view g (name_leaf g f e) (f.size x)) out code (4096 * (term_parts e + 1)) (omega arith) (omega (arith, h, h', len))
       term_length (s.dropped e k x) t out =
           let h = term_length e t (temp_of top g f t e) in let h' = before e t in
           let len = length-append (term_before top g f t e) (binary two.Subpiece out (term_operand top g f t e) (amount k) ∷ []) in

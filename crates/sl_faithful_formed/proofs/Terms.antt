@@ -1,13 +1,13 @@
 -- The operations of an expression are well formed.
 use Rattle.std.proofs.Common.{◌≡◌, ℕ, ◌+◌, ◌-◌, ◌*◌, ◌%◌, ◌^◌, ◌<◌, ◌≤◌, Bool, true, false, List, [], ◌∷◌, ◌++◌, Option, Some, None, refl, sym, ap, subst, arith, pos, negsuc}
-use Rattle.std.specs.Prelude.{ℤ, ◌&&◌, if◌then◌else◌, nat_le, nat_lt}
+use Rattle.std.specs.Prelude.{ℤ, ◌&&◌, if◌then◌else◌, nat_le, nat_lt, slice_index}
 use Rattle.std.proofs.lemmas.Bool.Decides.{nat_tests}
 use Rattle.std.proofs.lemmas.Nat.{mod_below}
 use Rattle.std.proofs.lemmas.List.Elements.{All-cons, All-nil}
 use Rattle.sl_faithful_code.specs.Bits.{bits_by_mask, bits_by_shifts, bits_into, clear_above, has_mask, lower, lowered, ones, shorten, shortened}
 use Rattle.sl_faithful_code.specs.Fits.{ReferenceFits, SymbolFits, TermFits, TermsFit}
-use Rattle.sl_faithful_code.specs.Operations.{Operation, amount, at_temp, binary, call_user, constant, in_space, load_from, range_of, temporary, unary}
-use Rattle.sl_faithful_code.specs.Terms.{code_before, copied, operand, read_into, read_leaf, size_of, symbol_into, symbol_leaf, term_before, term_into, term_leaf, term_operand, terms_before, terms_operands, two_operands}
+use Rattle.sl_faithful_code.specs.Operations.{Operation, amount, at_temp, binary, bytes_before, call_user, constant, in_space, load_from, narrow, offset_after, range_of, temporary, unary}
+use Rattle.sl_faithful_code.specs.Terms.{code_before, copied, name_leaf, operand, read_into, read_leaf, size_of, symbol_into, symbol_leaf, term_before, term_into, term_leaf, term_operand, terms_before, terms_operands, two_operands, view}
 use Rattle.sl_faithful_code.proofs.Numbers.{eight}
 use Rattle.sl_faithful_code.proofs.Bits.{moved_size, ones_low}
 use Rattle.sl_faithful_code.proofs.Lands.{placed}
@@ -15,9 +15,9 @@ use Rattle.sl_faithful_code.proofs.Operators.{left_true, right_true}
 use Rattle.sl_section_equations.specs.Equations.{size_at}
 use Rattle.sl_meaning_sections.specs.References.{Reference, Setting, local, memory, number, storage}
 use Rattle.sl_meaning_sections.specs.Values.{Frame, meant, reference_at, space_of}
-use Rattle.sl_pcode.specs.WellFormed.{IsAmount, IsInRange, IsWritable, ReadsInRange}
+use Rattle.sl_pcode.specs.WellFormed.{IsAmount, IsAtPlace, IsInRange, IsWritable, ReadsInRange}
 use Rattle.sl_pcode.specs.declared.varnode.Place2.{Place2}
-use Rattle.sl_pcode.specs.declared.varnode.Place2.TheVariants.{Unique}
+use Rattle.sl_pcode.specs.declared.varnode.Place2.TheVariants.{Const, Unique, In}
 use Rattle.sl_pcode.specs.declared.varnode.Varnode.{Varnode}
 use Rattle.sl_section_flat.specs.Sections as s
 use Rattle.sl_section_flat.specs.Sections.{Symbol, Term, Terms}
@@ -31,6 +31,8 @@ use Rattle.sl_word.specs.Operations.{TakesSizes1, TakesSizes2}
 use Rattle.sl_word.specs.declared.operation.Op1.TheVariants as one
 use Rattle.sl_word.specs.declared.operation.Op2.{Op2}
 use Rattle.sl_word.specs.declared.operation.Op2.TheVariants as two
+use Rattle.sl_word.specs.declared.word.Endian.{Endian}
+use Rattle.sl_word.specs.declared.word.Endian.TheVariants.{Little, Big}
 use Rattle.sl_word.specs.declared.word.Size.{Size}
 use Rattle.sl_word.proofs.InRange.{residue_below}
 use Rattle.sl_word.proofs.Powers.{bytes_pos}
@@ -239,12 +241,42 @@ module _ (g : Setting) (is : IsMachine g) (Local : (node x n : ℕ) → Type 0) 
     literal_range : (v : ℕ) (n : Size) → v % 256 ^ n.bytes < 256 ^ n.bytes
     literal_range v n = mod_below v (256 ^ n.bytes) (bytes_pos n.bytes)
 
+    -- ---- the lowest bytes of what a name stands for
+
+    narrow_at : (endian : Endian) (place : Place2) (offset size n : ℕ) → n ≤ size → IsAtPlace g.sizes place offset size → IsAtPlace g.sizes place (offset_after g.sizes place offset (bytes_before endian size n) n) n
+    narrow_at endian Const offset size n le range = mod_below offset (256 ^ n) (bytes_pos n)
+    narrow_at Little Unique offset size n le range = omega (arith, le, range)
+    narrow_at Big Unique offset size n le range = omega (arith, le, range)
+    narrow_at endian (In space) offset size n le range = (range.0, mod_below _ (256 ^ slice_index g.sizes space.0) (bytes_pos (slice_index g.sizes space.0)))
+
+    name_reads : (e : Term) (v : Varnode) → name_leaf g f e ≡ Some v → TermFits Local g f e → TermIsFormed g f e → Reads (size_of g f e) v
+    name_reads (s.name a x) v is fits formed = subst (λ leaf. Reads (f.size x) (operand leaf (at_temp top 0 (f.size x)))) is (symbol_reads a (f.size x) 0 fits formed (omega arith))
+    name_reads (s.paren e x) v is fits formed = name_reads e v is fits formed
+    name_reads (s.number k x) v is fits formed = absurd (let no : ⊥ = cc in no)
+    name_reads (s.sized k n x) v is fits formed = absurd (let no : ⊥ = cc in no)
+    name_reads (s.kept e k x) v is fits formed = absurd (let no : ⊥ = cc in no)
+    name_reads (s.dropped e k x) v is fits formed = absurd (let no : ⊥ = cc in no)
+    name_reads (s.bits e low' count x) v is fits formed = absurd (let no : ⊥ = cc in no)
+    name_reads (s.load space k e x) v is fits formed = absurd (let no : ⊥ = cc in no)
+    name_reads (s.one op e x) v is fits formed = absurd (let no : ⊥ = cc in no)
+    name_reads (s.two op order a b x) v is fits formed = absurd (let no : ⊥ = cc in no)
+    name_reads (s.user op es x) v is fits formed = absurd (let no : ⊥ = cc in no)
+
+    narrow_range : (e : Term) (n : Size) (v : Varnode) → name_leaf g f e ≡ Some v → TermFits Local g f e → TermIsFormed g f e → n.bytes ≤ (size_of g f e).bytes → IsInRange g.sizes (narrow g.endian g.sizes v n)
+    narrow_range e n v is fits formed narrower =
+        let reads = name_reads e v is fits formed in
+        narrow_at g.endian v.place v.offset v.size.bytes n.bytes (subst (λ (k : Size). n.bytes ≤ k.bytes) (sym reads.size) narrower) reads.range
+
+    view_reads : (e : Term) (n : Size) (leaf : Option Varnode) (t : ℕ) → name_leaf g f e ≡ leaf → TermFits Local g f e → TermIsFormed g f e → n.bytes ≤ (size_of g f e).bytes → t ≤ 1048576 → Reads n (operand (view g leaf n) (at_temp top t n))
+    view_reads e n None t is fits formed narrower le = record { range = temp_range t n le; size = refl }
+    view_reads e n (Some v) t is fits formed narrower le = record { range = narrow_range e n v is fits formed narrower; size = refl }
+
     pub term_reads : (e : Term) (t : ℕ) → TermFits Local g f e → TermIsFormed g f e → t ≤ 1048576 → Reads (size_of g f e) (term_operand top g f t e)
     term_reads (s.number v x) t fits formed le = record { range = literal_range v (f.size x); size = refl }
     term_reads (s.sized v k x) t fits formed le = record { range = literal_range v (f.size x); size = refl }
     term_reads (s.name a x) t fits formed le = symbol_reads a (f.size x) t fits formed le
     term_reads (s.paren e x) t fits formed le = term_reads e t fits formed le
-    term_reads (s.kept e k x) t fits formed le = record { range = temp_range t (f.size x) le; size = refl }
+    term_reads (s.kept e k x) t fits formed le = view_reads e (f.size x) (name_leaf g f e) t refl fits.0 formed.0 formed.1 le
     term_reads (s.dropped e k x) t fits formed le = record { range = temp_range t (f.size x) le; size = refl }
     term_reads (s.bits e low' count x) t fits formed le = record { range = temp_range t (f.size x) le; size = refl }
     term_reads (s.load space k e x) t fits formed le = record { range = temp_range t (f.size x) le; size = refl }
@@ -284,6 +316,18 @@ module _ (g : Setting) (is : IsMachine g) (Local : (node x n : ℕ) → Type 0) 
         let there = subst (λ n. TakesSizes2 op q.size.bytes n out.size.bytes 0) (sym (size_bytes a p reads)) (subst (λ k. TakesSizes2 op k (size_of g f a).bytes out.size.bytes 0) (sym (size_bytes b q reads')) takes) in
         binary_stands g.sizes op out q p (any_number op q.size.bytes p.size.bytes out.size.bytes 0 p.offset apart there) (no_amount op p apart) writes reads'.range reads.range
 
+    -- the lowest bytes are put into a varnode
+    kept_fine : (e : Term) (n : Size) (leaf : Option Varnode) (place : Place2) (offset t : ℕ) → name_leaf g f e ≡ leaf → Writable (placed place offset n) → TermFits Local g f e → TermIsFormed g f e × (n.bytes ≤ (size_of g f e).bytes) → t ≤ 1048576 → Fine (term_before top g f t e)
+        → Fine (copied (view g leaf n) (placed place offset n) (term_before top g f t e ++ binary two.Subpiece (placed place offset n) (term_operand top g f t e) (amount 0) ∷ []))
+    kept_fine e n None place offset t is writes fits formed le before =
+        let out = placed place offset n in
+        let a = term_operand top g f t e in
+        let reads = term_reads e t fits formed.0 le in
+        straight_append g.sizes (term_before top g f t e) (binary two.Subpiece out a (amount 0) ∷ []) before
+        (binary_stands g.sizes two.Subpiece out a (amount 0) (omega (arith, size_bytes e a reads, formed.1)) refl writes reads.range (amount_fits g.sizes 0 (omega arith)), tt)
+    kept_fine e n (Some v) place offset t is writes fits formed le before =
+        (unary_stands g.sizes one.Copy (placed place offset n) (narrow g.endian g.sizes v n) refl writes (narrow_range e n v is fits formed.0 formed.1), tt)
+
     mutual
       pub term_fine : (e : Term) (place : Place2) (offset t : ℕ) → Writable (placed place offset (size_of g f e)) → TermFits Local g f e → TermIsFormed g f e → t + term_parts e ≤ 1048576 → Fine (term_into top g f t e (placed place offset (size_of g f e)))
       term_fine (s.number v x) place offset t writes fits formed le =
@@ -293,12 +337,8 @@ module _ (g : Setting) (is : IsMachine g) (Local : (node x n : ℕ) → Type 0) 
       term_fine (s.name a x) place offset t writes fits formed le = symbol_fine a place offset (f.size x) t writes fits formed (omega arith)
       term_fine (s.paren e x) place offset t writes fits formed le = term_fine e place offset t writes fits formed (omega arith)
       term_fine (s.kept e k x) place offset t writes fits formed le =
-          let out = placed place offset (f.size x) in
-          let a = term_operand top g f t e in
-          let reads = term_reads e t fits formed.0 (omega arith) in
-          let before = fine_before (term_leaf g f e) _ (term_fine e Unique (top + t * 16) t (temp_writable t (size_of g f e) (omega arith)) fits formed.0 (omega arith)) in
-          straight_append g.sizes (term_before top g f t e) (binary two.Subpiece out a (amount 0) ∷ []) before
-          (binary_stands g.sizes two.Subpiece out a (amount 0) (omega (arith, size_bytes e a reads, formed.1)) refl writes reads.range (amount_fits g.sizes 0 (omega arith)), tt)
+          let before = fine_before (term_leaf g f e) _ (term_fine e Unique (top + t * 16) t (temp_writable t (size_of g f e) (omega arith)) fits.0 formed.0 (omega arith)) in
+          kept_fine e (f.size x) (name_leaf g f e) place offset t refl writes fits.0 formed (omega arith) before
       term_fine (s.dropped e k x) place offset t writes fits formed le =
           let out = placed place offset (f.size x) in
           let a = term_operand top g f t e in

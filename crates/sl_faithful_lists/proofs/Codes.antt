@@ -15,9 +15,10 @@ use Rattle.sl_faithful_code.specs.Statements.{child_code, direct, label_at, memo
 use Rattle.sl_faithful_code.specs.Statements.{reference_bits, reference_set, section_code, set_bits_code}
 use Rattle.sl_faithful_code.specs.Statements.{set_code, step_code, step_length, steps_code, store_code}
 use Rattle.sl_faithful_code.specs.Statements.{symbol_before, symbol_bits, symbol_operand}
-use Rattle.sl_faithful_code.specs.Terms.{code_before, number_leaf, operand, read_into, read_leaf}
+use Rattle.sl_faithful_code.specs.Terms.{code_before, name_leaf, number_leaf, operand, read_into, read_leaf}
 use Rattle.sl_faithful_code.specs.Terms.{size_of, symbol_into, symbol_leaf, temp_of, term_before, term_into}
-use Rattle.sl_faithful_code.specs.Terms.{term_leaf, term_operand, terms_before, terms_operands, two_operands}
+use Rattle.sl_faithful_code.specs.Terms.{term_leaf, term_operand, terms_before, terms_operands}
+use Rattle.sl_faithful_code.specs.Terms.{two_operands, view}
 use Rattle.sl_section_equations.specs.Equations.{size_at}
 use Rattle.sl_faithful_lists.proofs.Operations.{AllLead, Leads, binary_leads, lead_append}
 use Rattle.sl_faithful_lists.proofs.Operations.{lead_before, lead_choice, lead_copied, lead_taken}
@@ -241,12 +242,14 @@ module _ (top : ℕ) (g : Setting) (userops : ℕ) where
         term_leads t (s.name a x) out h = symbol_leads t a out
         term_leads t (s.paren e x) out h = term_leads t e out h
         term_leads t (s.kept e n x) out h =
-            followed (term_before top g f t e)
-            (binary Subpiece out (term_operand top g f t e) (amount 0))
+            let piece = binary Subpiece out (term_operand top g f t e) (amount 0) in
+            lead_copied g.default userops (view g (name_leaf g f e) (f.size x)) out
+            (term_before top g f t e ++ piece ∷ [])
+            (followed (term_before top g f t e) piece
             (lead_before g.default userops (term_leaf g f e)
             (term_into top g f t e (temp_of top g f t e))
             (term_leads t e (temp_of top g f t e) h))
-            (two_leads Subpiece out (term_operand top g f t e) (amount 0))
+            (two_leads Subpiece out (term_operand top g f t e) (amount 0)))
         term_leads t (s.dropped e n x) out h =
             followed (term_before top g f t e)
             (binary Subpiece out (term_operand top g f t e) (amount n))
