@@ -10,7 +10,7 @@ mod regions;
 mod solving;
 
 pub use lists::{Test, passing};
-pub use regions::{all_lists, least, narrowed};
+pub use regions::{all_lists, least, narrow_one, narrowed};
 pub use solving::{Demand, solve};
 
 /// What is known of a byte: its bits under the mask are those of the value.

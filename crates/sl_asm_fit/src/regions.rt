@@ -32,7 +32,7 @@ pub fn copied(alloc: Global, cells: &[Cell]) -> Result<Vec<Cell>, AllocError>
 
 /// Whether the region has lists whose byte at the index fits the cell; then it is narrowed to them.
 /// A byte behind its end is 0.
-fn narrow_one(region: &mut Vec<Cell>, index: usize, cell: &Cell) -> bool
+pub fn narrow_one(region: &mut Vec<Cell>, index: usize, cell: &Cell) -> bool
     ensures { NarrowsIf result region.old.items index cell.now region.new.items }
 {
     if index < region.len() {

@@ -1,18 +1,19 @@
 -- Bits of fields, and their values in two's complement.
 use Rattle.std.proofs.Common.{◌≡◌, ℕ, suc, ◌+◌, ◌-◌, ◌*◌, ◌/◌, ◌%◌, ◌^◌, ◌<◌, ◌≤◌, min, bit_and, bit_or, Bool, true, false, arith, refl, sym, ap, subst, ◌∙◌, inl, inr}
-use Rattle.std.specs.Prelude.{ℤ, pos, negsuc, nat_lt, if◌then◌else◌}
-use Rattle.std.specs.Int.{bit_at, cast_signed, int_shr, w64}
-use Rattle.std.proofs.Math.Facts.{to_z-neg}
+use Rattle.std.specs.Prelude.{ℤ, pos, negsuc, nat_lt, if◌then◌else◌, FitsSigned}
+use Rattle.std.specs.Int.{bit_at, cast_signed, cast_unsigned, int_shr, w64}
+use Rattle.std.proofs.Math.Facts.{Fits-of_lt, sfits_to_z, to_z-neg}
 use Rattle.std.proofs.Math.Nat.{mod-eq_of_lt, pow-le-pow_right}
 use Rattle.std.proofs.lemmas.Bool.{cases_lt, lt-ltb}
-use Rattle.std.proofs.lemmas.Int.{to_z_pos}
+use Rattle.std.proofs.lemmas.Int.{of_z-to_z, to_z_pos}
 use Rattle.std.proofs.lemmas.Nat.{div-mul-add, mod_below, mul-le, or_lt, pow-add, pow_pos, shl-shr, shl_below, shr_le, shr_split}
 use Rattle.std.proofs.lemmas.Nat.Bits.{bit_at_above, bit_at_cat_low, bit_at_not, bit_at_ones, bit_at_ones_above, bit_at-lt}
 use Rattle.sl_asm_bits.proofs.BitLemmas.{at_and, at_or, one_of_64}
 use Rattle.sl_asm_bits.proofs.NumberLemmas.{signed_has}
-use Rattle.sl_asm_bits.proofs.ShiftLemmas.{shifted_at}
+use Rattle.sl_asm_bits.proofs.ShiftLemmas.{moved_at, raised_high, shifted_at, shr_fits}
 use Rattle.sl_asm_bits.specs.Known.{Has, HasBits}
 use Rattle.sl_asm_bits.specs.declared.Known.{Known}
+use Rattle.sl_asm_known.specs.FieldBits.{HasKnownBits}
 use Rattle.sl_cube.specs.Bits.{Agrees}
 use Rattle.sl_spec.proofs.FieldLemmas.{signed_value, unsigned_value}
 use Rattle.sl_spec.specs.FieldValues.{bits_of, signed_of, value_of}
@@ -132,6 +133,52 @@ module _ (r w up : ℕ) (inside : r < 2 ^ w) (whole : w + up ≡ 64) (some : 1 �
     | inl lt ↦ low_moved lt
     | inr le ↦ high_moved le
   ]
+
+-- ---- a field's bits, by its own value or by its code
+
+pub part_bit : (low high n i : ℕ) → i < suc high - low → bit_at (bits_of low high n) i ≡ bit_at n (low + i)
+part_bit low high n i lt = mod_at (n / 2 ^ low) (suc high - low) i lt ∙ shifted_at n low i
+
+pub code_known : (f : Field) (k : Known) (n : ℕ) → Has k (bits_of f.low f.high n) → HasKnownBits f k n
+code_known f k n h = λ i lt on. sym (part_bit f.low f.high n i lt) ∙ h i on
+
+module _ (f : Field) (n : ℕ) (some : 1 ≤ suc f.high - f.low) (most : suc f.high - f.low ≤ 64) where
+  abbrev wide : ℕ
+  wide = suc f.high - f.low
+
+  abbrev code : ℕ
+  code = bits_of f.low f.high n
+
+  abbrev up : ℕ
+  up = 64 - wide
+
+  moved : ℕ
+  moved = code * 2 ^ up % 2 ^ 64
+
+  pub own_bit : (signed : Bool) → f.signed ≡ signed → (i : ℕ) → i < wide → bit_at (cast_unsigned w64 (value_of f n)) i ≡ bit_at n (f.low + i)
+  unfolding moved
+  own_bit false plain i lt =
+      let small : code < 2 ^ 64 = within wide code most (bits_small f.low f.high n) in
+      ap (λ (z : ℤ). bit_at (cast_unsigned w64 z) i) (sym (unsigned_value f n code plain small refl))
+      ∙ ap (λ (x : ℕ). bit_at x i) (of_z-to_z w64 code small) ∙ part_bit f.low f.high n i lt
+  own_bit true signed i lt =
+      let whole : wide + up ≡ 64 = omega (arith, most) in
+      let low : up < 64 = omega (arith, some, most) in
+      let small : moved < 2 ^ 64 = omega arith in
+      let there : i < 64 = omega (arith, lt, most) in
+      let z : ℤ = int_shr (cast_signed w64 moved) up in
+      let fits : FitsSigned w64 z = shr_fits (cast_signed w64 moved) up (sfits_to_z {w = w64} {n = moved} (Fits-of_lt {w = w64} {n = moved} small)) in
+      let is : z ≡ value_of f n = signed_value f n z signed fits (signed_moved code wide up (bits_small f.low f.high n) whole some) in
+      let place : min (i + up) 63 ≡ i + up = omega (arith, lt, most) in
+      let above : i + up < 64 = omega (arith, lt, most) in
+      let past : up ≤ i + up = omega arith in
+      let back : i + up - up ≡ i = omega arith in
+      ap (λ (y : ℤ). bit_at (cast_unsigned w64 y) i) (sym is) ∙ moved_at moved up (cast_unsigned w64 z) i small low there refl
+      ∙ ap (λ (j : ℕ). bit_at moved j) place ∙ raised_high code up (i + up) above past ∙ ap (λ (j : ℕ). bit_at code j) back
+      ∙ part_bit f.low f.high n i lt
+
+  pub own_known : (k : Known) → HasBits k (value_of f n) → HasKnownBits f k n
+  own_known k h = λ i lt on. sym (own_bit f.signed refl i lt) ∙ h.bits i on
 
 pub signed_field : (f : Field) (n up : ℕ) (k : Known) → f.signed ≡ true → 1 ≤ suc f.high - f.low → suc f.high - f.low + up ≡ 64
     → HasBits k (int_shr (cast_signed w64 (bits_of f.low f.high n * 2 ^ up % 2 ^ 64)) up) → HasBits k (value_of f n)

@@ -3,3 +3,4 @@ pub mod FieldLemmas
 pub mod EntryLemmas
 pub mod HalfLemmas
 pub mod ValueLemmas
+pub mod BitsLemmas

@@ -167,15 +167,19 @@ module _ (region : List Cell) (e mine : Endian) (size at i t : ℕ) (old new : K
 pub token_begun : (e : Endian) (ws : List ℕ) (k : Known) → Has k 0 → Has k (read_first e ws 0)
 token_begun e ws k h = subst (λ (n : ℕ). Has k n) (sym (read_none e ws)) h
 
-pub token_done : (token : Token) (xs : List ℕ) (size at place i : ℕ) (k : Known) → size ≡ token.bits / 8 → at + size ≤ window → at ≡ min place (2 ^ 64 - 1) → i ≡ size
-    → Has k (read_first token.endian (part_at size at xs) i) → Has k (token_number token (with_zeros xs) place)
-token_done token xs size at place i k bytes within is whole h =
+-- the number that all bytes of a whole token stand for is its integer
+pub token_is : (token : Token) (xs : List ℕ) (size at place i : ℕ) → size ≡ token.bits / 8 → at + size ≤ window → at ≡ min place (2 ^ 64 - 1) → i ≡ size
+    → read_first token.endian (part_at size at xs) i ≡ token_number token (with_zeros xs) place
+token_is token xs size at place i bytes within is whole =
     let here : at ≡ place = omega (arith, within, is) in
     let fits : place + token.bits / 8 ≤ window = omega (arith, within, here, bytes) in
     let all : i ≡ length (part_at size at xs) = whole ∙ sym (part_long size at xs within) in
     let same : part_at size at xs ≡ part_at (token.bits / 8) place xs = λ j. part_at (bytes j) (here j) xs in
-    subst (λ (n : ℕ). Has k n)
-    (read_all token.endian (part_at size at xs) i all ∙ ap (token_integer token.endian) same ∙ sym (token_whole token xs place fits)) h
+    read_all token.endian (part_at size at xs) i all ∙ ap (token_integer token.endian) same ∙ sym (token_whole token xs place fits)
+
+pub token_done : (token : Token) (xs : List ℕ) (size at place i : ℕ) (k : Known) → size ≡ token.bits / 8 → at + size ≤ window → at ≡ min place (2 ^ 64 - 1) → i ≡ size
+    → Has k (read_first token.endian (part_at size at xs) i) → Has k (token_number token (with_zeros xs) place)
+token_done token xs size at place i k bytes within is whole h = subst (λ (n : ℕ). Has k n) (token_is token xs size at place i bytes within is whole) h
 
 pub token_none : (token : Token) (xs : List ℕ) (size at place : ℕ) (k : Known) → size ≡ token.bits / 8 → size ≤ window → window - size < at → at ≡ min place (2 ^ 64 - 1)
     → Has k 0 → Has k (token_number token (with_zeros xs) place)

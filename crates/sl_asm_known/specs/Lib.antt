@@ -2,3 +2,4 @@ pub mod Tokens
 pub mod Frames
 pub mod OpenBits
 pub mod Verdicts
+pub mod FieldBits

@@ -1,4 +1,4 @@
--- step: tokens, byte by byte.
+-- view: tokens, byte by byte.
 use Rattle.std.specs.Prelude.{ℕ, ◌+◌, ◌-◌, ◌/◌, nat_le, List, length, take, drop, if◌then◌else◌}
 use Rattle.sl_spec.specs.FieldValues.{token_integer}
 use Rattle.sl_spec.specs.Tables.{Token}

@@ -36,7 +36,7 @@ fn byte_at(region: &[Cell], index: usize) -> Cell
 }
 
 /// Which of a token's bytes is read at a step, the most significant one first.
-fn turn(endian: Endian, size: u64, step: u64) -> u64
+pub(crate) fn turn(endian: Endian, size: u64, step: u64) -> u64
     requires { step < size }
     ensures value { result ≡ turn endian size step }
     ensures within { result < size }

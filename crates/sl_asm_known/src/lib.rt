@@ -5,11 +5,13 @@
 mod fields;
 mod halves;
 mod judging;
+mod narrowing;
 mod order;
 mod values;
 
 pub use halves::half;
 pub use judging::{Verdict, judge};
+pub use narrowing::{narrowed_by_bits, narrowed_by_own};
 pub use order::next_bit;
 use sl_asm_bits::Known;
 pub use values::known;

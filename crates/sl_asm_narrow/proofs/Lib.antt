@@ -1,5 +1,4 @@
 pub mod ReadingLemmas
 pub mod NodeLemmas
 pub mod OperandLemmas
-pub mod PointLemmas
 pub mod SpotLemmas

@@ -3,6 +3,7 @@ use Rattle.std.proofs.Common.{◌≡◌, ℕ, zero, suc, ◌+◌, ◌%◌, ◌^�
 use Rattle.std.specs.Prelude.{All, Contains, option_map, slice_get}
 use Rattle.std.specs.List.{flat_map, range_with_len}
 use Rattle.std.proofs.lemmas.Bool.{both_ways, cases_lt}
+use Rattle.std.proofs.lemmas.List.{append-nil}
 use Rattle.std.proofs.lemmas.Option.{none-some, same_Some, slice_get-map, slice_get_within}
 use denote.Ref.{Bor}
 use Rattle.sl_asm_bounds.specs.Bounds.{Fits, Holds, IsInCubes}
@@ -233,6 +234,12 @@ pieces_are shows parts texts e = λ k part text part_is text_is.
 pub no_texts : (shows : Part → List ℕ) (parts : List Part) → AreTexts shows parts []
 no_texts shows parts = λ k part text part_is text_is. absurd cc
 
+-- a part that is alone shows the whole text
+alone : (shows : Part → List ℕ) (parts : List Part) (text : Bor (List ℕ)) → length parts ≡ 1 → flat_map shows parts ≡ text.now → pieces (text ∷ []) ≡ map shows parts
+alone shows [] text one e = absurd (omega (arith, one))
+alone shows (part ∷ []) text one e = ap (λ (l : List ℕ). l ∷ []) (sym e ∙ append-nil (shows part))
+alone shows (part ∷ other ∷ parts) text one e = absurd (omega (arith, one))
+
 module _ (r : Reader) (s : Setting) (region : List Cell) (plan : Plan) (parts : List Part) (goal : Goal) where
   -- the bounds hold for nodes whose parts have these texts
   abbrev pub BoundsTexts : List (Bor (List ℕ)) → Option Bounds → Type 0
@@ -260,6 +267,13 @@ module _ (r : Reader) (s : Setting) (region : List Cell) (plan : Plan) (parts : 
             let items = way_is way (subst (λ (i : ℕ). slice_get ways i ≡ Some way) same there) in
             second c.bytes long after inside.long (its c inside context long text after known n' (subst (λ (l : List (Bor (List ℕ))). AreTexts (part_text (tables_of r) (spot_in c n')) parts l) items texts_are))
       ]
+
+  pub whole_text : (wanted : Bor (List ℕ)) (found : Option Bounds) → goal.text ≡ Some wanted → length parts ≡ 1 → BoundsTexts (wanted ∷ []) found
+      → BoundsPlanned r s region plan parts goal found
+  whole_text wanted found text_is one f = λ c inside context long text after known shown n.
+      let shows = part_text (tables_of r) (spot_in c n) in
+      let text_fits : wanted.now ≡ text = subst (λ (o : Option (Bor (List ℕ))). Fits (text_of o) text) text_is shown in
+      f c inside context long text after known n (pieces_are shows parts (wanted ∷ []) (alone shows parts wanted one (sym n.shows ∙ sym text_fits)))
 
   -- where all ways are gone over, one of them has the texts of the parts
   pub all_ways : (ways : List (Vec (Bor (List ℕ)) Global)) (n : ℕ) (wanted : Bor (List ℕ)) (all : Option Bounds) → goal.text ≡ Some wanted → length ways ≤ n

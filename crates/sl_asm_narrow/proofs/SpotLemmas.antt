@@ -1,37 +1,34 @@
 -- Texts of fields and of action names, and the lists that have them.
-use Rattle.std.proofs.Common.{◌≡◌, ℕ, zero, suc, ◌⊎◌, inl, inr, ◌+◌, ◌%◌, ◌^◌, ◌≤◌, ℤ, List, [], ◌∷◌, ◌++◌, length, Option, Some, None, false, Ok, refl, sym, ap, subst, ◌∙◌, arith}
+use Rattle.std.proofs.Common.{◌≡◌, ℕ, zero, suc, ◌⊎◌, inl, inr, ◌+◌, ◌≤◌, ℤ, List, [], ◌∷◌, ◌++◌, length, Option, Some, None, false, Ok, refl, sym, ap, subst, ◌∙◌, arith}
 use Rattle.std.specs.Prelude.{IfSome, MatchOption, option_map, slice_get}
 use Rattle.std.proofs.lemmas.Option.{same_Some}
 use denote.Ref.{Bor}
-use Rattle.sl_asm_bounds.specs.Bounds.{AreBetween, Fits, IsInCubes, IsOfSome}
+use Rattle.sl_asm_bounds.specs.Bounds.{AreBetween, Fits, IsAsLong, IsOfSome}
 use Rattle.sl_asm_bounds.specs.Texts.{AreTexts}
 use Rattle.sl_asm_bounds.specs.declared.operands.Lengths.{Lengths}
-use Rattle.sl_asm_fit.proofs.WindowLemmas as window
 use Rattle.sl_asm_fit.specs.Regions.{IsOf}
 use Rattle.sl_asm_fit.specs.Windows.{with_zeros}
 use Rattle.sl_asm_fit.specs.declared.Cell.{Cell}
 use Rattle.sl_asm_bits.specs.declared.Known.{Known}
+use Rattle.sl_asm_known.specs.FieldBits.{HasFieldBits, HasKnownBits, IsLeftWhere}
 use Rattle.sl_asm_known.specs.Frames.{AreOf, IsSiteOf}
 use Rattle.sl_asm_known.specs.declared.Frame.{Frame}
-use Rattle.sl_asm_narrow.proofs.PointLemmas.{same_in_point}
 use Rattle.sl_asm_narrow.specs.Candidates.{Candidate, input_of}
 use Rattle.sl_asm_narrow.specs.Nodes.{IsRead, IsWithinAll, spot_in}
 use Rattle.sl_asm_narrow.specs.declared.operands.Operands.{Operands}
 use Rattle.sl_asm_narrow.specs.Readers.{tables_of}
-use Rattle.sl_asm_narrow.specs.Spots.{AreNamesTexts, IsReadInPoints, IsSpotIn, IsTextOfName, KeepsField, KeepsPart, KeepsParts}
+use Rattle.sl_asm_narrow.specs.Spots.{AreNamesTexts, IsSpotIn, IsTextOfName, KeepsField, KeepsPart, KeepsParts}
 use Rattle.sl_asm_narrow.specs.declared.reader.Node.{Node}
 use Rattle.sl_asm_narrow.specs.declared.reader.Reader.{Reader}
 use Rattle.sl_asm_narrow.specs.declared.reader.Setting.{Setting}
-use Rattle.sl_asm_print.specs.Fields.{AddsWhere, HasText}
 use Rattle.sl_asm_values.specs.Names as v
-use Rattle.sl_cube.specs.declared.Cube.{Cube}
 use Rattle.sl_decode_leaves.specs.Extents.{extent}
 use Rattle.sl_decode_leaves.specs.Looks.{look_step}
 use Rattle.sl_decode_leaves.specs.declared.extents.Extent.{Extent}
 use Rattle.sl_decode_leaves.specs.declared.looks.Look.{Look}
 use Rattle.sl_decode_meaning.specs.Actions.{Own, own}
-use Rattle.sl_decode_meaning.specs.Decoding.{point_at, site_at}
-use Rattle.sl_decode_meaning.specs.Lookups.{shown}
+use Rattle.sl_decode_meaning.specs.Decoding.{site_at}
+use Rattle.sl_decode_meaning.specs.Lookups.{number_at, shown}
 use Rattle.sl_decode_meaning.specs.Outcomes.{in_turn}
 use Rattle.sl_decode_meaning.specs.Values.{Site, value_or_zero}
 use Rattle.sl_decode_plan.specs.Steps.{late_step}
@@ -43,28 +40,46 @@ use Rattle.sl_show.specs.Texts.{Spot, field_text, field_text_by}
 use Rattle.sl_show.specs.declared.templates.Part.{Part}
 use Rattle.sl_show.specs.declared.templates.Part.TheVariants as p
 use Rattle.sl_spec.specs.Attachments.{attached_to}
-use Rattle.sl_spec.specs.FieldValues.{token_of}
 use Rattle.sl_spec.specs.Tables.{Field}
 use Rattle.sl_spec.specs.declared.tables.Tables.{Tables}
 
 -- ---- fields
 
--- a list in which the field has the text is in one of the cubes that were added for it
-pub field_inside : (t : Tables) (id at : ℕ) (text : List ℕ) (region : List Cell) (cubes : List Cube) (bytes : List ℕ) (known : Option ℕ) (context : ℕ) → at ≤ 255
-    → IsReadInPoints t id known → ((f : Field) → slice_get t.fields id ≡ Some f → AddsWhere (HasText t id f text) [] cubes) → IsOf region bytes → Fits known context
-    → field_text t id (with_zeros bytes) at context ≡ text → IsInCubes region at known cubes bytes
-field_inside t id at text region cubes bytes known context near read adds inside fits shows =
-    let f = read.field in
-    let point = point_at (with_zeros bytes) at (context % 2 ^ 64) in
-    let same = same_in_point bytes inside.are_bytes at near t f (token_of t.tokens f) known context refl read.number fits in
-    let shows_by : field_text_by t f (attached_to id t.attached) _ ≡ text = rw read.field_is at shows in
-    record {
-      of_region = inside;
-      from = context;
-      known = fits;
-      inside = (adds f read.field_is).all point (window.in_range bytes at (context % 2 ^ 64) near inside.are_bytes (omega arith))
-          (ap (λ (n : ℕ). field_text_by t f (attached_to id t.attached) n) same ∙ shows_by);
-    }
+if_known : (o : Option ℕ) (x : ℕ) → Fits o x → IfSome o (λ c. c ≡ x)
+if_known None x fits = tt
+if_known (Some c) x fits = fits
+
+-- lists in which a field has a text, by what that says of its bits
+module _ (t : Tables) (id : ℕ) (f : Field) (at : ℕ) (context : Option ℕ) (text : List ℕ) (region : List Cell) (near : at ≤ 255) (f_is : Some f ≡ slice_get t.fields id) where
+  shown_by : (bytes : List ℕ) (from : ℕ) → field_text t id (with_zeros bytes) at from ≡ text
+      → field_text_by t f (attached_to id t.attached) (number_at t f (with_zeros bytes) at from) ≡ text
+  shown_by bytes from shows = rw (sym f_is) at shows
+
+  pub field_nowhere : ((n : ℕ) → field_text_by t f (attached_to id t.attached) n ≡ text → ⊥) → KeepsField t region id at context text None
+  field_nowhere none = λ bytes from inside fits shows. none (number_at t f (with_zeros bytes) at from) (shown_by bytes from shows)
+
+  pub field_left : (k : Known) (found : Option (List Cell)) → ((n : ℕ) → field_text_by t f (attached_to id t.attached) n ≡ text → HasKnownBits f k n)
+      → IsLeftWhere (HasFieldBits t f at context k) region found → KeepsField t region id at context text found
+  field_left k found known left = λ bytes from inside fits shows.
+      is_left found left bytes inside (record {
+        place = at;
+        place_is = omega (arith, near);
+        from = from;
+        known = if_known context from fits;
+        has = known (number_at t f (with_zeros bytes) at from) (shown_by bytes from shows);
+      })
+    where
+      is_left : (found : Option (List Cell)) → IsLeftWhere (HasFieldBits t f at context k) region found → (bytes : List ℕ) → IsOf region bytes
+          → HasFieldBits t f at context k bytes → IsOfSome found bytes
+      is_left None none bytes inside has = none bytes inside has
+      is_left (Some narrow) keeps bytes inside has = keeps.stays bytes inside has
+
+  pub field_long : (k : Known) (found : Option (List Cell)) → IsLeftWhere (HasFieldBits t f at context k) region found → IsAsLong (length region) found
+  field_long k None none = tt
+  field_long k (Some narrow) keeps = keeps.long
+
+pub no_field : (t : Tables) (id at : ℕ) (context : Option ℕ) (text : List ℕ) (region : List Cell) → KeepsField t region id at context text (Some region)
+no_field t id at context text region = λ bytes from inside fits shows. inside
 
 -- ---- parts, one by one
 

@@ -1,5 +1,5 @@
 -- step: regions narrowed by the texts of a node's fields and action names.
-use Rattle.std.specs.Prelude.{◌≡◌, ℕ, ◌<◌, ◌≤◌, ◌^◌, List, Option, None, Some, slice_get}
+use Rattle.std.specs.Prelude.{◌≡◌, ℕ, List, Option, Some, slice_get}
 use denote.Ref.{Bor}
 use Rattle.sl_asm_bounds.specs.Bounds.{AreBetween, Fits, IsOfSome}
 use Rattle.sl_asm_bounds.specs.Texts.{AreTexts}
@@ -17,8 +17,6 @@ use Rattle.sl_show.specs.Templates.{part_text}
 use Rattle.sl_show.specs.Texts.{Spot, field_text}
 use Rattle.sl_show.specs.declared.templates.Part.{Part}
 use Rattle.sl_show.specs.declared.templates.Part.TheVariants as p
-use Rattle.sl_spec.specs.FieldValues.{token_of}
-use Rattle.sl_spec.specs.Tables.{Field, Token}
 use Rattle.sl_spec.specs.declared.tables.Tables.{Tables}
 
 -- A node is at the place in the list followed by zeros, from a context that is as known, and its operands
@@ -28,18 +26,6 @@ pub record IsSpotIn (lengths : Lengths) (at : ℕ) (known : Option ℕ) (bytes :
   pub place : s.at ≡ at
   pub from : Fits known s.context
   pub between : AreBetween lengths.leasts.items lengths.mosts.items s.lengths
-
--- A point has the whole token; or, where there is no token, the context, which is known.
-abbrev pub IsInPoint : Option Token → Option ℕ → Type 0
-IsInPoint (Some token) known = token.bits ≤ 128
-IsInPoint None (Some context) = context < 2 ^ 64
-IsInPoint None None = ⊥
-
--- A point has the number that the field is read from.
-pub record IsReadInPoints (t : Tables) (id : ℕ) (known : Option ℕ) : Type 0 where
-  pub field : Field
-  pub field_is : slice_get t.fields id ≡ Some field
-  pub number : IsInPoint (token_of t.tokens field) known
 
 -- The text is that of the part that has the action name of this number.
 pub record IsTextOfName (parts : List Part) (texts : List (Bor (List ℕ))) (number : ℕ) (text : Bor (List ℕ)) : Type 0 where

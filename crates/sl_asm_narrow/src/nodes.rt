@@ -50,6 +50,16 @@ fn may_be_shown(parts: &[Part], goal: &Goal) -> bool
     }
 }
 
+/// Whether there is one part alone, and it isn't a text.
+fn is_alone(parts: &[Part]) -> bool
+    ensures { IsTrue result → length parts.now ≡ 1 }
+{
+    match parts.first() {
+        Some(Part::Text(_)) => false,
+        _ => parts.len() == 1,
+    }
+}
+
 impl Reader<'_, '_, '_> {
     /// The goal after a node's own actions, for lists of the region.
     fn after_actions<'x>(
@@ -185,6 +195,16 @@ impl Reader<'_, '_, '_> {
             let found = self.inner(alloc, setting, depth, region, &node)?;
             return Ok(found);
         };
+        if is_alone(parts) {
+            let node = Node {
+                plan,
+                parts,
+                texts: &[text],
+                goal: *goal,
+            };
+            let found = self.inner(alloc, setting, depth, region, &node)?;
+            return Ok(found);
+        }
         let ways = splits(alloc, parts, text)?;
         let mut all = None;
         'ways: for index in 0..ways.len() {

@@ -1,39 +1,23 @@
 //! A region narrowed by the texts of a node's fields and action names.
 
-ghost use Rattle.std.specs.Prelude.{◌≡◌, ◌≤◌, ℕ, IfOk, IfSome, IsTrue, Some};
+ghost use Rattle.std.specs.Prelude.{◌≡◌, ◌≤◌, ℕ, IfOk, IfSome, Some};
 ghost use Rattle.std.specs.Prelude.{length, min, option_map, slice_get};
 ghost use Rattle.sl_asm_bounds.specs.Bounds.{AreAsLong, IsAsLong};
 ghost use Rattle.sl_asm_narrow.specs.Nodes.{BoundsShown};
 ghost use Rattle.sl_asm_narrow.specs.Readers.{IsReader};
-ghost use Rattle.sl_asm_narrow.specs.Spots.{AreNamesTexts, IsReadInPoints, IsTextOfName};
+ghost use Rattle.sl_asm_narrow.specs.Spots.{AreNamesTexts, IsTextOfName};
 ghost use Rattle.sl_asm_narrow.specs.Spots.{KeepsField, KeepsNames, KeepsPart, KeepsParts};
 
 use crate::operands::Operands;
 use crate::reader::{Goal, Node, Reader, Setting};
-use sl_asm_bounds::{Bounds, Lengths, narrow_some};
+use sl_asm_bounds::{Bounds, Lengths};
 use sl_asm_fit::Cell;
-use sl_asm_known::Frame;
-use sl_asm_print::put_field;
+use sl_asm_known::{Frame, narrowed_by_bits};
+use sl_asm_print::bits_with_text;
 use sl_asm_values::narrowed_by_names;
-use sl_decode_leaves::token_of;
 use sl_show::Part;
 use sl_spec::{FieldId, Tables};
 use std::alloc::{AllocError, Global};
-
-/// Whether a point has the number that the field is read from: its whole token, or the context if
-/// that is known.
-fn is_in_points(t: &Tables, id: FieldId, context: Option<u64>) -> bool
-    ensures { IsTrue result → IsReadInPoints t.now id context }
-{
-    let Some(of) = t.fields.at(id.number() as usize) else {
-        return false;
-    };
-    match (token_of(t, of), context) {
-        (Some(token), _) => token.bits <= 128,
-        (None, Some(_)) => true,
-        (None, None) => false,
-    }
-}
 
 /// The region narrowed by the text of a field, which is read at the place and from the context.
 fn by_field(
@@ -45,23 +29,20 @@ fn by_field(
     context: Option<u64>,
     text: &[u8],
 ) -> Result<Option<Vec<Cell>>, AllocError>
-    requires place { at ≤ 255 }
-    requires long { length region.items ≤ 255 }
+    requires { at ≤ 255 }
     ensures keeps { IfOk result (λ found. KeepsField t.now region.items id at context text.now
         (option_map (λ v. v.items) found)) }
     ensures long { IfOk result (λ found. IsAsLong (length region.items)
         (option_map (λ v. v.items) found)) }
 {
-    let mut cubes = Vec::new(alloc);
-    if !is_in_points(t, id, context) {
+    let Some(of) = t.fields.at(id.number() as usize) else {
         return Ok(Some(region));
-    }
-    let known = put_field(alloc, t, id, text, &mut cubes)?;
-    if !known {
-        return Ok(Some(region));
-    }
-    let narrow = narrow_some(alloc, &region, at, context, &cubes)?;
-    Ok(narrow)
+    };
+    let known = bits_with_text(alloc, t, id, of, text)?;
+    let Some(bits) = known else {
+        return Ok(None);
+    };
+    Ok(narrowed_by_bits(t, of, region, u64::from(at), context, &bits))
 }
 
 /// The region narrowed by the text of a part.

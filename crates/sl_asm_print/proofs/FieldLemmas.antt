@@ -1,108 +1,83 @@
--- Points at which a field has a value or a text.
-use Rattle.std.proofs.Common.{◌≡◌, ℕ, suc, ◌+◌, ◌-◌, ◌*◌, ◌/◌, ◌%◌, ◌<◌, ◌≤◌, ◌^◌, List, length, Option, Some, None, Bool, ap, arith, refl, sym, subst, ◌∙◌, inl, inr, ℤ}
+-- What texts say of the bits of fields.
+use Rattle.std.proofs.Common.{◌≡◌, ℕ, suc, ◌+◌, ◌-◌, ◌*◌, ◌/◌, ◌%◌, ◌<◌, ◌≤◌, ◌^◌, List, length, below_more, Option, Some, None, Bool, ap, arith, refl, sym, ◌∙◌, inl, inr, ℤ}
 use Rattle.std.specs.Prelude.{slice_get, option_and_then}
-use Rattle.std.specs.Int.{w64}
+use Rattle.std.specs.Int.{bit_at, cast_unsigned, w64}
 use Rattle.std.specs.Int.RustNames.{FitsSigned}
-use Rattle.std.proofs.Math.Nat.{mod-lt, mod-eq_of_lt, mul-div_cancel, mul-lt-mul_of_pos_right}
-use Rattle.std.proofs.Math.Pow.{pow_mono}
 use Rattle.std.proofs.lemmas.Bool.{cases_lt}
 use Rattle.std.proofs.lemmas.Int.{SFits-int_wrap}
-use Rattle.std.proofs.lemmas.Nat.{pow-add, pow_pos}
+use Rattle.std.proofs.lemmas.Nat.Bits.{bit_at_above, same_from_bits}
 use Rattle.std.proofs.lemmas.Option.{same_Some, slice_get_past}
-use Rattle.sl_asm_print.specs.Fields.{AddsWhere, HasEntry, HasNumber, HasText, HasValue, IsShownBy, entries_count, number_of}
-use Rattle.sl_cube.specs.Points.{InRange}
-use Rattle.sl_cube.specs.declared.Cube.{Cube}
-use Rattle.sl_cube.specs.declared.Point.{Point}
+use Rattle.sl_asm_bits.proofs.ShiftLemmas.{raised_high}
+use Rattle.sl_asm_bits.specs.Known.{Has}
+use Rattle.sl_asm_bits.specs.declared.Known.{Known}
+use Rattle.sl_asm_known.proofs.FieldLemmas.{bits_small, code_known, own_bit, part_bit}
+use Rattle.sl_asm_known.specs.FieldBits.{HasSomeBits}
+use Rattle.sl_asm_print.specs.Fields.{HasCode, entries_count}
 use Rattle.sl_decode_meaning.specs.Lookups.{entry_at}
-use Rattle.sl_shape_blocks.specs.declared.compare.Relation.TheVariants.{Equal}
-use Rattle.sl_shape_constraints.specs.Places.{seen}
-use Rattle.sl_shape_constraints.specs.Sets.{Adds}
-use Rattle.sl_shape_constraints.specs.Values.{Constraint, ConstraintHolds, value_at}
 use Rattle.sl_show.specs.Numbers.{number_text}
 use Rattle.sl_show.specs.Texts.{entry_text, field_text_by, or_nothing, register_name}
 use Rattle.sl_decode_meaning.specs.Values.{value_or_zero}
 use Rattle.sl_spec.specs.Attachments.{attached_to}
-use Rattle.sl_spec.specs.FieldValues.{bits_of, field_value, read_as, value_of, wrapped}
+use Rattle.sl_spec.specs.FieldValues.{bits_of, read_as, value_of, wrapped}
 use Rattle.sl_spec.specs.Tables.{Attached, Entries, Field, registers, texts, values}
 use Rattle.sl_spec.specs.declared.tables.Tables.{Tables}
 
 -- ---- a value
-
-abbrev pub equal_to : Tables → Field → ℤ → Constraint
-equal_to t f v = record { tokens = t.tokens; field = f; relation = Equal; number = v }
-
-here : (p : Point) → InRange p → seen 0 p ≡ p
-here p range =
-    let same : p.bytes * 1 % 2 ^ 128 ≡ p.bytes = ap (λ (n : ℕ). n % 2 ^ 128) (omega arith) ∙ mod-eq_of_lt range.0 in
-    ap (λ (n : ℕ). record { bytes = n; context = p.context }) same
-
-value_here : (t : Tables) (f : Field) (v : ℤ) (p : Point) → value_at (equal_to t f v) p ≡ value_of f (number_of t f p)
-unfolding field_value
-value_here t f v p = refl
-
-pub value_added : (t : Tables) (f : Field) (v : ℤ) (old new : List Cube)
-    → Adds old (λ p. ConstraintHolds (equal_to t f v) (seen 0 p)) new → AddsWhere (HasValue t f v) old new
-value_added t f v old new adds = record {
-  kept = λ p range h. (adds p range).1 (inl h);
-  all = λ p range h. (adds p range).1 (inr (subst (λ (q : Point). ConstraintHolds (equal_to t f v) q) (sym (here p range))
-      (value_here t f v p ∙ h)));
-}
-
--- ---- entries
-
--- the bits of a code that stands in a token
-code_bits : (low high n : ℕ) → low ≤ high → high ≤ 63 → n < 2 ^ (suc high - low) → bits_of low high (n * 2 ^ low % 2 ^ 64) ≡ n
-code_bits low high n order most below =
-    let some : 0 < 2 ^ low = pow_pos low in
-    let less : n * 2 ^ low < 2 ^ (suc high - low) * 2 ^ low = mul-lt-mul_of_pos_right below some in
-    let sum : suc high - low + low ≡ suc high = omega (arith, order) in
-    let power : 2 ^ (suc high - low) * 2 ^ low ≡ 2 ^ suc high = sym (pow-add 2 (suc high - low) low) ∙ ap (λ (k : ℕ). 2 ^ k) sum in
-    let room : 2 ^ suc high ≤ 2 ^ 64 = pow_mono {i = suc high} {j = 64} (omega (arith, most)) in
-    let fits : n * 2 ^ low < 2 ^ 64 = omega (arith, less, power, room) in
-    ap (λ (k : ℕ). k / 2 ^ low % 2 ^ (suc high - low)) (mod-eq_of_lt fits)
-    ∙ ap (λ (k : ℕ). k % 2 ^ (suc high - low)) (mul-div_cancel n some) ∙ mod-eq_of_lt below
 
 -- a field's value hangs on its bits alone
 by_bits : (f : Field) (m n : ℕ) → bits_of f.low f.high m ≡ bits_of f.low f.high n → value_of f m ≡ value_of f n
 unfolding value_of
 by_bits f m n e = ap (λ (b : ℕ). wrapped (read_as f.signed (suc f.high - f.low) b)) e
 
-pub entry_none : (t : Tables) (f : Field) (entries : Entries) (text : List ℕ) (old : List Cube) → AddsWhere (HasEntry t f entries 0 text) old old
-entry_none t f entries text old = record { kept = λ p range h. h; all = λ p range h. absurd (omega (arith, h.below)) }
+module _ (f : Field) (n : ℕ) (z : ℤ) (order : f.low ≤ f.high) (most : f.high ≤ 63) (is : value_of f n ≡ z) where
+  abbrev again : ℕ
+  again = cast_unsigned w64 z * 2 ^ f.low % 2 ^ 64
 
-mod_below : (n w : ℕ) → n % 2 ^ w < 2 ^ w
-mod_below n w = mod-lt n (pow_pos w)
+  abbrev wide : ℕ
+  wide = suc f.high - f.low
 
-bits_below : (low high n m : ℕ) → bits_of low high n ≡ m → m < 2 ^ (suc high - low)
-bits_below low high n m e = subst (λ (k : ℕ). k < 2 ^ (suc high - low)) e (mod_below (n / 2 ^ low) (suc high - low))
+  bit_again : (i : ℕ) → i < wide → bit_at (bits_of f.low f.high again) i ≡ bit_at (bits_of f.low f.high n) i
+  bit_again i lt =
+      let some : 1 ≤ wide = omega (arith, order) in
+      let few : wide ≤ 64 = omega (arith, most) in
+      let there : f.low + i < 64 = omega (arith, lt, most) in
+      let past : f.low ≤ f.low + i = omega arith in
+      let back : f.low + i - f.low ≡ i = omega arith in
+      part_bit f.low f.high again i lt ∙ raised_high (cast_unsigned w64 z) f.low (f.low + i) there past
+      ∙ ap (λ (j : ℕ). bit_at (cast_unsigned w64 z) j) back ∙ ap (λ (y : ℤ). bit_at (cast_unsigned w64 y) i) (sym is)
+      ∙ own_bit f n some few f.signed refl i lt ∙ sym (part_bit f.low f.high n i lt)
 
-pub entry_more : (t : Tables) (f : Field) (entries : Entries) (text : List ℕ) (n : ℕ) (v : ℤ) (old middle new : List Cube) → f.low ≤ f.high → f.high ≤ 63
-    → v ≡ value_of f (n * 2 ^ f.low % 2 ^ 64) → AddsWhere (HasEntry t f entries n text) old middle → AddsWhere (HasValue t f v) middle new
-    → AddsWhere (HasEntry t f entries (n + 1) text) old new
-entry_more t f entries text n v old middle new order most is first more = record {
-  kept = λ p range h. more.kept p range (first.kept p range h);
-  all = λ p range h. elim (cases_lt (bits_of f.low f.high (number_of t f p)) n) [
-    | inl less ↦ more.kept p range (first.all p range (record { below = less; shows = h.shows }))
+  bits_again : bits_of f.low f.high again ≡ bits_of f.low f.high n
+  bits_again = same_from_bits (bits_of f.low f.high again) (bits_of f.low f.high n) (λ i. elim (cases_lt i wide) [
+    | inl lt ↦ bit_again i lt
     | inr past ↦
-        let same : bits_of f.low f.high (number_of t f p) ≡ n = omega (arith, past, h.below) in
-        let code = code_bits f.low f.high n order most (bits_below f.low f.high (number_of t f p) n same) in
-        more.all p range (by_bits f (number_of t f p) (n * 2 ^ f.low % 2 ^ 64) (same ∙ sym code) ∙ sym is)
-  ];
-}
+        bit_at_above (bits_of f.low f.high again) wide i (bits_small f.low f.high again) past
+        ∙ sym (bit_at_above (bits_of f.low f.high n) wide i (bits_small f.low f.high n) past)
+  ])
 
-pub entry_other : (t : Tables) (f : Field) (entries : Entries) (text : List ℕ) (n : ℕ) (old new : List Cube)
-    → (entry_text t f.dec entries n ≡ text → ⊥) → AddsWhere (HasEntry t f entries n text) old new → AddsWhere (HasEntry t f entries (n + 1) text) old new
-entry_other t f entries text n old new other first = record {
-  kept = first.kept;
-  all = λ p range h. elim (cases_lt (bits_of f.low f.high (number_of t f p)) n) [
-    | inl less ↦ first.all p range (record { below = less; shows = h.shows })
-    | inr past ↦
-        let same : bits_of f.low f.high (number_of t f p) ≡ n = omega (arith, past, h.below) in
-        absurd (other (ap (entry_text t f.dec entries) (sym same) ∙ h.shows))
-  ];
-}
+  -- a value that a field has is read from its own lowest bits
+  pub value_again : value_of f again ≡ z
+  value_again = by_bits f again n bits_again ∙ is
 
--- ---- a text
+pub value_fits : (f : Field) (n : ℕ) → FitsSigned w64 (value_of f n)
+unfolding value_of
+value_fits f n = SFits-int_wrap w64 (read_as f.signed (suc f.high - f.low) (bits_of f.low f.high n))
+
+-- a number that is found for the text is the value
+pub number_known : (f : Field) (found : Option ℤ) (text : List ℕ) (v u : ℤ) (k : Option Known)
+    → ((w : ℤ) → FitsSigned w64 w → number_text f.dec w ≡ text → found ≡ Some w) → found ≡ Some v → ((w : ℤ) → FitsSigned w64 w → v ≡ w → u ≡ w)
+    → ((n : ℕ) → value_of f n ≡ u → HasSomeBits f k n) → (n : ℕ) → number_text f.dec (value_of f n) ≡ text → HasSomeBits f k n
+number_known f found text v u k reads some same bits n shows =
+    let fits = value_fits f n in
+    let is : v ≡ value_of f n = sym (same_Some (value_of f n) v (sym (reads (value_of f n) fits shows) ∙ some)) in
+    bits n (sym (same (value_of f n) fits is))
+
+pub number_none : (f : Field) (found : Option ℤ) (text : List ℕ) → ((w : ℤ) → FitsSigned w64 w → number_text f.dec w ≡ text → found ≡ Some w) → found ≡ None
+    → (n : ℕ) → number_text f.dec (value_of f n) ≡ text → ⊥
+number_none f found text reads none n shows =
+    let no : ◌≡◌ {A = Option ℤ} None (Some (value_of f n)) = sym none ∙ reads (value_of f n) (value_fits f n) shows in cc
+
+-- ---- entries
 
 none_at : {X : Type 0} (xs : List (Option X)) (i : ℕ) → length xs ≤ i → entry_at xs i ≡ None
 none_at xs i past = ap (λ o. option_and_then (λ entry. entry) o) (slice_get_past xs i past)
@@ -114,57 +89,42 @@ past_entries t dec (registers ids) i j a b =
 past_entries t dec (texts names) i j a b = ap or_nothing (none_at names i a ∙ sym (none_at names j b))
 past_entries t dec (values numbers) i j a b = ap (λ o. number_text dec (value_or_zero o)) (none_at numbers i a ∙ sym (none_at numbers j b))
 
-pub text_of_entries : (t : Tables) (f : Field) (entries : Entries) (count : ℕ) (text : List ℕ) (old new : List Cube) → count ≡ entries_count entries
-    → (entry_text t f.dec entries count ≡ text → ⊥) → AddsWhere (HasEntry t f entries (entries_count entries) text) old new
-    → AddsWhere (IsShownBy t f entries text) old new
-text_of_entries t f entries count text old new counted other adds = record {
-  kept = adds.kept;
-  all = λ p range shows.
-      let n = number_of t f p in
-      elim (cases_lt (bits_of f.low f.high n) (entries_count entries)) [
-        | inl less ↦ adds.all p range (record { below = less; shows = shows })
-        | inr past ↦ absurd (other (past_entries t f.dec entries count (bits_of f.low f.high n) (omega (arith, counted)) past ∙ shows))
-      ];
-}
+-- The codes before this one whose entries have the text have what is known.
+abbrev pub FirstCodes : Tables → Bool → Entries → List ℕ → ℕ → Option Known → Type 0
+FirstCodes t dec entries text n codes = (c : ℕ) → c < n → entry_text t dec entries c ≡ text → HasCode codes c
 
-pub text_attached : (t : Tables) (id : ℕ) (f : Field) (a : Attached) (text : List ℕ) (old new : List Cube) → attached_to id t.attached ≡ Some a
-    → AddsWhere (IsShownBy t f a.entries text) old new → AddsWhere (HasText t id f text) old new
-text_attached t id f a text old new attached adds = record {
-  kept = adds.kept;
-  all = λ p range h. adds.all p range (sym (ap (λ o. field_text_by t f o (number_of t f p)) attached) ∙ h);
-}
+module _ (t : Tables) (dec : Bool) (entries : Entries) (text : List ℕ) (n : ℕ) (old : Option Known) (first : FirstCodes t dec entries text n old) where
+  pub one_code_more : (k : Known) → ((c : ℕ) → HasCode old c → Has k c) → Has k n → FirstCodes t dec entries text (n + 1) (Some k)
+  one_code_more k kept here = below_more (λ c. entry_text t dec entries c ≡ text → Has k c) n (λ c lt e. kept c (first c lt e)) (λ e. here)
 
-pub to_own : (t : Tables) (id : ℕ) (f g : Field) (text : List ℕ) (old new : List Cube) → ◌≡◌ {A = Option Field} (Some f) (Some g)
-    → AddsWhere (HasText t id f text) old new → AddsWhere (HasText t id g text) old new
-to_own t id f g text old new e adds = subst (λ (h : Field). AddsWhere (HasText t id h text) old new) (same_Some f g e) adds
+  pub one_code_other : (entry_text t dec entries n ≡ text → ⊥) → FirstCodes t dec entries text (n + 1) old
+  one_code_other other = below_more (λ c. entry_text t dec entries c ≡ text → HasCode old c) n first (λ e. absurd (other e))
 
-pub value_fits : (f : Field) (n : ℕ) → FitsSigned w64 (value_of f n)
-unfolding value_of
-value_fits f n = SFits-int_wrap w64 (read_as f.signed (suc f.high - f.low) (bits_of f.low f.high n))
+  pub all_codes : (count : ℕ) → count ≡ entries_count entries → count ≤ n → (c : ℕ) → c < entries_count entries → entry_text t dec entries c ≡ text → HasCode old c
+  all_codes count is whole c lt e = first c (omega (arith, is, whole, lt)) e
 
-module _ (t : Tables) (f : Field) (found : Option ℤ) (text : List ℕ)
-    (reads : (w : ℤ) → FitsSigned w64 w → number_text f.dec w ≡ text → found ≡ Some w) where
-  found_at : (p : Point) → HasNumber t f text p → found ≡ Some (value_of f (number_of t f p))
-  found_at p h = reads (value_of f (number_of t f p)) (value_fits f (number_of t f p)) h
+-- where what has no entry isn't shown so, the codes with entries are all
+pub codes_all : (t : Tables) (dec : Bool) (entries : Entries) (text : List ℕ) (count : ℕ) (codes : Option Known) → count ≡ entries_count entries
+    → (entry_text t dec entries count ≡ text → ⊥) → ((c : ℕ) → c < entries_count entries → entry_text t dec entries c ≡ text → HasCode codes c)
+    → (c : ℕ) → entry_text t dec entries c ≡ text → HasCode codes c
+codes_all t dec entries text count codes is other here c e = elim (cases_lt c (entries_count entries)) [
+  | inl less ↦ here c less e
+  | inr past ↦ absurd (other (past_entries t dec entries count c (omega (arith, is)) past ∙ e))
+]
 
-  pub number_found : (v u : ℤ) (old new : List Cube) → found ≡ Some v → ((w : ℤ) → FitsSigned w64 w → v ≡ w → u ≡ w)
-      → AddsWhere (HasValue t f u) old new → AddsWhere (HasNumber t f text) old new
-  number_found v u old new some same adds = record {
-    kept = adds.kept;
-    all = λ p range h.
-        let w = value_of f (number_of t f p) in
-        adds.all p range (sym (same w (value_fits f (number_of t f p)) (sym (same_Some w v (sym (found_at p h) ∙ some)))));
-  }
+-- ---- a text
 
-  pub no_number : (cubes : List Cube) → found ≡ None → AddsWhere (HasNumber t f text) cubes cubes
-  no_number cubes none = record {
-    kept = λ p range h. h;
-    all = λ p range h. absurd (let no : ◌≡◌ {A = Option ℤ} None (Some (value_of f (number_of t f p))) = sym none ∙ found_at p h in cc);
-  }
+pub some_known : (f : Field) (codes : Option Known) (n : ℕ) → HasCode codes (bits_of f.low f.high n) → HasSomeBits f codes n
+some_known f (Some k) n h = code_known f k n h
+some_known f None n h = h
 
-pub text_of_number : (t : Tables) (id : ℕ) (f : Field) (text : List ℕ) (old new : List Cube) → attached_to id t.attached ≡ None
-    → AddsWhere (HasNumber t f text) old new → AddsWhere (HasText t id f text) old new
-text_of_number t id f text old new plain adds = record {
-  kept = adds.kept;
-  all = λ p range h. adds.all p range (sym (ap (λ o. field_text_by t f o (number_of t f p)) plain) ∙ h);
-}
+pub text_of_number : (t : Tables) (id : ℕ) (f : Field) (text : List ℕ) (k : Option Known) → attached_to id t.attached ≡ None
+    → ((n : ℕ) → number_text f.dec (value_of f n) ≡ text → HasSomeBits f k n)
+    → (n : ℕ) → field_text_by t f (attached_to id t.attached) n ≡ text → HasSomeBits f k n
+text_of_number t id f text k plain bits n shows = bits n (sym (ap (λ o. field_text_by t f o n) plain) ∙ shows)
+
+pub text_of_entry : (t : Tables) (id : ℕ) (f : Field) (a : Attached) (text : List ℕ) (codes : Option Known) → attached_to id t.attached ≡ Some a
+    → ((c : ℕ) → entry_text t f.dec a.entries c ≡ text → HasCode codes c)
+    → (n : ℕ) → field_text_by t f (attached_to id t.attached) n ≡ text → HasSomeBits f codes n
+text_of_entry t id f a text codes attached known n shows =
+    some_known f codes n (known (bits_of f.low f.high n) (sym (ap (λ o. field_text_by t f o n) attached) ∙ shows))

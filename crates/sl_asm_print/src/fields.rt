@@ -1,20 +1,20 @@
-//! Where a field has a text.
+//! What a field's text says of its bits.
 
-ghost use Rattle.std.specs.Prelude.{◌≡◌, ◌≤◌, ◌*◌, ◌%◌, ◌^◌, IfOk, IsTrue, Some};
-ghost use Rattle.std.specs.Prelude.{map, option_map, slice_get};
-ghost use Rattle.sl_asm_print.specs.Fields.{AddsWhere, HasEntry, HasNumber, HasText, HasValue};
-ghost use Rattle.sl_asm_print.specs.Fields.{IsShownBy, entries_count};
+ghost use Rattle.std.specs.Prelude.{◌≡◌, ◌<◌, ◌≤◌, ◌*◌, ◌%◌, ◌^◌, ℕ, IfOk, IsTrue};
+ghost use Rattle.std.specs.Prelude.{map, option_map};
+ghost use Rattle.sl_asm_bits.specs.Known.{Has};
+ghost use Rattle.sl_asm_known.specs.FieldBits.{HasSomeBits};
+ghost use Rattle.sl_asm_print.specs.Fields.{HasCode, entries_count};
 ghost use Rattle.sl_decode_meaning.specs.Lookups.{entry_at};
-ghost use Rattle.sl_show.specs.Texts.{entry_text, or_nothing};
+ghost use Rattle.sl_show.specs.Numbers.{number_text};
+ghost use Rattle.sl_show.specs.Texts.{entry_text, field_text_by, or_nothing};
+ghost use Rattle.sl_spec.specs.Attachments.{attached_to};
 ghost use Rattle.sl_spec.specs.FieldValues.{value_of};
-ghost use Rattle.sl_spec.specs.Tables.{Field as FieldOf};
 ghost use Rattle.sl_spec.specs.Views.{entries_of};
 
 use crate::digits::{number_in, number_with};
-use sl_cube::Cube;
+use sl_asm_bits::{Known, exact, exact_bits, joint, under};
 use sl_decode_leaves::{number_of, register_at};
-use sl_shape_blocks::Relation;
-use sl_shape_constraints::Constraint;
 use sl_spec::{Entries, Field, FieldId, Tables};
 use std::alloc::{AllocError, Global};
 
@@ -64,47 +64,7 @@ fn count(entries: &Entries) -> u64
     }
 }
 
-/// Adds the points at which the field has the value.
-fn put_value(
-    alloc: Global,
-    t: &Tables,
-    of: &Field,
-    value: i64,
-    cubes: &mut Vec<Cube>,
-) -> Result<(), AllocError>
-    ensures { IfOk result (λ _. AddsWhere (HasValue t.now of.now value)
-        cubes.old.items cubes.new.items) }
-{
-    let constraint = Constraint {
-        tokens: &t.tokens,
-        field: of,
-        relation: Relation::Equal,
-        number: value,
-    };
-    constraint.put_cubes(alloc, 0, cubes)?;
-    Ok(())
-}
-
-/// Adds the points at which the field's value is shown as the text.
-fn put_number(
-    alloc: Global,
-    t: &Tables,
-    of: &Field,
-    text: &[u8],
-    cubes: &mut Vec<Cube>,
-) -> Result<(), AllocError>
-    ensures { IfOk result (λ _. AddsWhere (HasNumber t.now of.now text.now)
-        cubes.old.items cubes.new.items) }
-{
-    let read = number_with(alloc, of.dec, text)?;
-    let Some(value) = read else {
-        return Ok(());
-    };
-    put_value(alloc, t, of, value, cubes)?;
-    Ok(())
-}
-
-/// The value of the field where its bits are the code.
+/// The value of the field where its bits are the lowest ones of the number.
 fn value_of_code(of: &Field, code: u64) -> i64
     ensures value { result ≡ value_of of.now (code * 2 ^ of.now.low % 2 ^ 64) }
     ensures order { of.now.low ≤ of.now.high }
@@ -113,83 +73,81 @@ fn value_of_code(of: &Field, code: u64) -> i64
     of.value_of(code << of.low)
 }
 
-/// Adds the points at which the field has the bits of an entry with the text.
-fn put_entries(
-    alloc: Global,
-    t: &Tables,
-    of: &Field,
-    entries: &Entries,
-    text: &[u8],
-    cubes: &mut Vec<Cube>,
-) -> Result<(), AllocError>
-    ensures { IfOk result (λ _. AddsWhere (HasEntry t.now of.now (entries_of entries.now)
-        (entries_count (entries_of entries.now)) text.now) cubes.old.items cubes.new.items) }
+/// What is known of the field's bits where it has the value; `None` where it never has.
+fn bits_of_value(of: &Field, value: i64) -> Option<Known>
+    ensures { (n : ℕ) → value_of of.now n ≡ value → HasSomeBits of.now result n }
 {
+    if value_of_code(of, value.cast_unsigned()) == value {
+        Some(exact(value))
+    } else {
+        None
+    }
+}
+
+/// The same where the field's value is shown as the text.
+fn bits_of_number(alloc: Global, of: &Field, text: &[u8]) -> Result<Option<Known>, AllocError>
+    ensures { IfOk result (λ found. (n : ℕ) → number_text of.now.dec (value_of of.now n) ≡ text.now
+        → HasSomeBits of.now found n) }
+{
+    let read = number_with(alloc, of.dec, text)?;
+    let Some(value) = read else {
+        return Ok(None);
+    };
+    Ok(bits_of_value(of, value))
+}
+
+/// What is known of a code that is one of those before, if there are some, or this one.
+fn with_code(before: Option<Known>, code: u64) -> Known
+    ensures before { (c : ℕ) → HasCode before c → Has result c }
+    ensures here { Has result code }
+{
+    match before {
+        Some(known) => joint(&known, &exact_bits(code)),
+        None => exact_bits(code),
+    }
+}
+
+/// What is known of the codes whose entries have the text; `None` where there are none.
+fn codes_with(t: &Tables, dec: bool, entries: &Entries, text: &[u8]) -> Option<Known>
+    ensures { (code : ℕ) → code < entries_count (entries_of entries.now)
+        → entry_text t.now dec (entries_of entries.now) code ≡ text.now → HasCode result code }
+{
+    let mut codes = None;
     'entries: for index in 0..count(entries) {
-        if has_text(t, of.dec, entries, index, text) {
-            put_value(alloc, t, of, value_of_code(of, index), cubes)?;
+        if has_text(t, dec, entries, index, text) {
+            codes = Some(with_code(codes, index));
         }
     }
-    Ok(())
+    codes
 }
 
-/// Adds cubes that have all points at which the field has the bits of an entry with the text; `false`
-/// where what has no entry is shown so, too.
-fn put_attached(
-    alloc: Global,
-    t: &Tables,
-    of: &Field,
-    entries: &Entries,
-    text: &[u8],
-    cubes: &mut Vec<Cube>,
-) -> Result<bool, AllocError>
-    ensures { IfOk result (λ known. IsTrue known
-        → AddsWhere (IsShownBy t.now of.now (entries_of entries.now) text.now)
-        cubes.old.items cubes.new.items) }
+/// The same of all codes. Where those without an entry are shown so, too, nothing is known.
+fn codes_shown(t: &Tables, dec: bool, entries: &Entries, text: &[u8]) -> Option<Known>
+    ensures { (code : ℕ) → entry_text t.now dec (entries_of entries.now) code ≡ text.now
+        → HasCode result code }
 {
-    if has_text(t, of.dec, entries, count(entries), text) {
-        return Ok(false);
+    if has_text(t, dec, entries, count(entries), text) {
+        return Some(under(0, 0));
     }
-    put_entries(alloc, t, of, entries, text, cubes)?;
-    Ok(true)
+    codes_with(t, dec, entries, text)
 }
 
-/// Adds cubes that have all points at which this field has the text.
-fn put_text(
+/// What is known of the bits of a field that is shown as the text, whatever it is read from; `None`
+/// only where it never is. The only error is want of memory.
+pub fn bits_with_text(
     alloc: Global,
     t: &Tables,
     id: FieldId,
     of: &Field,
     text: &[u8],
-    cubes: &mut Vec<Cube>,
-) -> Result<bool, AllocError>
-    ensures { IfOk result (λ known. IsTrue known
-        → AddsWhere (HasText t.now id of.now text.now) cubes.old.items cubes.new.items) }
+) -> Result<Option<Known>, AllocError>
+    ensures { IfOk result (λ found. (n : ℕ)
+        → field_text_by t.now of.now (attached_to id t.now.attached) n ≡ text.now
+        → HasSomeBits of.now found n) }
 {
     let Some(attached) = t.attached.get(id) else {
-        put_number(alloc, t, of, text, cubes)?;
-        return Ok(true);
+        let found = bits_of_number(alloc, of, text)?;
+        return Ok(found);
     };
-    let known = put_attached(alloc, t, of, &attached.entries, text, cubes)?;
-    Ok(known)
-}
-
-/// Adds cubes that have all points at which the field has the text, its token being at the point's
-/// first byte. `false` says that nothing is known of them. The only error is want of memory.
-pub fn put_field(
-    alloc: Global,
-    t: &Tables,
-    id: FieldId,
-    text: &[u8],
-    cubes: &mut Vec<Cube>,
-) -> Result<bool, AllocError>
-    ensures { IfOk result (λ known. IsTrue known → (f : FieldOf)
-        → slice_get t.now.fields id ≡ Some f
-        → AddsWhere (HasText t.now id f text.now) cubes.old.items cubes.new.items) }
-{
-    let Some(of) = t.fields.at(id.number() as usize) else {
-        return Ok(false);
-    };
-    let known = put_text(alloc, t, id, of, text, cubes)?;
-    Ok(known)
+    Ok(codes_shown(t, of.dec, &attached.entries, text))
 }

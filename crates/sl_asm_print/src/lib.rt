@@ -1,5 +1,5 @@
-//! Texts read backwards: the numbers that digits stand for, the points at which a field has a text,
-//! and the ways to cut a text into the parts of a display.
+//! Texts read backwards: the numbers that digits stand for, what a text says of a field's bits, and the
+//! ways to cut a text into the parts of a display.
 #![tactic(auto)]
 
 mod digits;
@@ -7,5 +7,5 @@ mod fields;
 mod splitting;
 
 pub use digits::number_with;
-pub use fields::put_field;
+pub use fields::bits_with_text;
 pub use splitting::{begins_with, splits};

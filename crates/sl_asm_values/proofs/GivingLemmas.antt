@@ -1,20 +1,29 @@
 -- Regions whose lists give wanted values.
-use Rattle.std.proofs.Common.{◌≡◌, ℕ, List, get_or, Option, Some, None, MatchOption, Vec, Global, false, arith, refl, sym, subst, ◌∙◌, inl, inr}
+use Rattle.std.proofs.Common.{◌≡◌, ℕ, ℤ, ◌+◌, List, get_or, Option, Some, None, Ok, MatchOption, Vec, Global, false, arith, refl, sym, subst, ◌∙◌, inl, inr}
+use Rattle.std.specs.Prelude.{IfOk, Result, option_map, slice_get}
 use Rattle.std.specs.Option.{is_some}
 use Rattle.std.specs.Int.{bit_at}
 use Rattle.std.proofs.lemmas.Bool.{cases_lt}
 use Rattle.std.proofs.lemmas.Nat.Bits.{bit_at-lt}
+use Rattle.sl_asm_bits.specs.Known.{HasBits}
 use Rattle.sl_asm_bits.specs.declared.Known.{Known}
 use Rattle.sl_asm_fit.specs.Regions.{IsOf}
+use Rattle.sl_asm_fit.specs.Windows.{with_zeros}
 use Rattle.sl_asm_fit.specs.declared.Cell.{Cell}
+use Rattle.sl_asm_known.specs.FieldBits.{GivesOwn, IsLeftWhere}
 use Rattle.sl_asm_known.specs.Frames.{IsSiteOf}
 use Rattle.sl_asm_known.specs.OpenBits.{IsHalf}
 use Rattle.sl_asm_known.specs.declared.Bit.{Bit}
 use Rattle.sl_asm_known.specs.declared.Frame.{Frame}
 use Rattle.sl_asm_values.specs.Halves.{HalfGivesNone, IsHalfLeft, IsLeft, IsLeftHalf, IsLeftOf}
-use Rattle.sl_asm_values.specs.Narrowing.{GivesNone, IsPart, KeepsGiving}
+use Rattle.sl_asm_values.specs.Narrowing.{Gives, GivesNone, IsPart, KeepsGiving}
 use Rattle.sl_asm_values.specs.declared.narrowing.Judged.{Judged}
+use Rattle.sl_decode_leaves.specs.Extents.{extent}
+use Rattle.sl_decode_leaves.specs.Fields.{own_if}
+use Rattle.sl_decode_leaves.specs.declared.extents.Extent.{Extent}
 use Rattle.sl_decode_meaning.specs.Values.{Site}
+use Rattle.sl_decode_meaning.specs.declared.faults.Fault.{Fault}
+use Rattle.sl_decode_plan.specs.Values.{value_in}
 use Rattle.sl_decode_plan.specs.declared.values.Value.{Value}
 use Rattle.sl_spec.specs.declared.tables.Tables.{Tables}
 
@@ -53,6 +62,23 @@ module _ (t : Tables) (f : Frame) (v : Value) (wanted : Known) where
       → MatchOption found (GivesNone t f region v wanted) (λ n. KeepsGiving t f region v wanted n.items)
   found_more region mid None a none = none_left region mid a none
   found_more region mid (Some n) a b = keeps_more region mid n.items a b
+
+  -- ---- fields
+
+  module _ (id : ℕ) (place : Extent) (v_is : (s : Site) → value_in t s v ≡ own_if t (slice_get t.fields id) s.bytes (s.at + extent place s.lengths) s.context) where
+    gives_own : (region : List Cell) (s : Site) (is : IsSiteOf f region s) → Gives t v wanted s → GivesOwn t f id place wanted is.bytes
+    gives_own region s is gives =
+        let own : own_if t (slice_get t.fields id) (with_zeros is.bytes) (f.at + extent place f.lengths.now) f.context ≡ Ok gives.number =
+        sym (λ j. own_if t (slice_get t.fields id) (is.reads j) (is.at j + extent place (is.lengths j)) (is.context j)) ∙ sym (v_is s) ∙ gives.is in
+        subst (λ (r : Result ℤ Fault). IfOk r (HasBits wanted)) (sym own) gives.has
+
+    pub own_left : (region : List Cell) (found : Option (Vec Cell Global)) → IsLeftWhere (GivesOwn t f id place wanted) region (option_map (λ v. v.items) found)
+        → MatchOption found (GivesNone t f region v wanted) (λ n. KeepsGiving t f region v wanted n.items)
+    own_left region None none = λ s is gives. none is.bytes is.of_region (gives_own region s is gives)
+    own_left region (Some n) keeps = record {
+      part = record { long = keeps.long; within = keeps.within };
+      stays = λ s is gives. keeps.stays is.bytes is.of_region (gives_own region s is gives);
+    }
 
   -- ---- halves
 

@@ -1,14 +1,16 @@
 -- What a value says of the sides of its operator.
-use Rattle.std.proofs.Common.{◌≡◌, ℕ, ℤ, ◌+◌, ◌-◌, ◌%◌, ◌^◌, ◌<◌, min, max, bit_and, bit_or, bit_xor, List, Option, Some, None, Ok, Err, MatchOption, Vec, Global, arith, refl, sym, ap, subst, ◌∙◌}
-use Rattle.std.specs.Prelude.{FitsSigned, IfOk, IfSome, Result, ◌+ℤ◌, ◌-ℤ◌}
-use Rattle.std.specs.Int.{bit_at, cast_signed, cast_unsigned, int_bit_and, int_bit_or, w64}
+use Rattle.std.proofs.Common.{◌≡◌, ℕ, ℤ, ◌+◌, ◌-◌, ◌*◌, ◌/◌, ◌%◌, ◌^◌, ◌<◌, ◌≤◌, min, max, Bool, bit_and, bit_or, bit_xor, List, Option, Some, None, Ok, Err, MatchOption, Vec, Global, arith, refl, sym, ap, subst, ◌∙◌}
+use Rattle.std.specs.Prelude.{FitsSigned, IfOk, IfSome, Result, ◌+ℤ◌, ◌-ℤ◌, pos, if◌then◌else◌}
+use Rattle.std.specs.Int.{bit_at, cast_signed, cast_unsigned, int_bit_and, int_bit_or, int_shl, w64}
 use Rattle.std.proofs.Math.Facts.{Fits-of_lt, sfits_to_z}
+use Rattle.std.proofs.lemmas.Bool.{lt-ltb}
 use Rattle.std.proofs.lemmas.Option.{same_Some}
 use Rattle.std.proofs.lemmas.Int.{ints, of_z-to_z, to_z-of_z, wrapping_add_is, wrapping_sub_is}
 use Rattle.std.proofs.lemmas.Nat.{and_comm, or_comm, or_lt}
 use Rattle.std.proofs.lemmas.Nat.Bits.{bit_at_and, bit_at_or, bit_at_xor, bit_at-lt}
-use Rattle.sl_asm_bits.proofs.BitLemmas.{at_and, at_or}
+use Rattle.sl_asm_bits.proofs.BitLemmas.{at_and, at_or, one_of_64}
 use Rattle.sl_asm_bits.proofs.NumberLemmas.{and_fits, unsigned_fits}
+use Rattle.sl_asm_bits.proofs.ShiftLemmas.{raised_high, shifted_at}
 use Rattle.sl_asm_bits.specs.Known.{Has, HasBits}
 use Rattle.sl_asm_bits.specs.declared.Known.{Known}
 use Rattle.sl_asm_fit.specs.declared.Cell.{Cell}
@@ -28,7 +30,7 @@ use Rattle.sl_decode_meaning.specs.declared.faults.Fault.TheVariants.{ActionDivi
 use Rattle.sl_decode_plan.specs.Values.{value_in}
 use Rattle.sl_decode_plan.specs.declared.values.Value.{Value}
 use Rattle.sl_spec.specs.declared.tables.Tables.{Tables}
-use Rattle.sl_spec_operators.specs.Operators.{value_of, wrapped}
+use Rattle.sl_spec_operators.specs.Operators.{left_by, value_of, wrapped}
 
 -- ---- bits
 
@@ -84,6 +86,25 @@ module _ (w o k : Known) (x y : ℤ) (fx : FitsSigned w64 x) (h : HasBits o y) w
       let back : (cast_unsigned w64 (wrapped (x +ℤ y)) + (2 ^ 64 - n)) % 2 ^ 64 ≡ m = omega (arith, bits, small, low) in
       sym (wrapping_sub_is w64 (wrapped (x +ℤ y)) y fits h.fits) ∙ ap (cast_signed w64) back ∙ to_z-of_z w64 x fx
 
+-- a number moved up by what is known, by its bits that are left
+pub shift_has : (w k : Known) (x : ℤ) (n amount : ℕ) → FitsSigned w64 x → n ≡ amount → n < 64 → w.mask < 2 ^ 64
+    → (Agrees (w.mask / 2 ^ n) (w.value / 2 ^ n) (cast_unsigned w64 x) → Has k (cast_unsigned w64 x)) → HasBits w (left_by x amount) → HasBits k x
+shift_has w k x n amount fx same lt small under f =
+    let m : ℕ = cast_unsigned w64 x in
+    let up : ℕ = m * 2 ^ n % 2 ^ 64 in
+    let low : up < 2 ^ 64 = omega arith in
+    let is : left_by x amount ≡ cast_signed w64 up = ap (left_by x) (sym same) ∙ ap (λ (b : Bool). if b then int_shl w64 x n else pos 0) (lt-ltb n 64 lt) in
+    let bits : Has w up = subst (λ (v : ℕ). Has w v) (ap (cast_unsigned w64) is ∙ of_z-to_z w64 up low) f.bits in
+    record {
+      fits = fx;
+      bits = under (λ i on.
+          let there : bit_at w.mask (n + i) ≡ 1 = sym (shifted_at w.mask n i) ∙ on in
+          let inside : n + i < 64 = one_of_64 w.mask (n + i) small there in
+          let past : n ≤ n + i = omega arith in
+          let back : i ≡ n + i - n = omega arith in
+          ap (λ (j : ℕ). bit_at m j) back ∙ sym (raised_high m n (n + i) inside past) ∙ bits (n + i) there ∙ sym (shifted_at w.value n i));
+    }
+
 -- ---- operators
 
 turned : (x y : ℤ) → x +ℤ y ≡ y +ℤ x
@@ -112,6 +133,13 @@ module _ (w a b one other : Known) where
   sides_of_sum f g = record {
     left = λ x y z h k is has. f x y h.fits k (subst (HasBits w) (sym (same_Some (wrapped (x +ℤ y)) z is)) has);
     right = λ x y z h k is has. g y x k.fits h (subst (HasBits w) (sym (same_Some (wrapped (x +ℤ y)) z is) ∙ ap wrapped (turned x y)) has);
+  }
+
+  pub sides_of_shift : ((x y : ℤ) → FitsSigned w64 x → HasBits b y → HasBits w (left_by x (cast_unsigned w64 y)) → HasBits one x)
+      → ((z : ℤ) → FitsSigned w64 z → HasBits other z) → AreSides op.ShiftLeft w a b one other
+  sides_of_shift f g = record {
+    left = λ x y z h k is has. f x y h.fits k (subst (HasBits w) (sym (same_Some (left_by x (cast_unsigned w64 y)) z is)) has);
+    right = λ x y z h k is has. g y k.fits;
   }
 
 -- the sides of a value, and that it is the operator's

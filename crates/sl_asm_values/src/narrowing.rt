@@ -16,7 +16,7 @@ ghost use Rattle.sl_spec.specs.declared.tables.Tables.{Tables as TablesOf};
 use crate::sides::sides;
 use sl_asm_bits::Known;
 use sl_asm_fit::Cell;
-use sl_asm_known::{Bit, Frame, Verdict, half, judge, known};
+use sl_asm_known::{Bit, Frame, Verdict, half, judge, known, narrowed_by_own};
 use sl_decode_plan::Value;
 use sl_spec::Tables;
 use std::alloc::{AllocError, Global};
@@ -129,14 +129,14 @@ fn by_bits(
     alloc: Global,
     t: &Tables,
     frame: &Frame,
-    region: &[Cell],
+    region: Vec<Cell>,
     v: &Value,
     wanted: &Known,
 ) -> Result<Option<Vec<Cell>>, AllocError>
-    requires { length region.now ≤ 255 }
+    requires { length region.items ≤ 255 }
     ensures { IfOk result (λ found. MatchOption found
-        (GivesNone t.now frame.now region.now v.now wanted.now)
-        (λ narrow. KeepsGiving t.now frame.now region.now v.now wanted.now narrow.items)) }
+        (GivesNone t.now frame.now region.items v.now wanted.now)
+        (λ narrow. KeepsGiving t.now frame.now region.items v.now wanted.now narrow.items)) }
 {
     let demand = Demand {
         tables: t,
@@ -144,11 +144,11 @@ fn by_bits(
         value: v,
         wanted: *wanted,
     };
-    let whole = copied(alloc, region)?;
-    let Some(mut left) = demand.judged(whole) else {
+    let most = 8 * region.len();
+    let Some(mut left) = demand.judged(region) else {
         return Ok(None);
     };
-    'rounds: for _ in 0..8 * region.len() {
+    'rounds: for _ in 0..most {
         let Verdict::Open(bit) = left.verdict else {
             return Ok(Some(left.region));
         };
@@ -161,28 +161,34 @@ fn by_bits(
     Ok(Some(left.region))
 }
 
-/// The same by the sides of operators, as far as the value says something of them, and the others bit
-/// by bit.
+/// The same by the bits of fields and by the sides of operators, as far as the value says something of
+/// them, and the others bit by bit.
 fn by_sides(
     alloc: Global,
     t: &Tables,
     frame: &Frame,
-    region: &[Cell],
+    region: Vec<Cell>,
     v: &Value,
     wanted: &Known,
 ) -> Result<Option<Vec<Cell>>, AllocError>
-    requires { length region.now ≤ 255 }
+    requires { length region.items ≤ 255 }
     ensures { IfOk result (λ found. MatchOption found
-        (GivesNone t.now frame.now region.now v.now wanted.now)
-        (λ narrow. KeepsGiving t.now frame.now region.now v.now wanted.now narrow.items)) }
+        (GivesNone t.now frame.now region.items v.now wanted.now)
+        (λ narrow. KeepsGiving t.now frame.now region.items v.now wanted.now narrow.items)) }
 {
+    if wanted.mask == 0 {
+        return Ok(Some(region));
+    }
+    if let Value::Plain(id, place) = v {
+        return Ok(narrowed_by_own(t, frame, region, *id, place, wanted));
+    }
     let Value::Binary(op, left, right) = v else {
         return by_bits(alloc, t, frame, region, v, wanted);
     };
-    let Some(first) = known(t, frame, region, left) else {
+    let Some(first) = known(t, frame, &region, left) else {
         return Ok(None);
     };
-    let Some(second) = known(t, frame, region, right) else {
+    let Some(second) = known(t, frame, &region, right) else {
         return Ok(None);
     };
     let Some((one, other)) = sides(*op, wanted, &first, &second) else {
@@ -192,15 +198,15 @@ fn by_sides(
     let Some(cells) = narrow else {
         return Ok(None);
     };
-    let found = by_sides(alloc, t, frame, &cells, right, &other)?;
+    let found = by_sides(alloc, t, frame, cells, right, &other)?;
     Ok(found)
 }
 
 /// The region narrowed by the bits that are wanted of an expression's value; `None` where no list of
-/// it gives the expression such a value. What the value says of the sides of a sum, and of the
-/// operators that go bit by bit, is taken from them. For other expressions, and for what is left, a bit
-/// that is open is tried after the other, as long as one of both halves alone may give such a value.
-/// The only error is want of memory.
+/// it gives the expression such a value. What the value says of fields, of the sides of sums and of
+/// shifts by what is known, and of the operators that go bit by bit, is taken from them. For other
+/// expressions, and for what is left, a bit that is open is tried after the other, as long as one of
+/// both halves alone may give such a value. The only error is want of memory.
 pub fn narrowed_by(
     alloc: Global,
     t: &Tables,
@@ -214,10 +220,11 @@ pub fn narrowed_by(
         (GivesNone t.now frame.now region.now v.now wanted.now)
         (λ narrow. KeepsGiving t.now frame.now region.now v.now wanted.now narrow.items)) }
 {
-    let narrow = by_sides(alloc, t, frame, region, v, wanted)?;
+    let whole = copied(alloc, region)?;
+    let narrow = by_sides(alloc, t, frame, whole, v, wanted)?;
     let Some(cells) = narrow else {
         return Ok(None);
     };
-    let found = by_bits(alloc, t, frame, &cells, v, wanted)?;
+    let found = by_bits(alloc, t, frame, cells, v, wanted)?;
     Ok(found)
 }

@@ -1,12 +1,12 @@
 //! What a wanted value says of one side of an operator, where something is known of the other side.
 
 ghost use Rattle.std.specs.Prelude.{ℤ, ◌+ℤ◌, FitsSigned, IfSome};
-ghost use Rattle.std.specs.Int.{w64, int_bit_and, int_bit_or};
+ghost use Rattle.std.specs.Int.{w64, cast_unsigned, int_bit_and, int_bit_or};
 ghost use Rattle.sl_asm_bits.specs.Known.{HasBits};
 ghost use Rattle.sl_asm_values.specs.Sides.{AreSides};
-ghost use Rattle.sl_spec_operators.specs.Operators.{wrapped};
+ghost use Rattle.sl_spec_operators.specs.Operators.{left_by, wrapped};
 
-use sl_asm_bits::{Known, nothing, operated, under};
+use sl_asm_bits::{Known, nothing, operated, under, whole};
 use sl_ast::expressions::BinaryOp;
 
 /// What is known of `x` by `x & y`: it is 1 where that is, and the same where `y` is 1.
@@ -37,6 +37,22 @@ fn side_of_sum(wanted: &Known, other: &Known) -> Known
     }
 }
 
+/// What is known of `x` by `x << n`, where the amount is known: its bits that are left.
+fn side_of_shift(wanted: &Known, amount: &Known) -> Known
+    ensures { (x y : ℤ) → FitsSigned w64 x → HasBits amount.now y
+        → HasBits wanted.now (left_by x (cast_unsigned w64 y)) → HasBits result x }
+{
+    let Some(number) = whole(amount) else {
+        return nothing();
+    };
+    let count = number.cast_unsigned();
+    if count < 64 {
+        under(wanted.mask >> count, wanted.value >> count)
+    } else {
+        nothing()
+    }
+}
+
 /// What is known of the sides of an operator by the bits that its value is to have, each by what is
 /// known of the other one; `None` for operators by which nothing is.
 pub(crate) fn sides(
@@ -51,6 +67,7 @@ pub(crate) fn sides(
         BinaryOp::Add => Some((side_of_sum(wanted, second), side_of_sum(wanted, first))),
         BinaryOp::And => Some((side_of_and(wanted, second), side_of_and(wanted, first))),
         BinaryOp::Or => Some((side_of_or(wanted, second), side_of_or(wanted, first))),
+        BinaryOp::ShiftLeft => Some((side_of_shift(wanted, second), nothing())),
         _ => None,
     }
 }

@@ -1,22 +1,16 @@
-use Rattle.std.proofs.Common.{List, subst}
-use Rattle.sl_asm_fit.specs.declared.Cell.{Cell}
+use Rattle.std.proofs.Common.{subst}
 use Rattle.sl_asm_values.proofs.GivingLemmas.{left_more, none_left}
 use Rattle.sl_asm_values.specs.Halves.{IsOutcome}
-use Rattle.sl_asm_values.specs.Narrowing.{GivesNone}
 use Rattle.sl_asm_values.proofs.narrowing.by_bits.Goals as goal
-
-pub returns-in_default : goal.returns-in_default
-returns-in_default c =
-    subst (λ (cells : List Cell). GivesNone c.args.t.now c.args.frame.now cells c.args.v.now c.args.wanted.now) c.in_ok-whole.ensures c.in_default.ensures
 
 pub returns-in-Neither : goal.returns-in-Neither
 returns-in-Neither c =
     let left = c.rounds.left.region.items in
-    none_left c.args.t.now c.args.frame.now c.args.v.now c.args.wanted.now c.args.region.now left c.rounds.invariant.keeps
+    none_left c.args.t.now c.args.frame.now c.args.v.now c.args.wanted.now c.args.region.items left c.rounds.invariant.keeps
     (subst (IsOutcome c.args.t.now c.args.frame.now left c.args.v.now c.args.wanted.now) c.in-Neither.is (rw c.deref.ensures.value at c.in_ok-halved.ensures))
 
 pub rounds-preserved : goal.rounds-preserved
 rounds-preserved c =
     let left = c.rounds.left.region.items in
-    left_more c.args.t.now c.args.frame.now c.args.v.now c.args.wanted.now c.args.region.now c.rounds.left c.in-One.one c.rounds.invariant
+    left_more c.args.t.now c.args.frame.now c.args.v.now c.args.wanted.now c.args.region.items c.rounds.left c.in-One.one c.rounds.invariant
     (subst (IsOutcome c.args.t.now c.args.frame.now left c.args.v.now c.args.wanted.now) c.in-One.is (rw c.deref.ensures.value at c.in_ok-halved.ensures))

@@ -6,7 +6,7 @@ use Rattle.std.proofs.lemmas.Option.{same_Some, slice_get_read}
 use Rattle.sl_asm_bounds.specs.Bounds.{AreAsLong, IsOfSome}
 use Rattle.sl_asm_bounds.specs.declared.bounds.Bounds.{Bounds}
 use Rattle.sl_asm_fit.specs.declared.Cell.{Cell}
-use Rattle.sl_asm_narrow.proofs.NodeLemmas.{all_places, all_ways, by_constructor, more_places, more_ways, not_shown, nowhere, without_text}
+use Rattle.sl_asm_narrow.proofs.NodeLemmas.{all_places, all_ways, by_constructor, more_places, more_ways, not_shown, nowhere, whole_text, without_text}
 use Rattle.sl_asm_narrow.proofs.OperandLemmas.{reaches_all, reaches_more, reaches_none, reaches_nothing}
 use Rattle.sl_asm_narrow.specs.Nodes.{BoundsOperand, HoldAll}
 use Rattle.sl_asm_narrow.specs.Readers.{parts_at}
@@ -62,6 +62,11 @@ constructor-returns-clause-bounds t c =
 pub displayed-returns-in_default-clause-bounds : goal.displayed-returns-in_default-clause-bounds
 displayed-returns-in_default-clause-bounds t c =
     without_text c.args.self.now c.args.setting.now c.args.region.now c.args.plan.now c.args.parts.now c.args.goal.now _ c.in_ok-found.ensures.bounds
+
+pub displayed-returns-then-is_alone-clause-bounds : goal.displayed-returns-then-is_alone-clause-bounds
+displayed-returns-then-is_alone-clause-bounds t c =
+    whole_text c.args.self.now c.args.setting.now c.args.region.now c.args.plan.now c.args.parts.now c.args.goal.now c.in-Some.text c.in_ok-found-2.found c.in-Some.is
+    (c.if-is_alone.ensures refl) c.in_ok-found-2.ensures.bounds
 
 pub displayed-ways-preserved : goal.displayed-ways-preserved
 displayed-ways-preserved t c =
