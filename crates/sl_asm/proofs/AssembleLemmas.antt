@@ -5,7 +5,7 @@ use Rattle.std.specs.Option.{is_some}
 use Rattle.std.proofs.lemmas.Bool.{cases_lt}
 use Rattle.std.proofs.lemmas.List.{length-append, length-replicate}
 use Rattle.std.proofs.lemmas.List.Elements.{All-append, All-replicate}
-use Rattle.sl_asm.specs.Assembling.{HasNone, HasNoneIf, HasNoneIn, HasNoneOf, KeepsPassing, Passes, PassesAs}
+use Rattle.sl_asm.specs.Assembling.{HasNone, HasNoneIf, HasNoneIn, HasNoneOf, KeepsPassing, Passes, PassesAs, PassesShortest}
 use Rattle.sl_asm_known.specs.declared.Bit.{Bit}
 use Rattle.sl_decode_contexts.proofs.SeenLemmas.{bit_cases}
 use Rattle.sl_asm.specs.declared.wanted.Wanted.{Wanted}
@@ -102,12 +102,24 @@ none_at_all w n whole f = λ bytes pass.
     let most = pass.encoding.most in
     f (length bytes - 1) (omega (arith, some, most, whole)) bytes (omega (arith, some)) pass
 
+-- the first length that an encoding has is the least
+pub first_is_shortest : (w : Wanted) (n : ℕ) → NoneUpTo w n → (bytes : List ℕ) → PassesAs w (n + 1) bytes → PassesShortest w bytes
+first_is_shortest w n none bytes found = record {
+  encodes = found.passes;
+  shortest = λ other pass. elim (cases_lt (length other) (n + 1)) [
+    | inl less ↦
+        let some = pass.encoding.some in
+        absurd (none (length other - 1) (omega (arith, some, less)) other (omega (arith, some)) pass)
+    | inr most ↦ omega (arith, most, found.long)
+  ];
+}
+
 -- ---- answers
 
-pub found_some : {X : Type 0} (items : X → List ℕ) (found : Option X) (P Q : Type 0) (R : List ℕ → Type 0) → true ≡ is_some found
-    → MatchOption found P (λ x. R (items x)) → MatchOption found Q (λ x. R (items x))
-found_some items None P Q R some h = absurd cc
-found_some items (Some x) P Q R some h = h
+pub found_some : {X : Type 0} (items : X → List ℕ) (found : Option X) (P Q : Type 0) (R S : List ℕ → Type 0) → true ≡ is_some found
+    → ((xs : List ℕ) → R xs → S xs) → MatchOption found P (λ x. R (items x)) → MatchOption found Q (λ x. S (items x))
+found_some items None P Q R S some so h = absurd cc
+found_some items (Some x) P Q R S some so h = so (items x) h
 
 pub found_none : {X : Type 0} (items : X → List ℕ) (found : Option X) (P : Type 0) (R : List ℕ → Type 0) → false ≡ is_some found
     → MatchOption found P (λ x. R (items x)) → P

@@ -1,6 +1,7 @@
 -- step: lists that are no encodings, and what a text says of those that are.
 use Rattle.std.specs.Prelude.{◌≡◌, ℕ, ◌≤◌, List, get_or, length}
 use Rattle.std.specs.Int.{bit_at}
+use Rattle.sl_asm.specs.Shortest.{EncodesShortest}
 use Rattle.sl_asm.specs.declared.wanted.Span.{Span}
 use Rattle.sl_asm.specs.declared.wanted.Wanted.{Wanted}
 use Rattle.sl_asm_encodings.specs.Encodings.{Encodes}
@@ -17,6 +18,10 @@ Passes w bytes = Encodes (tables_of w.reader.now) (written_of w.reader.now) w.ad
 pub record PassesAs (w : Wanted) (count : ℕ) (bytes : List ℕ) : Type 0 where
   pub passes : Passes w bytes
   pub long : length bytes ≡ count
+
+-- They are a shortest one.
+abbrev pub PassesShortest : Wanted → List ℕ → Type 0
+PassesShortest w bytes = EncodesShortest (tables_of w.reader.now) (written_of w.reader.now) w.address w.context w.text.now bytes
 
 -- No bytes are.
 abbrev pub HasNone : Wanted → Type 0

@@ -1,3 +1,4 @@
 pub mod Regions
 pub mod Wanted
+pub mod Shortest
 pub mod Assembling

@@ -1,9 +1,9 @@
 //! `assemble`: an encoding of a text, or that there is none.
 
 ghost use Rattle.std.specs.Prelude.{◌≤◌, IfOk, MatchOption};
-ghost use Rattle.sl_asm.specs.Assembling.{Covers, HasNone, HasNoneOf, Passes, PassesAs};
+ghost use Rattle.sl_asm.specs.Assembling.{Covers, HasNone, HasNoneOf, PassesAs, PassesShortest};
+ghost use Rattle.sl_asm.specs.Shortest.{EncodesShortest};
 ghost use Rattle.sl_asm.specs.Wanted.{HasNoEncoding, HasNoEncodingOf, IsEncodingOf, IsReady};
-ghost use Rattle.sl_asm_encodings.specs.Encodings.{Encodes};
 ghost use Rattle.sl_asm_narrow.specs.Readers.{IsReader, tables_of, written_of};
 ghost use Rattle.sl_ast.specs.Views.{items_of};
 ghost use Rattle.sl_bind_compile.specs.Compiled.{IsCompiled};
@@ -45,7 +45,7 @@ fn of_span(
     requires covers { Covers wanted.now span.now }
     requires long { length ≤ 255 }
     ensures { IfOk result (λ found. MatchOption found (HasNoneOf wanted.now length)
-        (λ bytes. Passes wanted.now bytes.items)) }
+        (λ bytes. PassesAs wanted.now length bytes.items)) }
 {
     if !span.has(length) {
         return Ok(None);
@@ -61,7 +61,7 @@ fn shortest(
 ) -> Result<Option<Vec<u8>>, AllocError>
     requires { IsReady wanted.now }
     ensures { IfOk result (λ found. MatchOption found (HasNone wanted.now)
-        (λ bytes. Passes wanted.now bytes.items)) }
+        (λ bytes. PassesShortest wanted.now bytes.items)) }
 {
     let region = all_lists(alloc, MOST_BYTES)?;
     let lengths = wanted.lengths(alloc, &region)?;
@@ -77,11 +77,11 @@ fn shortest(
     Ok(None)
 }
 
-/// Bytes that are an encoding of the text at the address from the context, or `None` exactly where
-/// there are none. The only error is want of memory.
+/// A shortest encoding of the text at the address from the context, or `None` exactly where there is
+/// none. The only error is want of memory.
 ///
-/// The shortest ones are given, and of these the first that a search finds which narrows the bits of
-/// the bytes by what the text says of them: the constructors that can print it, with the fields and
+/// Of several as short it is the first that a search finds which narrows the bits of the bytes by
+/// what the text says of them: the constructors that can print it, with the fields and
 /// the action names that they show. Where the text fixes those, they are found at once; bits that it
 /// leaves open, as those of a hidden operand, are tried, in the worst case all of them.
 pub fn assemble<'d, 't, 'a>(
@@ -98,7 +98,7 @@ pub fn assemble<'d, 't, 'a>(
     ensures { IfOk result (λ found. MatchOption found
         (HasNoEncoding compiled.now.bound.tables
         (all_constructors (items_of compiled.now.bound.spec)) address context text.now)
-        (λ bytes. Encodes compiled.now.bound.tables
+        (λ bytes. EncodesShortest compiled.now.bound.tables
         (all_constructors (items_of compiled.now.bound.spec)) address context text.now
         bytes.items)) }
 {

@@ -1,5 +1,6 @@
 -- meaning: what is due of an instruction that is assembled.
 use Rattle.std.specs.Prelude.{◌≡◌, ℕ, List, Ok, Err}
+use Rattle.sl_asm.specs.Shortest.{EncodesShortest}
 use Rattle.sl_asm_encodings.specs.Encodings.{Encodes}
 use Rattle.sl_bind_compile.specs.Outcomes.{all_constructors}
 use Rattle.sl_decode_meaning.specs.Actions.{address_bytes}
@@ -17,10 +18,14 @@ use Rattle.sl_tool_stages.specs.declared.refusal.Refusal.{Refusal}
 abbrev pub EncodesText : Assembly → Compiled → (context : ℕ) → List ℕ → Type 0
 EncodesText a c context bytes = Encodes c.tables (all_constructors c.tree.items) a.base context a.text bytes
 
--- It is the line of an encoding, as a listing has it.
+-- They are a shortest one.
+abbrev pub ShortestOfText : Assembly → Compiled → (context : ℕ) → List ℕ → Type 0
+ShortestOfText a c context bytes = EncodesShortest c.tables (all_constructors c.tree.items) a.base context a.text bytes
+
+-- It is the line of a shortest encoding, as a listing has it.
 pub record IsLineOfText (a : Assembly) (c : Compiled) (context : ℕ) (line : List ℕ) : Type 0 where
   pub bytes : List ℕ
-  pub encodes : EncodesText a c context bytes
+  pub encodes : ShortestOfText a c context bytes
   pub is_line : line ≡ listed_line (address_bytes c.tables) a.base bytes a.text
 
 -- An encoding is shown, or there is none.

@@ -35,7 +35,7 @@ AreAlike (Ok s) (Ok u) = (s.ending ≡ u.ending) × (s.text ≡ u.text)
 AreAlike (Err x) (Err y) = x ≡ y
 AreAlike _ _ = ⊥
 
--- Any list of operations that does what an instruction does may be printed, and any encoding of a text or a line.
+-- Any list of operations that does what an instruction does may be printed, and any shortest encoding of a text, or any of a line.
 abbrev pub HasOneText : Request → Type 0
 HasOneText (CheckSpec spec explains) = ⊤
 HasOneText (ShowImage t Listing) = ⊤

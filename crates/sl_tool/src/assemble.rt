@@ -1,8 +1,8 @@
 //! `asm`: the bytes of an instruction, by its text.
 
 ghost use Rattle.std.specs.Prelude.{IfOk, MatchOption};
+ghost use Rattle.sl_asm.specs.Shortest.{EncodesShortest};
 ghost use Rattle.sl_asm.specs.Wanted.{HasNoEncoding};
-ghost use Rattle.sl_asm_encodings.specs.Encodings.{Encodes};
 ghost use Rattle.sl_ast.specs.Views.{items_of};
 ghost use Rattle.sl_bind_compile.specs.Compiled.{IsCompiled};
 ghost use Rattle.sl_bind_compile.specs.Outcomes.{all_constructors};
@@ -25,7 +25,7 @@ use sl_tool_request::Assembly;
 use sl_tool_stages::{Compiled, Halt, Problem, Refusal, begin};
 use std::alloc::{AllocError, Global};
 
-/// Writes the line of bytes that are shown as the text, or refuses it where there are none.
+/// Writes the line of a shortest encoding of the text, or refuses it where there is none.
 pub fn assemble<K: Sink>(
     alloc: Global,
     assembly: &Assembly<'_>,
@@ -44,7 +44,7 @@ pub fn assemble<K: Sink>(
     Ok(Ending::Done)
 }
 
-/// Bytes that are shown as the text at the address in this context, or `None` exactly where there are
+/// A shortest encoding of the text at the address in this context, or `None` exactly where there is
 /// none. The only error is want of memory.
 fn encoding(
     alloc: Global,
@@ -57,7 +57,7 @@ fn encoding(
     ensures { IfOk result (λ found. MatchOption found
         (HasNoEncoding specification.now.bound.tables
         (all_constructors (items_of specification.now.bound.spec)) address context text.now)
-        (λ bytes. Encodes specification.now.bound.tables
+        (λ bytes. EncodesShortest specification.now.bound.tables
         (all_constructors (items_of specification.now.bound.spec)) address context text.now
         bytes.items)) }
 {
@@ -66,7 +66,7 @@ fn encoding(
     Ok(found)
 }
 
-/// The line of bytes that are shown as the text in this context.
+/// The line of a shortest encoding of the text in this context.
 fn line_at(
     alloc: Global,
     assembly: &Assembly<'_>,

@@ -6,7 +6,7 @@ ghost use Rattle.sl_tool.specs.SureLaws.{PrintedSureIsMatched};
 
 /// A request has one answer at most, where the folder is told or it is a `gen`: an ending and a
 /// text, or a refusal; but for the lists of operations that `pcode` prints, of which any may stand
-/// that does what is meant, and for `asm`, which may take any encoding.
+/// that does what is meant, and for `asm`, which may take any shortest encoding.
 pub fn one_answer()
     ensures { HasOneAnswer }
 {}
